@@ -1,0 +1,102 @@
+-- Worked examples of the definitions, computed by the checker: document 01's families, their numbers, and its files.
+-- Each holds by computation alone.
+use Prim.Native.Nat.{ℕ, zero, suc, _^_}
+use mathlib.Core.Path.{_≡_, refl}
+use mathlib.Core.Bool.{decide}
+use mathlib.Core.List.{List, [], _∷_}
+use mathlib.Core.Option.{Option, none, some}
+use native.Mathlib.Decide.{ℕ-discrete}
+use Rattle.family.specs.Family.{Family, empty, base, node, members, size, parts}
+use Rattle.family.specs.Operation.{subset1, subset0, change, union, intsec, diff, combine}
+use Rattle.family.specs.Book.{start, same, number, add, place}
+use Rattle.family.specs.Record.{mapOf, recordBytes, readFields, readRecord}
+use Rattle.family.specs.File.{fileOf, familyOf, fileOfBook, readParts, lastOf, fits}
+
+-- {{1}}, {{2}}, and {{1}, {2}}
+abbrev one : Family
+one = node 1 empty base
+
+abbrev two : Family
+two = node 2 empty base
+
+abbrev both : Family
+both = node 2 one base
+
+make-one : change 1 base ≡ one
+make-one = refl
+
+make-both : union one two ≡ both
+unfolding combine
+make-both = refl
+
+members-both : members both ≡ (1 ∷ []) ∷ (2 ∷ []) ∷ []
+members-both = refl
+
+take-one : diff both one ≡ two
+unfolding combine
+take-one = refl
+
+meet-base : intsec both base ≡ empty
+unfolding combine
+meet-base = refl
+
+-- {{}} stays where the tops differ
+keep-base : intsec (node 1 base base) base ≡ base
+unfolding combine
+keep-base = refl
+
+drop-two : subset1 2 both ≡ base
+drop-two = refl
+
+leave-two : subset0 2 both ≡ one
+leave-two = refl
+
+-- a node whose two sides are equal is kept
+equal-sides : union base (change 1 base) ≡ node 1 base base
+unfolding combine
+equal-sides = refl
+
+place-both : place start both ≡ empty ∷ base ∷ one ∷ both ∷ []
+unfolding same add decide
+place-both = refl
+
+-- the without-side is visited first
+order-parts : parts (node 3 two one) ≡ two ∷ one ∷ node 3 two one ∷ []
+order-parts = refl
+
+-- all subsets of n items
+abbrev all : ℕ → Family
+all zero = base
+all (suc n) = node (suc n) (all n) (all n)
+
+size-all : size (all 10) ≡ 2 ^ 10
+size-all = refl
+
+-- "Save of 2", "Save of 4", and the files that get 9
+save-one : fileOf one ≡ 0x01 ∷ 0x01 ∷ 0x00 ∷ 0x00 ∷ 0x00 ∷ 0x00 ∷ []
+unfolding same add decide fileOfBook recordBytes mapOf
+save-one = refl
+
+save-both : fileOf both ≡ 0x01 ∷ 0x02 ∷ 0x00 ∷ 0x00 ∷ 0x00 ∷ 0x00 ∷ 0x06 ∷ 0x02 ∷ 0x00 ∷ 0x00 ∷ 0x00 ∷ 0x01 ∷ 0x00 ∷ 0x00 ∷ 0x00 ∷ []
+unfolding same add decide fileOfBook recordBytes mapOf
+save-both = refl
+
+load-both : familyOf 512 (0x01 ∷ 0x02 ∷ 0x00 ∷ 0x00 ∷ 0x00 ∷ 0x00 ∷ 0x06 ∷ 0x02 ∷ 0x00 ∷ 0x00 ∷ 0x00 ∷ 0x01 ∷ 0x00 ∷ 0x00 ∷ 0x00 ∷ []) ≡ some both
+unfolding same add decide readRecord readFields readParts lastOf fits
+load-both = refl
+
+needless-item : familyOf 512 (0x01 ∷ 0x01 ∷ 0x00 ∷ 0x00 ∷ 0x00 ∷ 0x01 ∷ 0x01 ∷ 0x00 ∷ []) ≡ none
+unfolding same add decide readRecord readFields readParts lastOf fits
+needless-item = refl
+
+no-parts : familyOf 512 (0x01 ∷ 0x00 ∷ 0x00 ∷ 0x00 ∷ 0x00 ∷ []) ≡ none
+unfolding same add decide readRecord readFields readParts lastOf fits
+no-parts = refl
+
+no-bytes : familyOf 512 [] ≡ none
+no-bytes = refl
+
+-- a count that no bytes meet
+many-parts : familyOf 512 (0x01 ∷ 0xfe ∷ 0xff ∷ 0xff ∷ 0xff ∷ 0x00 ∷ []) ≡ none
+unfolding same add decide readRecord readFields readParts lastOf fits
+many-parts = refl

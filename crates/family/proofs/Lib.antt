@@ -1,0 +1,20 @@
+-- The laws of families, books and files. Laws.antt states the theorems; the other files prove them, lowest first.
+pub mod Falling
+pub mod Diagrams
+pub mod Canonical
+pub mod Combine
+pub mod Restrict
+pub mod Members
+pub mod Books
+pub mod Placing
+pub mod Different
+pub mod Records
+pub mod Orders
+pub mod Reading
+pub mod Files
+pub mod Bits
+pub mod Words
+pub mod Lengths
+pub mod Given
+pub mod Laws
+pub mod Examples

@@ -1,0 +1,6 @@
+pub mod Family
+pub mod Combination
+pub mod Operation
+pub mod Book
+pub mod Record
+pub mod File
