@@ -1,0 +1,44 @@
+-- What any words keep through a call: it chains, it keeps the room for the next call, and it keeps the tops of the handles held before.
+-- All of it is read off the kept words below the old count and above the new one.
+use Prim.Native.Nat.{ℕ, _+_, _*_, _-_, _≤_, _<_}
+use mathlib.Core.Path.{_≡_, refl, sym, ap, _∙_}
+use mathlib.Core.List.{List}
+use native.Mathlib.Omega.{arith}
+use lib.ListN.{length, getD}
+use Rattle.words.proofs.Cases.{by-lt}
+use Rattle.store.specs.declared.record.Store.{Store}
+use Rattle.store.specs.Words.{topAt}
+use Rattle.store.specs.Inner.{Roomy, Kept}
+use Rattle.store.proofs.Held.{top-leaf, top-node}
+
+pub kept-self : (s : Store) (nodes lookup : List ℕ) → s .count ≤ s .capacity → Kept s nodes lookup s nodes lookup
+kept-self s nodes lookup h =
+    record { same-capacity = refl; grows = omega arith; fits = h; long = refl; long-lookup = refl; below = λ k l. refl; above = λ k l. refl }
+
+pub kept-trans : {s s₁ s₂ : Store} {nodes lookup nodes₁ lookup₁ nodes₂ lookup₂ : List ℕ}
+    → Kept s nodes lookup s₁ nodes₁ lookup₁ → Kept s₁ nodes₁ lookup₁ s₂ nodes₂ lookup₂ → Kept s nodes lookup s₂ nodes₂ lookup₂
+kept-trans K L =
+    record {
+      same-capacity = L .same-capacity ∙ K .same-capacity;
+      grows = omega (arith, K .grows, L .grows);
+      fits = omega (arith, L .fits, K .same-capacity);
+      long = L .long ∙ K .long;
+      long-lookup = L .long-lookup ∙ K .long-lookup;
+      below = λ k l. L .below k (omega (arith, K .grows)) ∙ K .below k l;
+      above = λ k l. L .above k l ∙ K .above k (omega (arith, L .grows));
+    }
+
+pub kept-roomy : {s s₁ : Store} {nodes lookup nodes₁ lookup₁ : List ℕ} → Kept s nodes lookup s₁ nodes₁ lookup₁ → Roomy s nodes lookup → Roomy s₁ nodes₁ lookup₁
+kept-roomy K R =
+    record {
+      within = omega (arith, K .fits, K .same-capacity);
+      words = omega (arith, R .words, K .same-capacity, K .long);
+      small = omega (arith, R .small, K .same-capacity);
+      longer = omega (arith, R .longer, K .same-capacity, K .long-lookup);
+    }
+
+pub kept-top : {s s₁ : Store} {nodes lookup nodes₁ lookup₁ : List ℕ} → Kept s nodes lookup s₁ nodes₁ lookup₁ → (p : ℕ) → p ≤ s .count + 1 → topAt nodes₁ p ≡ topAt nodes p
+kept-top {s} {s₁} {nodes} {lookup} {nodes₁} K p h =
+    by-lt p 2
+    (λ l e. top-leaf nodes₁ p l ∙ sym (top-leaf nodes p l))
+    (λ l e. top-node nodes₁ p l ∙ K .below (3 * (p - 2)) (omega arith) ∙ sym (top-node nodes p l))

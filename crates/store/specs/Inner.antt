@@ -1,0 +1,126 @@
+-- What the functions below the public calls promise each other: on any words that fit, and where the words hold a book. A reader of the promises can pass this page over.
+use Prim.Native.Nat.{ℕ, _+_, _*_, _-_, _/_, _≤_, _<_}
+use mathlib.Core.Path.{_≡_}
+use mathlib.Core.List.{List, [], _∷_, _++_}
+use lib.ListN.{length, getD, set}
+use Rattle.family.specs.Family.{Family, node, top, mk, Within}
+use Rattle.family.specs.Operation.{lacking, holding}
+use Rattle.family.specs.Book.{at, number, place, made, Book}
+use Rattle.words.specs.Words.{zeroed}
+use Rattle.table.specs.Entered.{entered, startAt}
+use Rattle.table.specs.Own.{cleared}
+use Rattle.store.specs.declared.record.Store.{Store}
+use Rattle.store.specs.declared.record.Refusal.{Refusal}
+use Rattle.store.specs.declared.record.Refusal.the-variants.{Full}
+use Rattle.store.specs.declared.record.PlaceAnswer.{PlaceAnswer}
+use Rattle.store.specs.declared.record.PlaceAnswer.the-variants.{Handle, Refused}
+use Rattle.store.specs.declared.record.Placed.{Placed}
+use Rattle.store.specs.declared.node.Sides.{Sides}
+use Rattle.store.specs.declared.node.Sides.the-variants.{Two, Broken}
+use Rattle.store.specs.declared.make.Made.{Made}
+use Rattle.store.specs.declared.make.Made.the-variants.{Found, New, Full as NoRoom}
+use Rattle.store.specs.declared.make.Making.{Making}
+use Rattle.store.specs.Words.{itemLimit, topAt}
+use Rattle.store.specs.Cache.{True}
+
+-- words that fit the record
+pub record Roomy (s : Store) (nodes lookup : List ℕ) : Type 0 where
+  pub within : s .count ≤ s .capacity
+  pub words : 3 * s .capacity ≤ length nodes
+  pub small : s .capacity ≤ 1000000
+  pub longer : s .capacity < length lookup
+
+-- the words of node number k + 2 are those of the book's family of that number
+pub record Entry (B : List Family) (k i z o : ℕ) : Type 0 where
+  pub is : at B (k + 2) ≡ node i (at B z) (at B o)
+  pub zero-before : z < k + 2
+  pub one-before : o < k + 2
+
+-- the node and lookup words hold a book of n nodes
+pub record Holds (B : List Family) (n : ℕ) (nodes lookup : List ℕ) : Type 0 where
+  pub book : Book itemLimit B
+  pub size : length B ≡ n + 2
+  pub each : (k : ℕ) → k < n → Entry B k (getD nodes (3 * k) 0) (getD nodes (3 * k + 1) 0) (getD nodes (3 * k + 2) 0)
+  pub lookup-is : lookup ≡ entered (startAt nodes (length lookup)) (length lookup) n
+
+-- they hold a book in which the handle h is the family F
+pub record Handed (B : List Family) (F : Family) (h n : ℕ) (nodes lookup : List ℕ) : Type 0 where
+  pub holds : Holds B n nodes lookup
+  pub within : h < n + 2
+  pub means : at B h ≡ F
+
+-- the answer where the book becomes C, which has F: a handle, or full where C has no room; never damaged
+pub data Answer (C : List Family) (F : Family) (capacity n : ℕ) (nodes lookup : List ℕ) : PlaceAnswer → Type 0 where
+  gave : {h : ℕ} → Handed C F h n nodes lookup → Answer C F capacity n nodes lookup (Handle h)
+  full : (D : List Family) → Holds D n nodes lookup → capacity + 2 < length C → Answer C F capacity n nodes lookup (Refused Full)
+
+-- what any words keep: the capacity, the words of the nodes held before, and all words past those of the nodes held after
+pub record Kept (s : Store) (nodes lookup : List ℕ) (s′ : Store) (nodes′ lookup′ : List ℕ) : Type 0 where
+  pub same-capacity : s′ .capacity ≡ s .capacity
+  pub grows : s .count ≤ s′ .count
+  pub fits : s′ .count ≤ s .capacity
+  pub long : length nodes′ ≡ length nodes
+  pub long-lookup : length lookup′ ≡ length lookup
+  pub below : (k : ℕ) → k < 3 * s .count → getD nodes′ k 0 ≡ getD nodes k 0
+  pub above : (k : ℕ) → 3 * s′ .count ≤ k → getD nodes′ k 0 ≡ getD nodes k 0
+
+-- the sides of p at a level, with their tops
+pub record TwoSides (nodes : List ℕ) (n p level z o zt ot : ℕ) : Type 0 where
+  pub zero-within : z ≤ n + 1
+  pub one-within : o ≤ n + 1
+  pub ztop : zt ≡ topAt nodes z
+  pub otop : ot ≡ topAt nodes o
+  pub zero-below : zt < level
+  pub one-below : ot < level
+  pub lacks : (B : List Family) (lookup : List ℕ) → Holds B n nodes lookup → at B z ≡ lacking level (at B p)
+  pub holds : (B : List Family) (lookup : List ℕ) → Holds B n nodes lookup → at B o ≡ holding level (at B p)
+
+pub data SidesOf (nodes : List ℕ) (n p level : ℕ) : Sides → Type 0 where
+  two : {z o zt ot : ℕ} → TwoSides nodes n p level z o zt ot → SidesOf nodes n p level (Two z o zt ot)
+  broken : ((B : List Family) (lookup : List ℕ) → Holds B n nodes lookup → ⊥) → SidesOf nodes n p level Broken
+
+-- the three words of the node after `count` others
+unfoldable pub putNode : List ℕ → ℕ → ℕ → ℕ → ℕ → List ℕ
+putNode nodes count item z o = set (set (set nodes (3 * count) item) (3 * count + 1) z) (3 * count + 2) o
+
+-- making the node F in a book: found there, new at its end, or no room for it
+pub data MadeOf (B : List Family) (F : Family) (capacity n : ℕ) (nodes lookup : List ℕ) : Made → Type 0 where
+  found : {h : ℕ} → Handed B F h n nodes lookup → MadeOf B F capacity n nodes lookup (Found h)
+  new : {h : ℕ} → length B ≤ number B F → Handed (B ++ (F ∷ [])) F h n nodes lookup → MadeOf B F capacity n nodes lookup (New h)
+  full : length B ≤ number B F → capacity + 2 ≤ length B → Holds B n nodes lookup → MadeOf B F capacity n nodes lookup NoRoom
+
+pub record MadeIt (s : Store) (nodes lookup : List ℕ) (i z o : ℕ) (r : Making) (nodes′ lookup′ : List ℕ) : Type 0 where
+  pub kept : Kept s nodes lookup (r .store) nodes′ lookup′
+  pub found-within : (h : ℕ) → r .made ≡ Found h → h ≤ r .store .count + 1
+  pub new-within : (h : ℕ) → r .made ≡ New h → h ≤ r .store .count + 1
+  pub sound : (B : List Family) → Holds B (s .count) nodes lookup → Within itemLimit (node i (at B z) (at B o))
+      → MadeOf B (node i (at B z) (at B o)) (s .capacity) (r .store .count) nodes′ lookup′ (r .made)
+
+-- Getnode: the family of an item and two sides that the book holds
+pub record NodeIt (s : Store) (nodes lookup : List ℕ) (i z o : ℕ) (r : Placed) (nodes′ lookup′ : List ℕ) : Type 0 where
+  pub kept : Kept s nodes lookup (r .store) nodes′ lookup′
+  pub handle : (h : ℕ) → r .answer ≡ Handle h → h ≤ r .store .count + 1
+  pub sound : (B : List Family) → Holds B (s .count) nodes lookup → top (at B z) < i → top (at B o) < i
+      → Answer (made B i (at B z) (at B o)) (mk i (at B z) (at B o)) (s .capacity) (r .store .count) nodes′ lookup′ (r .answer)
+
+-- the newest nodes taken back until `keep` are left
+pub record RolledBack (s : Store) (nodes lookup : List ℕ) (keep : ℕ) (s′ : Store) (nodes′ lookup′ : List ℕ) : Type 0 where
+  pub capacity : s′ .capacity ≡ s .capacity
+  pub count : s′ .count ≡ keep
+  pub nodes-are : nodes′ ≡ zeroed (3 * keep) (3 * s .count) nodes
+  pub lookup-is : lookup′ ≡ cleared nodes lookup keep (s .count - keep)
+
+-- A call that places the family F B of the book B that the words hold, with a true cache before and after. On any words it keeps what must be kept.
+pub record Ran (F : List Family → Family) (s : Store) (nodes lookup cache : List ℕ) (r : Placed) (nodes′ lookup′ cache′ : List ℕ) : Type 0 where
+  pub kept : Kept s nodes lookup (r .store) nodes′ lookup′
+  pub handle : (h : ℕ) → r .answer ≡ Handle h → h ≤ r .store .count + 1
+  pub long-cache : length cache′ ≡ length cache
+  pub rest : (k : ℕ) → length cache / 4 * 4 ≤ k → getD cache′ k 0 ≡ getD cache k 0
+  pub sound : (B : List Family) → Holds B (s .count) nodes lookup → True B cache → Answer (place B (F B)) (F B) (s .capacity) (r .store .count) nodes′ lookup′ (r .answer)
+  pub cached : (B : List Family) → Holds B (s .count) nodes lookup → True B cache → (h : ℕ) → r .answer ≡ Handle h → True (place B (F B)) cache′
+
+-- How a call ends: with its handle as it is; or, refused, with the newest nodes taken back until `keep` are left and the whole cache groups zeroed.
+pub record Finished (placed : Placed) (keep : ℕ) (nodes lookup cache : List ℕ) (r : Placed) (nodes′ lookup′ cache′ : List ℕ) : Type 0 where
+  pub gave : (h : ℕ) → placed .answer ≡ Handle h → (r ≡ placed) × (nodes′ ≡ nodes) × (lookup′ ≡ lookup) × (cache′ ≡ cache)
+  pub undone : (x : Refusal) → placed .answer ≡ Refused x
+      → RolledBack (placed .store) nodes lookup keep (r .store) nodes′ lookup′ × (r .answer ≡ Refused x) × (cache′ ≡ zeroed 0 (length cache / 4 * 4) cache)

@@ -1,0 +1,10 @@
+pub mod Capacity
+pub mod Refusals
+pub mod Words
+pub mod Cache
+pub mod Sound
+pub mod Placing
+pub mod Scratch
+pub mod Promise
+pub mod Fresh
+pub mod Inner

@@ -1,0 +1,28 @@
+-- The refusals by document 01's numbers, and the values of an answer: document 01, 'Numbers and trade words'.
+use Prim.Native.Nat.{ℕ}
+use Rattle.store.specs.declared.record.Refusal.{Refusal}
+use Rattle.store.specs.declared.record.Refusal.the-variants.{Tiny, ShortLookup, Item, Handle as NoHandle, Full, Large, Scratch, Output, NoFile, Damaged}
+use Rattle.store.specs.declared.record.PlaceAnswer.{PlaceAnswer}
+use Rattle.store.specs.declared.record.PlaceAnswer.the-variants.{Handle, Refused}
+
+-- the numbers of the table
+abbrev pub refusalNumber : Refusal → ℕ
+refusalNumber Tiny = 1
+refusalNumber ShortLookup = 2
+refusalNumber Item = 3
+refusalNumber NoHandle = 4
+refusalNumber Full = 5
+refusalNumber Large = 6
+refusalNumber Scratch = 7
+refusalNumber Output = 8
+refusalNumber NoFile = 9
+refusalNumber Damaged = 10
+
+-- What a call that places gives besides the record: the refusal's number, 0 where there is none, and the handle, "0 where the answer has such a field" and is refused.
+pub record Given : Type 0 where
+  pub refusal : ℕ
+  pub handle : ℕ
+
+abbrev pub givenBy : PlaceAnswer → Given
+givenBy (Handle h) = record { refusal = 0; handle = h }
+givenBy (Refused r) = record { refusal = refusalNumber r; handle = 0 }

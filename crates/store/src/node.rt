@@ -1,0 +1,68 @@
+// Reading nodes: the top of a handle, and its two sides at an item. Every child is tested before it is handed on.
+ghost use mathlib.Core.Path.{_≡_};
+ghost use Prim.Native.Nat.{_+_, _*_, _<_, _≤_};
+ghost use lib.ListN.{length};
+ghost use Rattle.store.specs.Words.{topAt};
+ghost use Rattle.store.specs.Inner.{SidesOf};
+
+// The top of a handle: 0 for the handles 0 and 1.
+pub fn top_of(nodes: &[u32], count: u32, p: u32) -> u32
+    requires { ⌜ (p ≤ count + 1) × (3 * count ≤ length (now nodes)) ⌝ }
+    ensures { λ r. ⌜ r ≡ topAt (now (nodes .entry)) p ⌝ }
+{
+    if p < 2 {
+        return 0;
+    }
+    nodes[3 * (p - 2) as usize]
+}
+
+// The two sides of a family at an item, with their tops; or words that no sound store has.
+pub enum Sides {
+    Two {
+        zero: u32,
+        one: u32,
+        ztop: u32,
+        otop: u32,
+    },
+    Broken,
+}
+
+// The sides of p at a level that is not below its top: its children where the level is its top, else p itself and {}.
+pub fn sides_at(nodes: &[u32], count: u32, p: u32, level: u32) -> Sides
+    requires { ⌜ (p ≤ count + 1) × (3 * count ≤ length (now nodes)) × (count ≤ 1000000) ⌝ }
+    requires { ⌜ (topAt (now nodes) p ≤ level) × (0 < level) ⌝ }
+    ensures { λ r. ⌜ SidesOf (now (nodes .entry)) count p level r ⌝ }
+{
+    let top = top_of(nodes, count, p);
+    if top < level {
+        return Sides::Two {
+            zero: p,
+            one: 0,
+            ztop: top,
+            otop: 0,
+        };
+    }
+    let base = 3 * (p - 2) as usize;
+    let zero = nodes[base + 1];
+    let one = nodes[base + 2];
+    if count + 1 < zero {
+        return Sides::Broken;
+    }
+    if count + 1 < one {
+        return Sides::Broken;
+    }
+    let ztop = top_of(nodes, count, zero);
+    if level <= ztop {
+        return Sides::Broken;
+    }
+    let otop = top_of(nodes, count, one);
+    if level <= otop {
+        return Sides::Broken;
+    }
+    Sides::Two {
+        zero: zero,
+        one: one,
+        ztop: ztop,
+        otop: otop,
+    }
+}

@@ -1,0 +1,121 @@
+// The store record, the refusals and the answers of a call that places.
+ghost use mathlib.Core.Path.{_≡_};
+ghost use mathlib.Core.Bool.{true, false};
+ghost use Prim.Native.Nat.{_+_, _<_, _≤_};
+ghost use lib.Dec.{leb};
+ghost use Rattle.store.specs.Capacity.{capacityOf, fitting};
+
+// The refusals, numbered 1 to 10 in this order.
+pub enum Refusal {
+    Tiny,
+    ShortLookup,
+    Item,
+    Handle,
+    Full,
+    Large,
+    Scratch,
+    Output,
+    NoFile,
+    Damaged,
+}
+
+// The record: how many nodes there is room for, and how many are held.
+pub struct Store {
+    pub capacity: u32,
+    pub count: u32,
+}
+
+// What a call that places a family answers.
+pub enum PlaceAnswer {
+    Handle(u32),
+    Refused(Refusal),
+}
+
+// What a call that places a family gives back.
+pub struct Placed {
+    pub store: Store,
+    pub answer: PlaceAnswer,
+}
+
+// The capacity that so many node words give.
+pub fn capacity_of(words: usize) -> u32
+    ensures { λ r. ⌜ r ≡ capacityOf words ⌝ }
+{
+    let nodes = words / 3;
+    if nodes < 1000000 {
+        return nodes as u32;
+    }
+    1000000
+}
+
+impl Store {
+    // The record of an empty store.
+    pub fn new(capacity: u32) -> Self
+        ensures { λ r. ⌜ (r .capacity ≡ capacity) × (r .count ≡ 0) ⌝ }
+    {
+        Store {
+            capacity: capacity,
+            count: 0,
+        }
+    }
+
+    // The record with one node more.
+    pub fn appended(mut self) -> Self
+        requires { ⌜ self .count < 1000000 ⌝ }
+        ensures { λ r. ⌜ (r .capacity ≡ self .capacity) × (r .count ≡ self .count + 1) ⌝ }
+    {
+        self.count = self.count + 1;
+        self
+    }
+
+    // The record after the nodes from `count` on were taken back.
+    pub fn rolled_back(mut self, count: u32) -> Self
+        ensures { λ r. ⌜ (r .capacity ≡ self .capacity) × (r .count ≡ count) ⌝ }
+    {
+        self.count = count;
+        self
+    }
+
+    // Whether a handle is at most count + 1.
+    pub fn holds(self, handle: u32) -> bool
+        ensures { λ r. ⌜ r ≡ leb handle (self .count + 1) ⌝ }
+    {
+        if handle < 2 {
+            return true;
+        }
+        handle - 2 < self.count
+    }
+
+    // Whether the record fits words of these lengths: none of the three certain causes of 10.
+    pub fn fits(self, nodes: usize, lookup: usize) -> bool
+        ensures { λ r. ⌜ r ≡ fitting (self .capacity) (self .count) nodes lookup ⌝ }
+    {
+        if self.capacity != capacity_of(nodes) {
+            return false;
+        }
+        if lookup <= self.capacity as usize {
+            return false;
+        }
+        self.count <= self.capacity
+    }
+
+    // A handle given, with the record as it is.
+    pub fn placed(self, handle: u32) -> Placed
+        ensures { λ r. ⌜ (r .store ≡ self) × (r .answer ≡ PlaceAnswer.Handle handle) ⌝ }
+    {
+        Placed {
+            store: self,
+            answer: PlaceAnswer::Handle(handle),
+        }
+    }
+
+    // A refusal, with the record as it is.
+    pub fn refused(self, refusal: Refusal) -> Placed
+        ensures { λ r. ⌜ (r .store ≡ self) × (r .answer ≡ PlaceAnswer.Refused refusal) ⌝ }
+    {
+        Placed {
+            store: self,
+            answer: PlaceAnswer::Refused(refusal),
+        }
+    }
+}

@@ -1,0 +1,9 @@
+-- The laws of the unique table, lowest first.
+pub mod Starts
+pub mod Scan
+pub mod Stops
+pub mod Used
+pub mod Filled
+pub mod Found
+pub mod OwnSlots
+pub mod Examples

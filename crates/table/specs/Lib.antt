@@ -1,0 +1,4 @@
+pub mod Start
+pub mod Probe
+pub mod Entered
+pub mod Own
