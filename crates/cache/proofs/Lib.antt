@@ -1,0 +1,4 @@
+-- The laws of the cache, lowest first.
+pub mod Naming
+pub mod Remembering
+pub mod Plain

@@ -1,0 +1,2 @@
+-- The ways out of the six calls.
+pub mod Refusing

@@ -1,0 +1,2 @@
+// The six operations on the store, with the cache.
+pub mod calls;
