@@ -2,11 +2,11 @@
 -- Each law is an induction on the family; that no book on the way is longer than the last follows since each step only appends.
 use Prim.Native.Nat.{ℕ, suc, _+_, _≤_, _<_}
 use mathlib.Core.Path.{_≡_, refl, sym, ap, _∙_}
-use mathlib.Core.List.{List, [], _∷_, _++_, foldl, foldl-append, List·Memᴰ, List·Memᴰ·head, List·Memᴰ·append-cases, Memᴰ·append-left, Memᴰ·append-right, List·Memᴰ·eq-of-singleton}
+use mathlib.Core.List.{List, [], _∷_, _++_, append-assoc, append-nil, foldl, foldl-append, List·Memᴰ, List·Memᴰ·head, List·Memᴰ·append-cases, Memᴰ·append-left, Memᴰ·append-right, List·Memᴰ·eq-of-singleton}
 use mathlib.Core.Logic.{_⊎_, inl, inr, ⊎-elim}
 use native.Mathlib.Omega.{arith}
 use lib.Dec.{T}
-use lib.ListN.{length, length-append}
+use lib.ListN.{length, drop, length-append}
 use Rattle.family.specs.Family.{Family, empty, base, node, Ordered, Within, top, mk, parts}
 use Rattle.family.specs.Book.{start, at, number, Held, add, place, made, Grown, Book}
 use Rattle.words.proofs.Cases.{by-lt}
@@ -115,3 +115,25 @@ place-last i a b o =
         by-lt (number (place (place start a) b) (node i a b)) (length (place (place start a) b))
         (λ p e. let r = held-below start a (node i a b) (o .3) (omega arith) (held-below (place start a) b (node i a b) (o .4) (omega arith) p) in absurd (omega (arith, start-node i a b)))
         (λ p e. p)
+
+-- What adding some families appends to a book, added to another book that holds all of the first one's.
+record Appended (T S Fs : List Family) : Type 0 where
+  new : List Family
+  eq : foldl add T Fs ≡ T ++ new
+  same : foldl add S new ≡ foldl add S Fs
+
+appended : (Fs T S : List Family) → ((G : Family) → Held T G → Held S G) → Appended T S Fs
+appended [] T S h = record { new = []; eq = sym (append-nil T); same = refl }
+appended (F ∷ Fs) T S h =
+    by-lt (number T F) (length T)
+    (λ l e. let r = appended Fs T S h in
+    record { new = r .new; eq = rw (add-same T F l) (r .eq); same = r .same ∙ rw (add-same S F (h F l)) })
+    (λ l e.
+    let r = appended Fs (add T F) (add S F) (λ G k. by-added T F G k (λ m. grown-held (add-grown S F) G (h G m)) (λ d. rw (← d) (add-held S F))) in
+    record { new = F ∷ r .new; eq = r .eq ∙ ap (λ X. X ++ r .new) (add-new T F l) ∙ append-assoc T (F ∷ []) (r .new); same = r .same })
+
+-- adding the families of F's own book, in its order, is placing F
+pub place-own : {t : ℕ} (B : List Family) (F : Family) → Book t B → foldl add B (drop 2 (place start F)) ≡ place B F
+place-own B F w =
+    let r = appended (parts F) start B (λ G h. grown-held (w .begins) G h) in
+    ap (λ X. foldl add B (drop 2 X)) (place-parts start F ∙ r .eq) ∙ r .same ∙ sym (place-parts B F)

@@ -23,7 +23,7 @@ pub part-from : (l : List ℕ) (a : ℕ) → take (length l - a) (drop a l) ≡ 
 part-from l a = take-all (length l - a) (drop a l) (omega (arith, length-drop a l))
 
 -- numbers
-number-short : (n : ℕ) (l : List ℕ) → length l < n → readNumber n l ≡ none
+pub number-short : (n : ℕ) (l : List ℕ) → length l < n → readNumber n l ≡ none
 number-short zero l h = absurd (omega arith)
 number-short (suc n) [] h = refl
 number-short (suc n) (x ∷ l) h = rw (number-short n l (omega arith))

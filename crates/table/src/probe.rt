@@ -7,7 +7,7 @@ use crate::start::start_slot;
 
 // Whether the search for words among the first count nodes stops at a slot that holds the number h.
 pub fn stops(nodes: &[u32], count: u32, item: u32, zero: u32, one: u32, h: u32) -> bool
-    requires { ⌜ (3 * count ≤ length (now nodes)) × (count ≤ 1000000) ⌝ }
+    requires { ⌜ (3 * count ≤ length (now nodes)) × (count < 4294967295) ⌝ }
     ensures { λ r. ⌜ r ≡ stopOn (now (nodes .entry)) count item zero one h ⌝ }
 {
     if h < 2 {
@@ -40,7 +40,7 @@ pub fn next_slot(slot: usize, length: usize) -> usize
 
 // The first slot, from the start slot of the words on and around the end, at which their search stops; the lookup's length where there is none.
 pub fn probe(nodes: &[u32], lookup: &[u32], count: u32, item: u32, zero: u32, one: u32) -> usize
-    requires { ⌜ (3 * count ≤ length (now nodes)) × (count ≤ 1000000) ⌝ }
+    requires { ⌜ (3 * count ≤ length (now nodes)) × (count < 4294967295) ⌝ }
     requires { ⌜ (1 ≤ item) × (item ≤ 512) × (0 < length (now lookup)) ⌝ }
     ensures { λ r. ⌜ r ≡ probeOf (now (nodes .entry)) (now (lookup .entry)) count item zero one ⌝ }
 {
