@@ -162,35 +162,44 @@ returns c =
 returns-2 : tie.Need-returns-2
 returns-2 c =
     let a = (start·After-refused2 c) .args in
-    load-short (a .store) (a .nodes .now) (a .lookup .now) (a .cache .now) (a .file .now) (a .words .now) _ (sym ((c .before .before .before) .fits2 .ensures) ∙ not-false _ ((c .before .before) .if1 .left)) ((c .before) .if2 .taken) (c .refused2 .ensures .0) (c .refused2 .ensures .1)
+    load-short (a .store) (a .nodes .now) (a .lookup .now) (a .cache .now) (a .file .now) (a .words .now) _ (sym ((c .before .before .before) .fits2 .ensures) ∙ not-false _ ((c .before .before) .if1 .left))
+    ((c .before) .if2 .taken) (c .refused2 .ensures .0) (c .refused2 .ensures .1)
 
 place-parts-requires : tie.Need-place-parts-requires
 place-parts-requires c κs =
     let a = (start·After-place-parts-arg3 c) .args in
-    let R = parts-of _ ((content2·After-place-parts-arg3 c) .content2 .given .1) ((read-file·After-place-parts-arg3 c) .read-file .ensures .outcome) in
-    (fits-roomy (a .store) (a .nodes .now) (a .lookup .now) (sym ((fits2·After-place-parts-arg3 c) .fits2 .ensures) ∙ not-false _ ((if1·After-place-parts-arg3 c) .if1 .left)), (parts-nodes R, (omega (arith, (read-file·After-place-parts-arg3 c) .read-file .ensures .long, (if2·After-place-parts-arg3 c) .if2 .left), R .few, R .low)))
+    let R = parts-of _ ((content2·After-place-parts-arg3 c) .content2 .given .1) ((read-file·After-place-parts-arg3 c) .read-file .ensures .outcome) in (
+      fits-roomy (a .store) (a .nodes .now) (a .lookup .now) (sym ((fits2·After-place-parts-arg3 c) .fits2 .ensures) ∙ not-false _ ((if1·After-place-parts-arg3 c) .if1 .left)),
+      (parts-nodes R, (omega (arith, (read-file·After-place-parts-arg3 c) .read-file .ensures .long, (if2·After-place-parts-arg3 c) .if2 .left), R .few, R .low)),
+    )
 
 finish-requires : tie.Need-finish-requires
 finish-requires c κs =
     let a = (start·After-finish-arg3 c) .args in
-    let P = (place-parts·After-finish-arg3 c) .place-parts .ensures in
-    (load-roomy (a .store) (a .nodes .now) (a .lookup .now) (a .cache .now) (a .file .now) (a .words .now) ((place-parts·After-finish-arg3 c) .place-parts .result) (sym ((fits2·After-finish-arg3 c) .fits2 .ensures) ∙ not-false _ ((if1·After-finish-arg3 c) .if1 .left)) ((if2·After-finish-arg3 c) .if2 .left) ((read-file·After-finish-arg3 c) .read-file .ensures) _ ((content2·After-finish-arg3 c) .content2 .given .1) P, P .kept .grows)
+    let P = (place-parts·After-finish-arg3 c) .place-parts .ensures in (
+      load-roomy (a .store) (a .nodes .now) (a .lookup .now) (a .cache .now) (a .file .now) (a .words .now) ((place-parts·After-finish-arg3 c) .place-parts .result) (sym ((fits2·After-finish-arg3 c) .fits2 .ensures) ∙ not-false _ ((if1·After-finish-arg3 c) .if1 .left))
+          ((if2·After-finish-arg3 c) .if2 .left) ((read-file·After-finish-arg3 c) .read-file .ensures) _ ((content2·After-finish-arg3 c) .content2 .given .1) P,
+      P .kept .grows,
+    )
 
 returns-3 : tie.Need-returns-3
 returns-3 c =
     let a = (start·After-placed c) .args in
-    load-leaf (a .store) (a .nodes .now) (a .lookup .now) (a .cache .now) (a .file .now) (a .words .now) _ (sym ((fits2·After-placed c) .fits2 .ensures) ∙ not-false _ ((if1·After-placed c) .if1 .left)) ((if2·After-placed c) .if2 .left) ((read-file·After-placed c) .read-file .ensures) _ ((c .before .before) .content .given .1)
+    load-leaf (a .store) (a .nodes .now) (a .lookup .now) (a .cache .now) (a .file .now) (a .words .now) _ (sym ((fits2·After-placed c) .fits2 .ensures) ∙ not-false _ ((if1·After-placed c) .if1 .left))
+    ((if2·After-placed c) .if2 .left) ((read-file·After-placed c) .read-file .ensures) _ ((c .before .before) .content .given .1)
     (c .placed .ensures .0) (c .placed .ensures .1)
 
 returns-4 : tie.Need-returns-4
 returns-4 c =
     let a = (start·After-slice-known11 c) .args in
-    load-parts (a .store) (a .nodes .now) (a .lookup .now) (a .cache .now) (a .file .now) (a .words .now) _ (sym ((fits2·After-slice-known11 c) .fits2 .ensures) ∙ not-false _ ((if1·After-slice-known11 c) .if1 .left)) ((if2·After-slice-known11 c) .if2 .left) ((read-file·After-slice-known11 c) .read-file .ensures) _ ((content2·After-slice-known11 c) .content2 .given .1) ((place-parts·After-slice-known11 c) .place-parts .ensures) ((finish·After-slice-known11 c) .finish .ensures)
+    load-parts (a .store) (a .nodes .now) (a .lookup .now) (a .cache .now) (a .file .now) (a .words .now) _ (sym ((fits2·After-slice-known11 c) .fits2 .ensures) ∙ not-false _ ((if1·After-slice-known11 c) .if1 .left))
+    ((if2·After-slice-known11 c) .if2 .left) ((read-file·After-slice-known11 c) .read-file .ensures) _ ((content2·After-slice-known11 c) .content2 .given .1) ((place-parts·After-slice-known11 c) .place-parts .ensures) ((finish·After-slice-known11 c) .finish .ensures)
 
 returns-5 : tie.Need-returns-5
 returns-5 c =
     let a = (start·After-refused3 c) .args in
-    load-none (a .store) (a .nodes .now) (a .lookup .now) (a .cache .now) (a .file .now) (a .words .now) _ (sym ((fits2·After-refused3 c) .fits2 .ensures) ∙ not-false _ ((if1·After-refused3 c) .if1 .left)) ((if2·After-refused3 c) .if2 .left) ((read-file·After-refused3 c) .read-file .ensures) ((c .before) .enum-told .given .1)
+    load-none (a .store) (a .nodes .now) (a .lookup .now) (a .cache .now) (a .file .now) (a .words .now) _ (sym ((fits2·After-refused3 c) .fits2 .ensures) ∙ not-false _ ((if1·After-refused3 c) .if1 .left))
+    ((if2·After-refused3 c) .if2 .left) ((read-file·After-refused3 c) .read-file .ensures) ((c .before) .enum-told .given .1)
     (c .refused3 .ensures .0) (c .refused3 .ensures .1)
 
 pub load-spec : {M : Type 1} → statement M

@@ -96,8 +96,10 @@ in-order-requires : tie.Need-in-order-requires
 in-order-requires c κs =
     let a = (start·After-in-order-arg c) .args in
     let p = (start·After-in-order-arg c) .pre in
-    let e = not-false _ ((c .before) .if1 .left) in
-    ((table-room (a .records .now) (a .parts) (a .words .now) (a .bytes) (p .0) ((zero·After-in-order-arg c) .zero .ensures) ((read-records·After-in-order-arg c) .read-records .ensures) e (p .1), omega arith, omega arith), table-nodes (a .records .now) (a .parts) (a .words .now) (a .bytes) (p .0) ((zero·After-in-order-arg c) .zero .ensures) ((read-records·After-in-order-arg c) .read-records .ensures) e)
+    let e = not-false _ ((c .before) .if1 .left) in (
+      (table-room (a .records .now) (a .parts) (a .words .now) (a .bytes) (p .0) ((zero·After-in-order-arg c) .zero .ensures) ((read-records·After-in-order-arg c) .read-records .ensures) e (p .1), omega arith, omega arith),
+      table-nodes (a .records .now) (a .parts) (a .words .now) (a .bytes) (p .0) ((zero·After-in-order-arg c) .zero .ensures) ((read-records·After-in-order-arg c) .read-records .ensures) e,
+    )
 
 returns-2 : tie.Need-returns-2
 returns-2 c =

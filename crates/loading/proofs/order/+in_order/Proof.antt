@@ -123,8 +123,10 @@ in-order-in-order-requires : (t : ℕ) → in-order-lts.Need-in-order-requires (
 in-order-in-order-requires t c κs =
     let a = (c .before .before .before) .args in
     let q = (c .before .before .before) .pre .1 in
-    let E = q .1 .each (a .p - 2) (omega (arith, q .0 .1, q .0 .2, (c .before) .if1 .left)) in
-    (omega (arith, (c .before .before .before) .pre .0, E .zero-before, q .0 .2, (c .before) .if1 .left), ((q .0 .0, omega (arith, E .zero-before, q .0 .1, q .0 .2, (c .before) .if1 .left), q .0 .2), q .1))
+    let E = q .1 .each (a .p - 2) (omega (arith, q .0 .1, q .0 .2, (c .before) .if1 .left)) in (
+      omega (arith, (c .before .before .before) .pre .0, E .zero-before, q .0 .2, (c .before) .if1 .left),
+      ((q .0 .0, omega (arith, E .zero-before, q .0 .1, q .0 .2, (c .before) .if1 .left), q .0 .2), q .1),
+    )
 
 in-order-enum-known-first : (t : ℕ) → in-order-lts.Need-enum-known-first (in-order-claims t) (in-order-at t) in-order.Post
 in-order-enum-known-first t c = search needs
@@ -155,8 +157,10 @@ in-order-in-order-requires-2 : (t : ℕ) → in-order-lts.Need-in-order-requires
 in-order-in-order-requires-2 t c κs =
     let a = (start·in-order·After-shared-slice-known3 t c) .args in
     let q = (start·in-order·After-shared-slice-known3 t c) .pre .1 in
-    let E = q .1 .each (a .p - 2) (omega (arith, q .0 .1, q .0 .2, (if1·in-order·After-shared-slice-known3 t c) .if1 .left)) in
-    (omega (arith, (start·in-order·After-shared-slice-known3 t c) .pre .0, E .one-before, q .0 .2, (if1·in-order·After-shared-slice-known3 t c) .if1 .left), ((q .0 .0, omega (arith, E .one-before, q .0 .1, q .0 .2, (if1·in-order·After-shared-slice-known3 t c) .if1 .left), (in-order·in-order·After-shared-slice-known3 t c) .in-order .ensures .low _ ((c .before .before) .first .given .1)), q .1))
+    let E = q .1 .each (a .p - 2) (omega (arith, q .0 .1, q .0 .2, (if1·in-order·After-shared-slice-known3 t c) .if1 .left)) in (
+      omega (arith, (start·in-order·After-shared-slice-known3 t c) .pre .0, E .one-before, q .0 .2, (if1·in-order·After-shared-slice-known3 t c) .if1 .left),
+      ((q .0 .0, omega (arith, E .one-before, q .0 .1, q .0 .2, (if1·in-order·After-shared-slice-known3 t c) .if1 .left), (in-order·in-order·After-shared-slice-known3 t c) .in-order .ensures .low _ ((c .before .before) .first .given .1)), q .1),
+    )
 
 in-order-enum-known-second : (t : ℕ) → in-order-lts.Need-enum-known-second (in-order-claims t) (in-order-at t) in-order.Post
 in-order-enum-known-second t c = search needs
