@@ -1,0 +1,88 @@
+// The two packages that are compared: this library, and CUDD's zero-suppressed diagrams.
+#pragma once
+#include <cstdio>
+#include <cstdlib>
+#include <polybori/cudd/cudd.h>
+#include <vector>
+
+#include "../include/zdd.h"
+
+[[noreturn]] inline void stop(const char *what, unsigned number) {
+    std::fprintf(stderr, "bench: %s: refused with %u\n", what, number);
+    std::exit(1);
+}
+
+struct Ours {
+    using F = uint32_t;
+    std::vector<uint32_t> nodes, lookup, cache;
+    zdd_store store;
+    Ours(size_t capacity, size_t cache_words) : nodes(3 * capacity), lookup(2 * capacity + 1), cache(cache_words) {
+        auto r = zdd_fresh(nodes.data(), nodes.size(), lookup.data(), lookup.size(), cache.data(), cache.size());
+        if (r.refusal) stop("fresh", r.refusal);
+        store = r.store;
+    }
+    F take(const char *what, zdd_placed r) {
+        if (r.refusal) stop(what, r.refusal);
+        store = r.store;
+        return r.handle;
+    }
+#define LENT store, nodes.data(), nodes.size(), lookup.data(), lookup.size(), cache.data(), cache.size()
+    F empty() { return 0; }
+    F base() { return 1; }
+    F change(F p, int item) { return take("change", zdd_change(LENT, p, item)); }
+    F lacking(F p, int item) { return take("subset0", zdd_subset0(LENT, p, item)); }
+    F unite(F p, F q) { return take("union", zdd_union(LENT, p, q)); }
+    F intersect(F p, F q) { return take("intsec", zdd_intsec(LENT, p, q)); }
+    F subtract(F p, F q) { return take("diff", zdd_diff(LENT, p, q)); }
+    F load(const std::vector<uint8_t> &file, std::vector<uint32_t> &scratch) {
+        return take("load", zdd_load(LENT, file.data(), file.size(), scratch.data(), scratch.size()));
+    }
+    bool audit() { return zdd_audit(LENT).sound; }
+#undef LENT
+#define READ store, nodes.data(), nodes.size(), lookup.data(), lookup.size()
+    double size(F p) {
+        static std::vector<uint64_t> scratch;
+        scratch.resize(store.count);
+        auto r = zdd_size(READ, p, scratch.data(), scratch.size());
+        if (r.refusal) stop("size", r.refusal);
+        return double(r.size);
+    }
+    bool has(F p, zdd_combination c) { return zdd_has(READ, p, c).member; }
+    size_t save(F p, std::vector<uint32_t> &scratch, std::vector<uint8_t> &out) {
+        auto r = zdd_save(READ, p, scratch.data(), scratch.size(), out.data(), out.size());
+        if (r.refusal) stop("save", r.refusal);
+        return r.length;
+    }
+#undef READ
+    // the number of parts of p, read off the head of its file
+    size_t parts(F p) {
+        if (p < 2) return 0;
+        std::vector<uint32_t> scratch(store.count);
+        std::vector<uint8_t> out(11 * size_t(store.count) + 5);
+        save(p, scratch, out);
+        return out[1] | size_t(out[2]) << 8 | size_t(out[3]) << 16 | size_t(out[4]) << 24;
+    }
+};
+
+struct Cudd {
+    using F = DdNode *;
+    pbori_DdManager *m;
+    explicit Cudd(unsigned cache_slots) { m = pbori_Cudd_Init(0, 512, CUDD_UNIQUE_SLOTS, cache_slots, 0); }
+    ~Cudd() { pbori_Cudd_Quit(m); }
+    Cudd(const Cudd &) = delete;
+    F keep(F f) {
+        if (!f) stop("cudd", 0);
+        Cudd_Ref(f);
+        return f;
+    }
+    // the largest item is on top: item i is index 512 - i
+    F empty() { return DD_ZERO(m); }
+    F base() { return DD_ONE(m); }
+    F change(F p, int item) { return keep(pbori_Cudd_zddChange(m, p, 512 - item)); }
+    F lacking(F p, int item) { return keep(pbori_Cudd_zddSubset0(m, p, 512 - item)); }
+    F unite(F p, F q) { return keep(pbori_Cudd_zddUnion(m, p, q)); }
+    F intersect(F p, F q) { return keep(pbori_Cudd_zddIntersect(m, p, q)); }
+    F subtract(F p, F q) { return keep(pbori_Cudd_zddDiff(m, p, q)); }
+    double size(F p) { return pbori_Cudd_zddCountDouble(m, p); }
+    size_t parts(F p) { return size_t(pbori_Cudd_zddDagSize(p)); }
+};

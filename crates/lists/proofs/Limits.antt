@@ -1,0 +1,99 @@
+-- The families that calls take keep to the limit: those of an operation and those of a file.
+-- An operation keeps to the limit of its operands, and reading a file adds only nodes that fit a book.
+use Prim.Native.Nat.{ℕ, zero, suc, _≤_, _<_}
+use mathlib.Core.Path.{_≡_, refl}
+use mathlib.Core.Bool.{true, cond, _&&_}
+use mathlib.Core.List.{List, [], _∷_, _++_}
+use mathlib.Core.Option.{none, some}
+use native.Mathlib.Omega.{arith}
+use lib.Dec.{eqb, ltb, leb}
+use lib.ListN.{length, List·getD-eq-default}
+use borrow.Author.Tests.{ltb-true, leb-true}
+use Rattle.words.proofs.Cases.{by-eq, by-lt, and-inv}
+use Rattle.family.specs.Family.{Family, empty, base, Within}
+use Rattle.family.specs.Book.{start, at, Book}
+use Rattle.family.specs.Record.{readNumber, Triple, triple, itemOf, readRecord}
+use Rattle.family.specs.File.{nodeOf, fits, readRecords, andThen, order, lastOf, readParts, alone, familyOf}
+use Rattle.family.proofs.Books.{held-at, book-start}
+use Rattle.family.proofs.Restrict.{within-subset1, within-subset0, within-change}
+use Rattle.family.proofs.Laws.{union-within, intsec-within, diff-within}
+use Rattle.family.proofs.Records.{not-some, then-inv}
+use Rattle.family.proofs.Orders.{and-then-inv, cond-inv}
+use Rattle.family.proofs.Reading.{fits-next, book-next}
+use Rattle.store.specs.Words.{itemLimit}
+use Rattle.store.specs.Cache.{restrict, rule, named}
+use Rattle.operations.specs.Promise.{isItem}
+use Rattle.lists.specs.Calls.{Operation, Subset1, Subset0, Change, Union, Intsec, Diff, numberOf, takesItem}
+use Rattle.lists.specs.Table.{operated}
+
+empty-within : (limit : ℕ) → Within limit empty
+empty-within limit = record { ordered = tt; low = omega arith }
+
+-- every number of a book means a family within the limit, and so does {}, which stands past its end
+pub at-within : {limit : ℕ} (B : List Family) → Book limit B → (k : ℕ) → Within limit (at B k)
+at-within {limit} B book k =
+    by-lt k (length B) (λ h e. book .within (at B k) (held-at B book k h)) (λ h e. rw (List·getD-eq-default B empty {n = k} h) (empty-within limit))
+
+pub item-bounds : (v : ℕ) → isItem v ≡ true → (0 < v) × (v ≤ itemLimit)
+unfolding isItem
+item-bounds v e = and-inv (ltb 0 v) (leb v itemLimit) e (λ p q. (ltb-true 0 v p, leb-true v itemLimit q))
+
+-- the operations by their numbers
+pub named-is : (op : Operation) (B : List Family) (p q : ℕ) → named (numberOf op) B p q ≡ operated op B p q
+unfolding named restrict rule
+named-is Subset1 B p q = refl
+named-is Subset0 B p q = refl
+named-is Change B p q = refl
+named-is Union B p q = refl
+named-is Intsec B p q = refl
+named-is Diff B p q = refl
+
+pub operated-within : (op : Operation) (B : List Family) → Book itemLimit B → (p q : ℕ) → (takesItem op ≡ true → isItem q ≡ true) → Within itemLimit (operated op B p q)
+operated-within Subset1 B book p q i = within-subset1 q (at B p) (at-within B book p)
+operated-within Subset0 B book p q i = within-subset0 q (at B p) (at-within B book p)
+operated-within Change B book p q i = let l = item-bounds q (i refl) in within-change q (at B p) (l .0) (l .1) (at-within B book p)
+operated-within Union B book p q i = union-within (at B p) (at B q) (at-within B book p) (at-within B book q)
+operated-within Intsec B book p q i = intsec-within (at B p) (at B q) (at-within B book p) (at-within B book q)
+operated-within Diff B book p q i = diff-within (at B p) (at B q) (at-within B book p) (at-within B book q)
+
+-- reading a file
+module _ (limit : ℕ) where
+  records-book : (k : ℕ) (C : List Family) (pi pn : ℕ) (l : List ℕ) → Book limit C → (B : List Family) → readRecords limit k C pi pn l ≡ some B → Book limit B
+  records-book zero C pi pn [] book B e = let p : C ≡ B = cc in rw p at book
+  records-book zero C pi pn (x ∷ l) book B e = not-some e
+  records-book (suc k) C pi pn l book B e =
+      then-inv (readRecord pi pn l) (λ t r. cond (fits limit C t) (readRecords limit k (C ++ (nodeOf C t ∷ [])) (itemOf t) (suc pn) r) none) B e
+      (λ t r e₁ k₁. cond-inv (fits limit C t) (readRecords limit k (C ++ (nodeOf C t ∷ [])) (itemOf t) (suc pn) r) B k₁
+      (λ p d. step t p (λ book′. records-book k (C ++ (nodeOf C t ∷ [])) (itemOf t) (suc pn) r book′ B d)))
+    where
+      step : (t : Triple) → fits limit C t ≡ true → (Book limit (C ++ (nodeOf C t ∷ [])) → Book limit B) → Book limit B
+      step (triple i z o) p rest = rest (book-next C book i z o (fits-next limit C i z o p))
+
+  last-within : (n : ℕ) (B : List Family) → Book limit B → (F : Family) → lastOf n B ≡ some F → Within limit F
+  unfolding lastOf
+  last-within n B book F e =
+      and-then-inv (order B (at B (suc n)) 2) (λ m. cond (eqb m (suc (suc n))) (some (at B (suc n))) none) F e
+      (λ m e₁ k₁. cond-inv (eqb m (suc (suc n))) (some (at B (suc n))) F k₁
+      (λ p d. let q : at B (suc n) ≡ F = cc in rw q at (at-within B book (suc n))))
+
+  parts-within : (l : List ℕ) (F : Family) → readParts limit l ≡ some F → Within limit F
+  unfolding readParts
+  parts-within l F e =
+      then-inv (readNumber 4 l) (λ n r. cond (ltb 0 n && ltb n 4294967295) (andThen (readRecords limit n start 0 1 r) (λ B. lastOf n B)) none) F e
+      (λ n r e₁ k₁. cond-inv (ltb 0 n && ltb n 4294967295) (andThen (readRecords limit n start 0 1 r) (λ B. lastOf n B)) F k₁
+      (λ p k₂. and-then-inv (readRecords limit n start 0 1 r) (λ B. lastOf n B) F k₂
+      (λ B e₂ k₃. last-within n B (records-book n start 0 1 r (book-start limit) B e₂) F k₃)))
+
+  alone-within : (G F : Family) (l : List ℕ) → Within limit G → alone G l ≡ some F → Within limit F
+  alone-within G F [] w e = let p : G ≡ F = cc in rw p at w
+  alone-within G F (x ∷ l) w e = not-some e
+
+  pub file-within : (b : List ℕ) (F : Family) → familyOf limit b ≡ some F → Within limit F
+  file-within [] F e = not-some e
+  file-within (x ∷ l) F e =
+      by-eq x 1 (λ p t. parts-within l F (rw t at e))
+      (λ p t. by-eq x 0
+      (λ p₀ t₀. alone-within empty F l (empty-within limit) (rw (t, t₀) at e))
+      (λ n₀ t₀. by-eq x 2
+      (λ p₂ t₂. alone-within base F l (record { ordered = tt; low = omega arith }) (rw (t, t₀, t₂) at e))
+      (λ n₂ t₂. not-some (rw (t, t₀, t₂) at e))))

@@ -1,0 +1,96 @@
+-- What every list of calls comes to: the store holds the book of the calls, and the answers are the book's; from it each part of demand 3.
+-- By induction on the list: the store stays sound with its whole cache and holds the book of the calls so far, so each promise speaks of that book.
+use Prim.Native.Nat.{ℕ, _+_, _≤_}
+use mathlib.Core.Path.{_≡_, refl, sym}
+use mathlib.Core.List.{List, [], _∷_, _++_, List·Memᴰ, List·Memᴰ·not-nil, List·Memᴰ·cases-cons, List·Memᴰ·append-cases}
+use mathlib.Core.Logic.{⊎-elim}
+use native.Mathlib.Omega.{arith}
+use lib.ListN.{length, take, length-append}
+use lib.Seq.{take-nil, take-all, take-append-le}
+use Rattle.words.proofs.Cases.{by-lt}
+use Rattle.family.specs.Family.{Family, empty, base}
+use Rattle.family.specs.Book.{start, at, number, Held, distinct}
+use Rattle.family.proofs.Books.{number-at, number-empty, number-base, held-empty, held-base, grown-self, grown-length, grown-at}
+use Rattle.store.specs.Capacity.{capacityOf}
+use Rattle.store.specs.Words.{bookOf}
+use Rattle.lists.specs.Calls.{Call, Answer}
+use Rattle.lists.specs.Books.{answersFrom, bookFrom, answersOf, bookOfCalls, Handout, handedOut, allParts, File, filesFrom, filesOf}
+use Rattle.lists.specs.Runs.{State, Step, Runs, fresh, next}
+use Rattle.lists.specs.Demand3.{meaning}
+use Rattle.lists.proofs.Invariant.{Inv, book, size, count-fits, capacity-low, fresh-inv}
+use Rattle.lists.proofs.Steps.{step}
+use Rattle.lists.proofs.Growth.{book-append, book-snoc, answers-snoc, book-length, book-grown, still-given}
+use Rattle.lists.proofs.Filing.{Filed, now-filed, files-snoc}
+
+-- what a list of calls has come to
+pub record Reached (capacity slots : ℕ) (calls : List Call) (answers : List Answer) (x : State) : Type 0 where
+  pub inv : Inv capacity slots (bookFrom capacity start calls) x
+  pub answered : answers ≡ answersFrom capacity start calls
+  pub filed : (f : File) → List·Memᴰ f (filesFrom capacity start calls (answersFrom capacity start calls)) → Filed f
+
+more : {capacity slots : ℕ} {calls : List Call} {answers : List Answer} {x y : State} {call : Call} {answer : Answer}
+    → Reached capacity slots calls answers x → Step x call answer y → Reached capacity slots (calls ++ (call ∷ [])) (answers ++ (answer ∷ [])) y
+more {capacity} {slots} {calls} {answers} {x} {y} {call} {answer} R s =
+    let S = step (R .inv) s in
+    record {
+      inv = rw (book-snoc capacity start calls call) (S .after);
+      answered = rw (R .answered, S .answer-is) (sym (answers-snoc capacity start calls call));
+      filed = λ f m. ⊎-elim (λ l. R .filed f l)
+          (λ r. now-filed capacity (bookFrom capacity start calls) (book (R .inv)) (omega (arith, size (R .inv), count-fits (R .inv), capacity-low (R .inv))) call f r)
+          (List·Memᴰ·append-cases (filesFrom capacity start calls (answersFrom capacity start calls)) (rw (files-snoc capacity start calls call) at m));
+    }
+
+pub reached : {nodes lookup cache : List ℕ} {calls : List Call} {answers : List Answer} {x : State} → Runs nodes lookup cache calls answers x → Reached (capacityOf (length nodes)) (length lookup) calls answers x
+reached {nodes} {lookup} {cache} (fresh P e) = record { inv = fresh-inv nodes lookup cache P e; answered = refl; filed = λ f m. absurd (List·Memᴰ·not-nil m) }
+reached (next R s) = more (reached R) s
+
+-- each beginning of a list is such a list
+beginning : {nodes lookup cache : List ℕ} {calls : List Call} {answers : List Answer} {x : State} → Runs nodes lookup cache calls answers x
+    → (length answers ≡ length calls) × ((n : ℕ) → (y : State) × Runs nodes lookup cache (take n calls) (take n answers) y)
+beginning (fresh P e) = (refl, λ n. rw (take-nil {A = Call} n, take-nil {A = Answer} n) (_, fresh P e))
+beginning {nodes} {lookup} {cache} (next {calls = calls} {answers = answers} {y = y} {call = call} {answer = answer} R s) =
+    let q = beginning R in
+    let l : length (answers ++ (answer ∷ [])) ≡ length (calls ++ (call ∷ [])) = rw (length-append answers (answer ∷ []), length-append calls (call ∷ []), q .0) in (
+      l,
+      λ n. by-lt (length calls) n
+          (λ h e. rw (take-all n (calls ++ (call ∷ [])) (omega (arith, length-append calls (call ∷ []))), take-all n (answers ++ (answer ∷ [])) (omega (arith, length-append calls (call ∷ [])))) (y, next R s))
+          (λ h e. rw (take-append-le n calls (call ∷ []) h, take-append-le n answers (answer ∷ []) (omega (arith, q .0))) (q .1 n)),
+    )
+
+pub beginnings : {nodes lookup cache : List ℕ} {calls : List Call} {answers : List Answer} {x : State} → Runs nodes lookup cache calls answers x
+    → (n : ℕ) → (y : State) × Runs nodes lookup cache (take n calls) (take n answers) y
+beginnings run = beginning run .1
+
+module _ {capacity slots : ℕ} {calls : List Call} {answers : List Answer} {x : State} (R : Reached capacity slots calls answers x) where
+  pub held-is : bookOf (x .nodes) (x .store .count) ≡ bookOfCalls capacity calls
+  unfolding bookOfCalls
+  held-is = R .inv .book-is
+
+  pub counts : x .store .count ≡ length (distinct (allParts (handedOut capacity calls)))
+  unfolding bookOfCalls
+  counts = omega (arith, book-length capacity calls, size (R .inv))
+
+  -- a family of the book, by its number
+  means : (F : Family) (h : ℕ) → Held (bookFrom capacity start calls) F → number (bookFrom capacity start calls) F ≡ h → (h ≤ x .store .count + 1) × (meaning x h ≡ F)
+  means F h l e = (omega (arith, size (R .inv)), rw (R .inv .book-is, ← e) (number-at (bookFrom capacity start calls) F l))
+
+  pub keeps : (g : Handout) → List·Memᴰ g (handedOut capacity calls) → (g .handle ≤ x .store .count + 1) × (meaning x (g .handle) ≡ g .family)
+  unfolding handedOut
+  keeps g m =
+      ⊎-elim (λ e. rw e (means empty 0 (held-empty (bookFrom capacity start calls) (book (R .inv))) (number-empty (bookFrom capacity start calls) (book (R .inv)))))
+      (λ n. ⊎-elim (λ e. rw e (means base 1 (held-base (bookFrom capacity start calls) (book (R .inv))) (number-base (bookFrom capacity start calls) (book (R .inv)))))
+      (λ o. let q = still-given capacity start (grown-self start) calls g o in means (g .family) (g .handle) (q .0) (q .1))
+      (List·Memᴰ·cases-cons n)) (List·Memᴰ·cases-cons m)
+
+  pub files-filed : (f : File) → List·Memᴰ f (filesOf capacity calls answers) → Filed f
+  unfolding filesOf
+  files-filed f m = R .filed f (rw (R .answered) at m)
+
+  pub lasts : (more : List Call) {theirs : List Answer} {y : State} → Reached capacity slots (calls ++ more) theirs y → (h : ℕ) → h ≤ x .store .count + 1 → (h ≤ y .store .count + 1) × (meaning y h ≡ meaning x h)
+  lasts more Q h l =
+      let g = rw (← book-append capacity start calls more) at (book-grown capacity (bookFrom capacity start calls) more) in
+      (omega (arith, grown-length g, size (R .inv), size (Q .inv)), rw (Q .inv .book-is, R .inv .book-is) (grown-at g h (omega (arith, size (R .inv)))))
+
+  pub as-book : answers ≡ answersOf capacity calls
+  unfolding answersOf
+  as-book = R .answered

@@ -1,0 +1,6 @@
+pub mod Calls
+pub mod Table
+pub mod Books
+pub mod Runs
+pub mod Demand3
+pub mod Worked
