@@ -6,13 +6,13 @@ use mathlib.Core.Bool.{Bool, true, false}
 use mathlib.Core.List.{List}
 use mathlib.Core.Option.{Option, none, some}
 use native.Mathlib.Omega.{arith}
-use lib.ListN.{length, getD, drop, length-drop}
-use lib.Seq.{ext-getD, getD-drop}
+use lib.ListN.{length, getD, drop}
 use borrow.Author.Tests.{lt-ltb, le-ltb}
 use Rattle.family.specs.Family.{Family}
 use Rattle.family.specs.Book.{start, at, place}
 use Rattle.family.specs.File.{familyOf}
 use Rattle.words.proofs.Cases.{by-eq, clash}
+use Rattle.words.proofs.Zeroed.{rest-drop}
 use Rattle.store.specs.declared.record.Store.{Store}
 use Rattle.store.specs.declared.record.Refusal.the-variants.{Scratch, NoFile, Damaged}
 use Rattle.store.specs.declared.record.PlaceAnswer.the-variants.{Handle, Refused}
@@ -86,12 +86,6 @@ parts-of n e A = out (rw e at A)
 pub parts-nodes : {file words : List ℕ} {b n : ℕ} → PartsRead file b words n → Nodes words n
 parts-nodes R = local-nodes (R .table)
 
--- words from a place on
-same-rest : (words words′ : List ℕ) (n : ℕ) → length words′ ≡ length words → ((j : ℕ) → n ≤ j → getD words′ j 0 ≡ getD words j 0) → drop n words′ ≡ drop n words
-same-rest words words′ n e f =
-    ext-getD 0 (drop n words′) (drop n words) (length-drop n words′ ∙ ap (λ k. k - n) e ∙ sym (length-drop n words))
-    (λ k l. getD-drop n words′ k 0 ∙ f (n + k) (omega arith) ∙ sym (getD-drop n words k 0))
-
 module _ (s : Store) (nodes lookup cache file words : List ℕ) (r : Placed) where
   pub load-misfit : fitting (s .capacity) (s .count) (length nodes) (length lookup) ≡ false → r .store ≡ s → r .answer ≡ Refused Damaged → LoadCall s nodes lookup cache file words r nodes lookup cache words
   load-misfit e es ea =
@@ -120,7 +114,7 @@ module _ (s : Store) (nodes lookup cache file words : List ℕ) (r : Placed) whe
             places = rw (en, ef) P;
             scratch-misfit = λ d. clash e d;
             scratch-short = λ d. absurd (omega (arith, room));
-            scratch-rest = same-rest words words′ (6 * length file) size same;
+            scratch-rest = rest-drop (6 * length file) words words′ size same;
             long = size;
           }
 

@@ -6,8 +6,8 @@ use mathlib.Core.Bool.{Bool, true, false, cond}
 use mathlib.Core.List.{List, [], _∷_, _++_}
 use native.Mathlib.Omega.{arith}
 use lib.Dec.{eqb, ltb}
-use lib.ListN.{length, getD, set, take, drop, length-set, length-drop}
-use lib.Seq.{sets, sets-eq, ext-getD, getD-drop}
+use lib.ListN.{length, getD, set, take, drop, length-set}
+use lib.Seq.{sets, sets-eq}
 use borrow.Author.Tests.{eq-eqb, ne-eqb, lt-ltb, le-ltb}
 use Rattle.family.specs.Family.{Family, empty, base, node, top}
 use Rattle.family.specs.Book.{start, at, number, place}
@@ -15,7 +15,7 @@ use Rattle.family.specs.Record.{bytesOf}
 use Rattle.family.specs.File.{triplesOf, recordsBytes, fileOfBook, fileOf}
 use Rattle.words.specs.Words.{zeroed}
 use Rattle.words.proofs.Cases.{by-lt, by-eq, clash}
-use Rattle.words.proofs.Zeroed.{zeroed-length, zeroed-inside, zeroed-after}
+use Rattle.words.proofs.Zeroed.{rest-drop, zeroed-length, zeroed-inside, zeroed-after}
 use Rattle.store.specs.declared.record.Store.{Store}
 use Rattle.store.specs.declared.record.Refusal.the-variants.{Handle, Scratch, Output, Damaged}
 use Rattle.store.specs.Capacity.{fitting}
@@ -161,11 +161,6 @@ module _ (s : Store) (p : ℕ) (nodes links out : List ℕ) (two : 2 ≤ p) (lp 
               refused = λ B lookup H l. absurd (omega (arith, length-is H));
               gave = λ B lookup H l. (ea ∙ ap Length (length-is H), wrote H .1);
             }
-
--- words that agree from a place on
-rest-drop : (n : ℕ) (l l′ : List ℕ) → length l′ ≡ length l → ((k : ℕ) → n ≤ k → getD l′ k 0 ≡ getD l k 0) → drop n l′ ≡ drop n l
-rest-drop n l l′ e h =
-    ext-getD 0 (drop n l′) (drop n l) (length-drop n l′ ∙ ap (λ k. k - n) e ∙ sym (length-drop n l)) (λ k m. getD-drop n l′ k 0 ∙ h (n + k) (omega arith) ∙ sym (getD-drop n l k 0))
 
 -- the ways out of `save`
 module _ (s : Store) (nodes lookup : List ℕ) (p : ℕ) (scratch out : List ℕ) where

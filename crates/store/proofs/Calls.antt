@@ -6,15 +6,15 @@ use mathlib.Core.Bool.{Bool, true, false, cond}
 use mathlib.Core.List.{List, [], _∷_}
 use native.Mathlib.Omega.{arith}
 use lib.Dec.{eqb, ltb}
-use lib.ListN.{length, getD, drop, length-drop}
-use lib.Seq.{ext-getD, getD-drop}
+use lib.ListN.{length, getD, drop}
+use lib.Seq.{ext-getD}
 use borrow.Author.Tests.{eq-eqb, ne-eqb, lt-ltb, le-ltb}
 use Rattle.family.specs.Family.{Family, parts}
 use Rattle.family.specs.Book.{at, number, place, distinct, absent}
 use Rattle.family.proofs.Different.{place-length}
 use Rattle.words.specs.Words.{zeroed}
 use Rattle.words.proofs.Cases.{by-lt, clash}
-use Rattle.words.proofs.Zeroed.{zeroed-length, zeroed-inside, zeroed-after, zeroed-drop}
+use Rattle.words.proofs.Zeroed.{rest-drop, zeroed-length, zeroed-inside, zeroed-after, zeroed-drop}
 use Rattle.table.proofs.OwnSlots.{cleared-length}
 use Rattle.store.specs.declared.record.Store.{Store}
 use Rattle.store.specs.declared.record.Refusal.{Refusal}
@@ -138,10 +138,7 @@ module _ (s : Store) (nodes lookup cache : List ℕ) where
 
     -- words past the whole groups stay
     rest-kept : drop (length cache / 4 * 4) cache₁ ≡ drop (length cache / 4 * 4) cache
-    rest-kept =
-        ext-getD 0 (drop (length cache / 4 * 4) cache₁) (drop (length cache / 4 * 4) cache)
-        (length-drop (length cache / 4 * 4) cache₁ ∙ ap (λ k. k - length cache / 4 * 4) (R .long-cache) ∙ sym (length-drop (length cache / 4 * 4) cache))
-        (λ k l. getD-drop (length cache / 4 * 4) cache₁ k 0 ∙ R .rest (length cache / 4 * 4 + k) (omega arith) ∙ sym (getD-drop (length cache / 4 * 4) cache k 0))
+    rest-kept = rest-drop (length cache / 4 * 4) cache cache₁ (R .long-cache) (R .rest)
 
     module _ (h : ℕ) (eh : m .answer ≡ Handle h) where
       module _ (S : Sound s nodes lookup cache) where
@@ -152,9 +149,7 @@ module _ (s : Store) (nodes lookup cache : List ℕ) where
         fits = not-large (s .capacity) (bookOf nodes (s .count)) (F (bookOf nodes (s .count))) (s .count) (sound-holds S .size) (S .within) (omega (arith, given .holds .size, K .fits))
 
         past : drop (3 * s .capacity) nodes₁ ≡ drop (3 * s .capacity) nodes
-        past =
-            ext-getD 0 (drop (3 * s .capacity) nodes₁) (drop (3 * s .capacity) nodes) (length-drop (3 * s .capacity) nodes₁ ∙ ap (λ k. k - 3 * s .capacity) (K .long) ∙ sym (length-drop (3 * s .capacity) nodes))
-            (λ k l. getD-drop (3 * s .capacity) nodes₁ k 0 ∙ K .above (3 * s .capacity + k) (omega (arith, K .fits)) ∙ sym (getD-drop (3 * s .capacity) nodes k 0))
+        past = rest-drop (3 * s .capacity) nodes nodes₁ (K .long) (λ k l. K .above k (omega (arith, K .fits)))
 
         blank : (k : ℕ) → 3 * m .store .count ≤ k → k < 3 * s .capacity → getD nodes₁ k 0 ≡ 0
         blank k l g = K .above k l ∙ S .blank k (omega (arith, K .grows)) g

@@ -10,6 +10,11 @@ use lib.Seq.{length-take-le, getD-take, getD-drop, getD-append-add, getD-set-sam
 use Rattle.words.specs.Words.{zeroed}
 use Rattle.words.proofs.Cases.{by-eq, by-lt}
 
+-- words that agree from a place on
+pub rest-drop : (n : ℕ) (l l′ : List ℕ) → length l′ ≡ length l → ((k : ℕ) → n ≤ k → getD l′ k 0 ≡ getD l k 0) → drop n l′ ≡ drop n l
+rest-drop n l l′ e h =
+    ext-getD 0 (drop n l′) (drop n l) (length-drop n l′ ∙ ap (λ k. k - n) e ∙ sym (length-drop n l)) (λ k m. getD-drop n l′ k 0 ∙ h (n + k) (omega arith) ∙ sym (getD-drop n l k 0))
+
 getD-past : (l r : List ℕ) (k : ℕ) → length l ≤ k → getD (l ++ r) k 0 ≡ getD r (k - length l) 0
 getD-past l r k h = let e : length l + (k - length l) ≡ k = omega arith in ap (λ j. getD (l ++ r) j 0) (sym e) ∙ getD-append-add l r (k - length l) 0
 
@@ -48,9 +53,7 @@ module _ (a e : ℕ) (l : List ℕ) (ordered : a ≤ e) (inside : e ≤ length l
       ∙ ap (λ j. getD l j 0) (omega (arith, front, zeros-length (e - a)))
 
   pub zeroed-drop : drop e (zeroed a e l) ≡ drop e l
-  zeroed-drop =
-      ext-getD 0 (drop e (zeroed a e l)) (drop e l) (length-drop e (zeroed a e l) ∙ ap (λ k. k - e) zeroed-length ∙ sym (length-drop e l))
-      (λ k h. getD-drop e (zeroed a e l) k 0 ∙ zeroed-after (e + k) (omega arith) ∙ sym (getD-drop e l k 0))
+  zeroed-drop = rest-drop e l (zeroed a e l) zeroed-length zeroed-after
 
 pub zeroed-none : (a : ℕ) (l : List ℕ) → zeroed a a l ≡ l
 unfolding zeroed
