@@ -1,5 +1,4 @@
 -- The theorem of demand 3. Theorem.antt states it; the other files prove it, lowest first.
-pub mod Recovering
 pub mod Limits
 pub mod Lending
 pub mod Invariant

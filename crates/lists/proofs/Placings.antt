@@ -24,7 +24,7 @@ use Rattle.lists.specs.Calls.{Call}
 use Rattle.lists.specs.Table.{refusalOf}
 use Rattle.lists.specs.Books.{takenBy, numbered, refused, stated, answerOf, bookAfter}
 use Rattle.lists.specs.Runs.{State, placing as answering}
-use Rattle.lists.proofs.Recovering.{book-of-words}
+use Rattle.store.proofs.Recovering.{book-of-words}
 use Rattle.lists.proofs.Lending.{lent-true, joined-true, sound-with}
 use Rattle.lists.proofs.Invariant.{Inv, Stepped, book, size}
 

@@ -16,3 +16,4 @@ pub mod Undoing
 pub mod Endings
 pub mod Calls
 pub mod Tested
+pub mod Recovering
