@@ -26,56 +26,92 @@ static double median(std::vector<double> v) {
 
 // What a workload came to: the members and the parts of its last family.
 struct Outcome {
-    double members;
+    uint64_t members;
     size_t parts;
 };
 
 static const size_t capacity = 1000000;
 static const unsigned cudd_cache = 1 << 18;
 
-// One line: both packages in turn, `rounds` times; ratio of each round, their median and spread.
-template <class Work> static void compare(const char *name, size_t cache_words, Work work) {
-    std::vector<double> ours, theirs, ratios;
-    Outcome a{}, b{};
-    for (int i = 0; i < rounds; i++) {
-        Ours p(capacity, cache_words);
-        ours.push_back(seconds([&] { a = work(p); }));
-        Cudd q(cudd_cache);
-        theirs.push_back(seconds([&] { b = work(q); }));
-        ratios.push_back(ours.back() / theirs.back());
-    }
+static void row(const char *name, size_t cache_words, const std::vector<double> &ours, const std::vector<double> &theirs, Outcome a, Outcome b) {
+    std::vector<double> ratios;
+    for (size_t i = 0; i < ours.size(); i++) ratios.push_back(ours[i] / theirs[i]);
     bool same = a.members == b.members && a.parts == b.parts;
-    std::printf("| %s | %zu | %.1f | %.1f | %.2f | %.2f to %.2f | %zu | %.0f | %s |\n", name, cache_words, 1e3 * median(ours),
+    std::printf("| %s | %zu | %.1f | %.1f | %.2f | %.2f to %.2f | %zu | %llu | %s |\n", name, cache_words, 1e3 * median(ours),
                 1e3 * median(theirs), median(ratios), *std::min_element(ratios.begin(), ratios.end()),
-                *std::max_element(ratios.begin(), ratios.end()), a.parts, a.members, same ? "yes" : "NO");
+                *std::max_element(ratios.begin(), ratios.end()), a.parts, (unsigned long long)a.members, same ? "yes" : "NO");
     std::fflush(stdout);
     if (!same) std::exit(1);
 }
 
-template <class P> static Outcome outcome(P &p, typename P::F f) { return {p.size(f), p.parts(f)}; }
+// One line: both packages in turn, `rounds` times.
+template <class Work> static void compare(const char *name, size_t cache_words, Work work) {
+    std::vector<double> ours, theirs;
+    Outcome a{}, b{};
+    for (int i = 0; i < rounds; i++) {
+        Ours p(capacity, cache_words);
+        Ours::F f = 0;
+        ours.push_back(seconds([&] { f = work(p); }));
+        a = {p.size(f), p.parts(f)};
+        Cudd q(cudd_cache);
+        Cudd::F g = nullptr;
+        theirs.push_back(seconds([&] { g = work(q); }));
+        b = {q.size(g), q.parts(g)};
+    }
+    row(name, cache_words, ours, theirs, a, b);
+}
 
-// Three operations on two large families that share half of their combinations.
-template <class P> static Outcome three(P &p) {
-    auto shared = random_family(p, 4000, 7);
-    auto left = p.unite(shared, random_family(p, 4000, 11));
-    auto right = p.unite(shared, random_family(p, 4000, 13));
-    auto all = p.unite(left, right);
-    auto both = p.intersect(left, right);
-    return outcome(p, p.subtract(all, both));
+// Two large families that share half of their combinations.
+template <class P> static std::pair<typename P::F, typename P::F> two(P &p) {
+    auto shared = random_family(p, 2500, 7);
+    return {p.unite(shared, random_family(p, 2500, 11)), p.unite(shared, random_family(p, 2500, 13))};
+}
+
+// Their union less their intersection.
+template <class P> static typename P::F three(P &p, std::pair<typename P::F, typename P::F> f) {
+    return p.subtract(p.unite(f.first, f.second), p.intersect(f.first, f.second));
+}
+
+static std::vector<uint8_t> file_of(Ours &p, uint32_t f) {
+    std::vector<uint32_t> links(p.store.count);
+    std::vector<uint8_t> out(11 * size_t(p.store.count) + 5);
+    out.resize(p.save(f, links, out));
+    return out;
+}
+
+// The operations alone, on families that are there: loaded from files here, built before in CUDD.
+static void large_families(size_t cache_words) {
+    std::vector<double> ours, theirs;
+    Outcome a{}, b{};
+    for (int i = 0; i < rounds; i++) {
+        Ours source(capacity, 1 << 18);
+        auto built = two(source);
+        auto left = file_of(source, built.first), right = file_of(source, built.second);
+        std::vector<uint32_t> scratch(6 * std::max(left.size(), right.size()));
+        Ours p(capacity, cache_words);
+        std::pair<Ours::F, Ours::F> loaded{p.load(left, scratch), p.load(right, scratch)};
+        Ours::F f = 0;
+        ours.push_back(seconds([&] { f = three(p, loaded); }));
+        a = {p.size(f), p.parts(f)};
+        Cudd q(cudd_cache);
+        auto there = two(q);
+        Cudd::F g = nullptr;
+        theirs.push_back(seconds([&] { g = three(q, there); }));
+        b = {q.size(g), q.parts(g)};
+    }
+    row("Union, Intsec, Diff of large families", cache_words, ours, theirs, a, b);
 }
 
 static void workloads(size_t cache_words) {
-    compare("2,000 random combinations", cache_words, [](auto &p) { return outcome(p, random_family(p, 2000, 1)); });
-    compare("10,000 random combinations", cache_words, [](auto &p) { return outcome(p, random_family(p, 10000, 1)); });
-    compare("8 queens", cache_words, [](auto &p) { return outcome(p, queens(p, 8)); });
-    compare("10 queens", cache_words, [](auto &p) { return outcome(p, queens(p, 10)); });
-    compare("independent sets, 10 x 10 grid, rows in order", cache_words, [](auto &p) {
-        return outcome(p, independent_sets(p, 10, [](int row, int column) { return row * 10 + column + 1; }));
-    });
-    compare("independent sets, 8 x 8 grid, even columns first", cache_words, [](auto &p) {
-        return outcome(p, independent_sets(p, 8, [](int row, int column) { return split_order(8, row, column); }));
-    });
-    compare("Union, Intsec, Diff of large families", cache_words, [](auto &p) { return three(p); });
+    compare("2,000 random combinations", cache_words, [](auto &p) { return random_family(p, 2000, 1); });
+    compare("10,000 random combinations", cache_words, [](auto &p) { return random_family(p, 10000, 1); });
+    compare("8 queens", cache_words, [](auto &p) { return queens(p, 8); });
+    compare("10 queens", cache_words, [](auto &p) { return queens(p, 10); });
+    compare("independent sets, 10 x 10 grid, rows in order", cache_words,
+            [](auto &p) { return independent_sets(p, 10, [](int row, int column) { return row * 10 + column + 1; }); });
+    compare("independent sets, 7 x 7 grid, even columns first", cache_words,
+            [](auto &p) { return independent_sets(p, 7, [](int row, int column) { return split_order(7, row, column); }); });
+    large_families(cache_words);
 }
 
 // The parts of a store of so many nodes, by one random family.
@@ -106,8 +142,8 @@ static void queries() {
     size_t nodes = p.store.count;
     std::vector<uint32_t> links(nodes);
     std::vector<uint8_t> out(11 * nodes + 5);
-    size_t length = p.save(family, links, out);
-    std::vector<uint8_t> file(out.begin(), out.begin() + length);
+    std::vector<uint8_t> file = file_of(p, family);
+    size_t length = file.size();
     std::vector<uint32_t> scratch(6 * length);
     std::printf("\nA store of %zu nodes; the family has %zu parts, its file %zu bytes.\n\n", nodes, p.parts(family), length);
     std::printf("| Call | ms, median | spread | ns per node |\n|---|---|---|---|\n");

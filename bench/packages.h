@@ -3,6 +3,8 @@
 #include <cstdio>
 #include <cstdlib>
 #include <polybori/cudd/cudd.h>
+#include <polybori/cudd/cuddInt.h>
+#include <unordered_map>
 #include <vector>
 
 #include "../include/zdd.h"
@@ -40,12 +42,12 @@ struct Ours {
     bool audit() { return zdd_audit(LENT).sound; }
 #undef LENT
 #define READ store, nodes.data(), nodes.size(), lookup.data(), lookup.size()
-    double size(F p) {
+    uint64_t size(F p) {
         static std::vector<uint64_t> scratch;
         scratch.resize(store.count);
         auto r = zdd_size(READ, p, scratch.data(), scratch.size());
         if (r.refusal) stop("size", r.refusal);
-        return double(r.size);
+        return r.size;
     }
     bool has(F p, zdd_combination c) { return zdd_has(READ, p, c).member; }
     size_t save(F p, std::vector<uint32_t> &scratch, std::vector<uint8_t> &out) {
@@ -72,7 +74,7 @@ struct Cudd {
     Cudd(const Cudd &) = delete;
     F keep(F f) {
         if (!f) stop("cudd", 0);
-        Cudd_Ref(f);
+        pbori_Cudd_Ref(f);
         return f;
     }
     // the largest item is on top: item i is index 512 - i
@@ -83,6 +85,21 @@ struct Cudd {
     F unite(F p, F q) { return keep(pbori_Cudd_zddUnion(m, p, q)); }
     F intersect(F p, F q) { return keep(pbori_Cudd_zddIntersect(m, p, q)); }
     F subtract(F p, F q) { return keep(pbori_Cudd_zddDiff(m, p, q)); }
-    double size(F p) { return pbori_Cudd_zddCountDouble(m, p); }
-    size_t parts(F p) { return size_t(pbori_Cudd_zddDagSize(p)); }
+    // members and parts by a walk over the nodes
+    uint64_t count(F p, std::unordered_map<F, uint64_t> &seen) {
+        if (p == empty()) return 0;
+        if (p == base()) return 1;
+        auto found = seen.find(p);
+        if (found != seen.end()) return found->second;
+        return seen[p] = count(cuddE(p), seen) + count(cuddT(p), seen);
+    }
+    uint64_t size(F p) {
+        std::unordered_map<F, uint64_t> seen;
+        return count(p, seen);
+    }
+    size_t parts(F p) {
+        std::unordered_map<F, uint64_t> seen;
+        count(p, seen);
+        return seen.size();
+    }
 };
