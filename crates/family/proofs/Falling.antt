@@ -1,14 +1,14 @@
--- Combinations as falling lists: which items they hold decides them, and what taking an item out leaves.
+-- Combinations as falling lists: which items they hold decides them, and what taking an item out leaves, and putting one in.
 -- A falling list holds nothing above its first item, so two of them with the same items agree from the front on.
-use Prim.Native.Nat.{ℕ, zero, suc, _≤_, _<_}
+use Prim.Native.Nat.{ℕ, zero, suc, max, _≤_, _<_}
 use mathlib.Core.Path.{_≡_, refl, sym, ap, _∙_}
 use mathlib.Core.Bool.{Bool, true, false, cond, not, _&&_, _||_, or-false}
 use mathlib.Core.List.{List, [], _∷_}
 use native.Mathlib.Omega.{arith}
 use lib.Dec.{eqb}
 use borrow.Author.Tests.{eq-eqb, ne-eqb}
-use Rattle.family.specs.Combination.{largest, Falling, Combined, holds, remove}
-use Rattle.words.proofs.Cases.{by-eq, by-order, clash}
+use Rattle.family.specs.Combination.{largest, Falling, Combined, holds, insert, remove}
+use Rattle.words.proofs.Cases.{by-eq, by-lt, by-order, clash}
 
 pub holds-high : (v : ℕ) (c : List ℕ) → Falling c → largest c < v → holds v c ≡ false
 holds-high v [] h l = refl
@@ -62,3 +62,25 @@ remove-absent v (x ∷ c) e =
   where
     eq-true : eqb x v ≡ true → holds v (x ∷ c) ≡ true
     eq-true d = rw d
+
+-- putting an item in
+pub insert-falling : (v : ℕ) (c : List ℕ) → 0 < v → Falling c → holds v c ≡ false → Falling (insert v c) × (largest (insert v c) ≤ max v (largest c))
+insert-falling v [] n h e = ((n, tt), omega arith)
+insert-falling v (x ∷ c) n h e =
+    by-order x v
+    (λ p l d. rw l ((p, h), omega arith))
+    (λ p l d. clash (same p) e)
+    (λ p l d. let q = insert-falling v c n (h .1) (rw d at e) in rw l ((omega (arith, q .1), q .0), omega arith))
+  where
+    same : x ≡ v → holds v (x ∷ c) ≡ true
+    same p = rw (eq-eqb x v p)
+
+pub holds-insert : (v u : ℕ) (c : List ℕ) → holds u (insert v c) ≡ eqb v u || holds u c
+holds-insert v u [] = refl
+holds-insert v u (x ∷ c) =
+    by-lt x v (λ p l. rw l) (λ p l. rw (l, holds-insert v u c) (swap (eqb x u) (eqb v u) (holds u c)))
+  where
+    swap : (a b d : Bool) → a || (b || d) ≡ b || (a || d)
+    swap true true d = refl
+    swap true false d = refl
+    swap false b d = refl

@@ -1,19 +1,19 @@
 -- The record of sixteen words: every combination of items up to 512 is the meaning of exactly one record.
 -- Which items a record's combination holds is read off its bits, and a combination and a record are both decided by that.
-use Prim.Native.Nat.{ℕ, zero, suc, _+_, _-_, _*_, _/_, _%_, _^_, _≤_, _<_}
+use Prim.Native.Nat.{ℕ, zero, suc, max, _+_, _-_, _*_, _/_, _%_, _^_, _≤_, _<_}
 use mathlib.Core.Path.{_≡_, refl, sym, ap, ap₂, _∙_}
 use mathlib.Core.Bool.{Bool, true, false, cond, not, _&&_, _||_}
 use mathlib.Core.List.{List, [], _∷_}
 use native.Mathlib.Nat.{zero-div}
 use native.Mathlib.Omega.{arith}
-use lib.Dec.{eqb, ltb, eqb·suc-suc}
+use lib.Dec.{eqb, ltb, leb, eqb·suc-suc}
 use lib.ListN.{length, getD, set, replicate, length-set, length-replicate, getD-replicate, List·getD-eq-default}
 use lib.Seq.{getD-set-same, getD-set-other, set-set, set-getD, ext-getD}
 use lib.Pow.{shl-exact}
-use borrow.Author.Tests.{eq-eqb, ne-eqb, lt-ltb, le-ltb, eqb-true, eqb-false}
-use Rattle.family.specs.Combination.{largest, Falling, Combined, holds, remove, isNone, Words, bitAt, itemsTo, itemsOf}
+use borrow.Author.Tests.{eq-eqb, ne-eqb, lt-ltb, le-ltb, le-leb, lt-leb, eqb-true, eqb-false}
+use Rattle.family.specs.Combination.{largest, Falling, Combined, holds, insert, isFree, including, remove, isNone, Words, bitAt, itemsTo, itemsOf}
 use Rattle.words.proofs.Cases.{by-test, by-eq, by-lt, clash}
-use Rattle.family.proofs.Falling.{holds-high, holds-zero, falling-ext, remove-falling, holds-remove}
+use Rattle.family.proofs.Falling.{holds-high, holds-zero, falling-ext, remove-falling, holds-remove, insert-falling, holds-insert}
 use Rattle.family.proofs.Bits.{set-bit, set-bit-fits, clear-bit, bits-equal}
 
 -- the combination of a record
@@ -224,3 +224,57 @@ removed v w s h = rw (shifted ((v - 1) % 32) (omega arith)) (items-cut w (v - 1)
 pub bit-below : (v : ℕ) (w : List ℕ) → Stands v w → (1 * 2 ^ ((v - 1) % 32)) % 2 ^ 32 ≤ getD w ((v - 1) / 32) 0
 unfolding bitAt
 bit-below v w h = rw (shifted ((v - 1) % 32) (omega arith)) (clear-bit ((v - 1) % 32) (getD w ((v - 1) / 32) 0) (eqb-true _ 1 (h .bit)) .0)
+
+-- putting an item into a record
+pub items-put : (w : List ℕ) (n : ℕ) → length w ≡ 16 → n < 512 → holds (suc n) (itemsOf w) ≡ false → itemsOf (put w n) ≡ insert (suc n) (itemsOf w)
+items-put w n s l e =
+    items-are (put w n) (insert (suc n) (itemsOf w)) (record { falling = r .0; low = omega (arith, r .1, items-combined w .low) }) agree
+  where
+    r : Falling (insert (suc n) (itemsOf w)) × (largest (insert (suc n) (itemsOf w)) ≤ max (suc n) (largest (itemsOf w)))
+    r = insert-falling (suc n) (itemsOf w) (omega arith) (items-combined w .falling) e
+
+    agree : (m : ℕ) → m < 512 → bitAt (put w n) m ≡ holds (suc m) (insert (suc n) (itemsOf w))
+    agree m h =
+        bit-put w n m s l (sym (holds-items n w l) ∙ e)
+        ∙ sym (holds-insert (suc n) (suc m) (itemsOf w) ∙ rw (eqb·suc-suc n m, holds-items m w h))
+
+module _ (v : ℕ) (c : List ℕ) where
+  pub free-zero : v ≡ 0 → isFree 512 v c ≡ false
+  unfolding isFree
+  free-zero e = rw (le-ltb 0 v (omega arith))
+
+  pub free-high : 512 < v → isFree 512 v c ≡ false
+  unfolding isFree
+  free-high l = rw (lt-ltb 0 v (omega arith), lt-leb v 512 l)
+
+  pub free-held : holds v c ≡ true → isFree 512 v c ≡ false
+  unfolding isFree
+  free-held e = by-test (ltb 0 v) (λ d. rw d (by-test (leb v 512) (λ f. rw (f, e)) (λ f. rw f))) (λ d. rw d)
+
+  pub free-item : 0 < v → v ≤ 512 → holds v c ≡ false → isFree 512 v c ≡ true
+  unfolding isFree
+  free-item n l e = rw (lt-ltb 0 v n, le-leb v 512 l, e)
+
+  pub not-including : isFree 512 v c ≡ false → including 512 v c ≡ c
+  unfolding including
+  not-including e = rw e
+
+  pub is-including : isFree 512 v c ≡ true → including 512 v c ≡ insert v c
+  unfolding including
+  is-including e = rw e
+
+module _ (v : ℕ) (w : List ℕ) where
+  -- the code's form of putting an item in, with the shifted bit kept to 32 bits
+  pub included : length w ≡ 16 → 0 < v → v ≤ 512 → holds v (itemsOf w) ≡ false
+      → itemsOf (set w ((v - 1) / 32) (getD w ((v - 1) / 32) 0 + (1 * 2 ^ ((v - 1) % 32)) % 2 ^ 32)) ≡ including 512 v (itemsOf w)
+  included s n l e =
+      let one : suc (v - 1) ≡ v = omega arith in
+      rw (shifted ((v - 1) % 32) (omega arith), is-including v (itemsOf w) (free-item v (itemsOf w) n l e)) (items-put w (v - 1) s (omega arith) (ap (λ x. holds x (itemsOf w)) one ∙ e) ∙ ap (λ x. insert x (itemsOf w)) one)
+
+  -- and its sum fits
+  pub included-fits : Words w → 0 < v → v ≤ 512 → holds v (itemsOf w) ≡ false → getD w ((v - 1) / 32) 0 + (1 * 2 ^ ((v - 1) % 32)) % 2 ^ 32 < 2 ^ 32
+  unfolding bitAt
+  included-fits h n l e =
+      let one : suc (v - 1) ≡ v = omega arith in
+      let free : bitAt w (v - 1) ≡ false = sym (holds-items (v - 1) w (omega arith)) ∙ ap (λ x. holds x (itemsOf w)) one ∙ e in
+      rw (shifted ((v - 1) % 32) (omega arith)) (set-bit-fits 32 ((v - 1) % 32) (getD w ((v - 1) / 32) 0) (omega arith) (h .wide ((v - 1) / 32)) (bit-number _ free))

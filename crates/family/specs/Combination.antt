@@ -1,9 +1,9 @@
 -- Combinations of items, and the record of sixteen words that holds one: document 01, 'Families and their parts' and 'Calls', Has.
 use Prim.Native.Nat.{ℕ, zero, suc, _-_, _/_, _%_, _^_, _≤_, _<_}
 use mathlib.Core.Path.{_≡_}
-use mathlib.Core.Bool.{Bool, true, false, cond, _||_}
+use mathlib.Core.Bool.{Bool, true, false, cond, not, _&&_, _||_}
 use mathlib.Core.List.{List, [], _∷_}
-use lib.Dec.{eqb, ltb}
+use lib.Dec.{eqb, ltb, leb}
 use lib.ListN.{length, getD}
 
 -- the largest item of a combination; 0 where it holds none
@@ -30,6 +30,14 @@ holds v (x ∷ c) = eqb x v || holds v c
 abbrev pub insert : ℕ → List ℕ → List ℕ
 insert v [] = v ∷ []
 insert v (x ∷ c) = cond (ltb x v) (v ∷ x ∷ c) (x ∷ insert v c)
+
+-- whether a number is an item from 1 to the limit that a combination lacks
+unfoldable pub isFree : ℕ → ℕ → List ℕ → Bool
+isFree limit v c = ltb 0 v && (leb v limit && not (holds v c))
+
+-- an item from 1 to the limit put into a combination that lacks it; else nothing changes
+unfoldable pub including : ℕ → ℕ → List ℕ → List ℕ
+including limit v c = cond (isFree limit v c) (insert v c) c
 
 -- an item taken out of a combination; where it is absent nothing changes
 abbrev pub remove : ℕ → List ℕ → List ℕ

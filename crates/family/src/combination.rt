@@ -1,6 +1,6 @@
 // A combination of items from 1 to 512 in sixteen words.
 ghost use mathlib.Core.Path.{_≡_};
-ghost use Rattle.family.specs.Combination.{holds, remove, isNone, itemsOf};
+ghost use Rattle.family.specs.Combination.{holds, including, remove, isNone, itemsOf};
 
 // Item i is bit (i - 1) modulo 32 of word (i - 1) / 32.
 pub struct Combination {
@@ -34,6 +34,26 @@ impl Combination {
             let word = self.words[at];
             self.words[at] = word - (1 << (place % 32));
         }
+        self
+    }
+
+    // The same combination with the item put in; nothing changes where it is held or lies outside 1 to 512.
+    pub fn including(mut self, item: u32) -> Combination
+        ensures { λ r. ⌜ itemsOf (r .words) ≡ including 512 item (itemsOf (self .words)) ⌝ }
+    {
+        if item == 0 {
+            return self;
+        }
+        if 512 < item {
+            return self;
+        }
+        if self.contains(item) {
+            return self;
+        }
+        let place = item - 1;
+        let at = (place / 32) as usize;
+        let word = self.words[at];
+        self.words[at] = word + (1 << (place % 32));
         self
     }
 

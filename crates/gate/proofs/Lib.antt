@@ -1,0 +1,2 @@
+-- The laws of `gate`.
+pub mod Onward

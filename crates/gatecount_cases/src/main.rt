@@ -1,0 +1,21 @@
+// Prints the report on each file that its arguments name, read seven bytes at a time.
+use libc::STDOUT_FILENO;
+
+fn report_on(i: usize) {
+    let mut path = io::buffer();
+    let length = os::arg(i, &mut path);
+    io::write_all(STDOUT_FILENO, &path[..length]);
+    io::write_all(STDOUT_FILENO, b":\n");
+    let fd = os::open_read(&path[..length]);
+    if !gate::report_on(fd, 7) {
+        os::fail(&path[..length]);
+    }
+    libc::close(fd);
+}
+
+fn main() {
+    let count = os::arg_count();
+    for i in 1..count {
+        report_on(i);
+    }
+}
