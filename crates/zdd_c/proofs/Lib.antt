@@ -1,0 +1,3 @@
+-- The ways out of the exports.
+pub mod Showing
+pub mod Handing

@@ -1,0 +1,44 @@
+// Size and Has.
+ghost use Rattle.family.specs.Combination.{itemsOf};
+ghost use Rattle.queries.specs.Membership.{HasCall};
+ghost use Rattle.queries.specs.Sizes.{SizeCall};
+ghost use Rattle.zdd_c.specs.Export.{Exported, measuredOf, askedOf};
+use crate::given::CAsked;
+use crate::given::CCombination;
+use crate::given::CMeasured;
+use crate::given::CStore;
+use crate::given::asked;
+use crate::given::measured;
+use crate::given::taken;
+use family::combination::Combination;
+use queries::has::has;
+use queries::size::size;
+
+// The number of members of p; the scratch then holds the size of every node held.
+#[no_mangle]
+pub extern "C" fn zdd_size(
+    store: CStore,
+    nodes: &[u32],
+    lookup: &[u32],
+    p: u32,
+    sizes: &mut [u64],
+) -> CMeasured
+    ensures { λ r. ⌜ Exported measuredOf (λ s b. SizeCall s (now (nodes .entry)) (now (lookup .entry)) p (now (sizes .entry)) b (now (sizes .exit))) store r ⌝ }
+{
+    measured(size(taken(store), nodes, lookup, p, sizes))
+}
+
+// Whether the combination is a member of p.
+#[no_mangle]
+pub extern "C" fn zdd_has(
+    store: CStore,
+    nodes: &[u32],
+    lookup: &[u32],
+    p: u32,
+    combination: CCombination,
+) -> CAsked
+    ensures { λ r. ⌜ Exported askedOf (λ s b. HasCall s (now (nodes .entry)) (now (lookup .entry)) p (itemsOf (combination .words)) b) store r ⌝ }
+{
+    let words = combination.words;
+    asked(has(taken(store), nodes, lookup, p, Combination { words: words }))
+}

@@ -1,0 +1,21 @@
+// Audit.
+ghost use Rattle.audit.specs.Promise.{AuditCall};
+ghost use Rattle.zdd_c.specs.Export.{Exported, auditedOf};
+use crate::given::CAudited;
+use crate::given::CStore;
+use crate::given::audited;
+use crate::given::taken;
+use audit::audit::audit;
+
+// Zeroes the whole cache groups and says whether the store is then sound.
+#[no_mangle]
+pub extern "C" fn zdd_audit(
+    store: CStore,
+    nodes: &[u32],
+    lookup: &[u32],
+    cache: &mut [u32],
+) -> CAudited
+    ensures { λ r. ⌜ Exported auditedOf (λ s b. AuditCall s (now (nodes .entry)) (now (lookup .entry)) (now (cache .entry)) b (now (cache .exit))) store r ⌝ }
+{
+    audited(audit(taken(store), nodes, lookup, cache))
+}

@@ -1,0 +1,7 @@
+// The public calls for C and Rust: each function hands on the answer of one call.
+pub mod asking;
+pub mod auditing;
+pub mod filing;
+pub mod given;
+pub mod making;
+pub mod placing;

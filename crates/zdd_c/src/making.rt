@@ -1,0 +1,33 @@
+// Fresh, Empty and Base.
+ghost use mathlib.Core.Path.{_≡_};
+ghost use Rattle.store.specs.Fresh.{FreshCall};
+ghost use Rattle.zdd_c.specs.Export.{ExportedFresh};
+use crate::given::CFreshened;
+use crate::given::freshened;
+use store::fresh::base;
+use store::fresh::empty;
+use store::fresh::fresh;
+
+// Makes an empty store of the lent words.
+#[no_mangle]
+pub extern "C" fn zdd_fresh(nodes: &mut [u32], lookup: &mut [u32], cache: &mut [u32]) -> CFreshened
+    ensures { λ r. ⌜ ExportedFresh (λ b. FreshCall (now (nodes .entry)) (now (lookup .entry)) (now (cache .entry)) b (now (nodes .exit)) (now (lookup .exit)) (now (cache .exit))) r ⌝ }
+{
+    freshened(fresh(nodes, lookup, cache))
+}
+
+// The handle of {}.
+#[no_mangle]
+pub extern "C" fn zdd_empty() -> u32
+    ensures { λ r. ⌜ r ≡ 0 ⌝ }
+{
+    empty()
+}
+
+// The handle of {{}}.
+#[no_mangle]
+pub extern "C" fn zdd_base() -> u32
+    ensures { λ r. ⌜ r ≡ 1 ⌝ }
+{
+    base()
+}
