@@ -1,0 +1,30 @@
+//! Families of combinations of the items 1 to 512, kept as zero-suppressed decision diagrams by a proved library.
+//!
+//! [`Store`] owns its words and is what most programs want. [`calls`] has the same calls over lent words, with the
+//! record by value, as `include/zdd.h` has them for C.
+//!
+//! ```
+//! use zdd::{Combination, Refusal, Store};
+//!
+//! let mut store = Store::new(100, 64)?;
+//! let one = store.change(Store::BASE, 1)?;
+//! let two = store.change(Store::BASE, 512)?;
+//! let both = store.union(one, two)?;
+//! assert_eq!(store.size(both)?, 2);
+//! assert!(store.has(both, Combination::of([512])?)?);
+//! assert_eq!(store.change(both, 513), Err(Refusal::Item));
+//! # Ok::<(), Refusal>(())
+//! ```
+#![warn(missing_docs)]
+
+mod answer;
+pub mod calls;
+mod combination;
+mod raw;
+mod refusal;
+mod store;
+
+pub use answer::{Asked, Audited, Freshened, Measured, Placed, Record, Saved};
+pub use combination::Combination;
+pub use refusal::Refusal;
+pub use store::Store;

@@ -1,0 +1,82 @@
+//! The functions of libzdd_c.a, as include/zdd.h has them.
+use crate::{Asked, Audited, Combination, Freshened, Measured, Placed, Record, Saved};
+
+extern "C" {
+    pub fn zdd_fresh(
+        nodes: *mut u32,
+        node_words: usize,
+        lookup: *mut u32,
+        lookup_words: usize,
+        cache: *mut u32,
+        cache_words: usize,
+    ) -> Freshened;
+    pub fn zdd_empty() -> u32;
+    pub fn zdd_base() -> u32;
+    pub fn zdd_size(
+        store: Record,
+        nodes: *const u32,
+        node_words: usize,
+        lookup: *const u32,
+        lookup_words: usize,
+        p: u32,
+        scratch: *mut u64,
+        scratch_words: usize,
+    ) -> Measured;
+    pub fn zdd_has(
+        store: Record,
+        nodes: *const u32,
+        node_words: usize,
+        lookup: *const u32,
+        lookup_words: usize,
+        p: u32,
+        combination: Combination,
+    ) -> Asked;
+    pub fn zdd_save(
+        store: Record,
+        nodes: *const u32,
+        node_words: usize,
+        lookup: *const u32,
+        lookup_words: usize,
+        p: u32,
+        scratch: *mut u32,
+        scratch_words: usize,
+        out: *mut u8,
+        out_bytes: usize,
+    ) -> Saved;
+    pub fn zdd_load(
+        store: Record,
+        nodes: *mut u32,
+        node_words: usize,
+        lookup: *mut u32,
+        lookup_words: usize,
+        cache: *mut u32,
+        cache_words: usize,
+        file: *const u8,
+        file_bytes: usize,
+        scratch: *mut u32,
+        scratch_words: usize,
+    ) -> Placed;
+    pub fn zdd_audit(
+        store: Record,
+        nodes: *const u32,
+        node_words: usize,
+        lookup: *const u32,
+        lookup_words: usize,
+        cache: *mut u32,
+        cache_words: usize,
+    ) -> Audited;
+}
+
+/// The shape of the six operations: the record, the words, a family and an item, or two families.
+pub type Operation =
+    unsafe extern "C" fn(Record, *mut u32, usize, *mut u32, usize, *mut u32, usize, u32, u32) -> Placed;
+
+macro_rules! operations {
+    ($($name:ident)*) => {
+        extern "C" {
+            $(pub fn $name(store: Record, nodes: *mut u32, node_words: usize, lookup: *mut u32, lookup_words: usize, cache: *mut u32, cache_words: usize, p: u32, q: u32) -> Placed;)*
+        }
+    };
+}
+
+operations! { zdd_subset1 zdd_subset0 zdd_change zdd_union zdd_intsec zdd_diff }

@@ -1,0 +1,120 @@
+//! A store that owns its words.
+use crate::calls::{self, Words};
+use crate::{Combination, Placed, Record, Refusal};
+
+/// A store of families. A handle names a family for as long as the store lives; equal families have equal handles.
+#[derive(Clone, Debug)]
+pub struct Store {
+    record: Record,
+    nodes: Vec<u32>,
+    lookup: Vec<u32>,
+    cache: Vec<u32>,
+}
+
+impl Store {
+    /// The handle of {}.
+    pub const EMPTY: u32 = 0;
+    /// The handle of {{}}.
+    pub const BASE: u32 = 1;
+
+    /// An empty store for so many nodes, with a cache of so many groups. A capacity above 1,000,000 counts as that; 0 is
+    /// refused as `Tiny`.
+    pub fn new(capacity: u32, cache_groups: usize) -> Result<Store, Refusal> {
+        let nodes = capacity.min(1_000_000) as usize;
+        Store::with_lengths(3 * nodes, 2 * nodes + 1, cache_groups.saturating_mul(4))
+    }
+
+    /// An empty store with so many node, lookup and cache words.
+    pub fn with_lengths(nodes: usize, lookup: usize, cache: usize) -> Result<Store, Refusal> {
+        let mut store =
+            Store { record: Record::default(), nodes: vec![0; nodes], lookup: vec![0; lookup], cache: vec![0; cache] };
+        store.record =
+            calls::fresh(Words { nodes: &mut store.nodes, lookup: &mut store.lookup, cache: &mut store.cache })
+                .result()?;
+        Ok(store)
+    }
+
+    /// The record: capacity and count.
+    pub fn record(&self) -> Record {
+        self.record
+    }
+
+    /// The node words: item, zero child and one child of node k from word 3(k - 2) on.
+    pub fn nodes(&self) -> &[u32] {
+        &self.nodes
+    }
+
+    /// The lookup words.
+    pub fn lookup(&self) -> &[u32] {
+        &self.lookup
+    }
+
+    fn placing(&mut self, call: impl FnOnce(Record, Words<'_>) -> Placed) -> Result<u32, Refusal> {
+        let words = Words { nodes: &mut self.nodes, lookup: &mut self.lookup, cache: &mut self.cache };
+        let placed = call(self.record, words);
+        self.record = placed.store;
+        placed.result()
+    }
+
+    /// The members of p with the item, the item taken out. Refusals: Handle, Item, Full.
+    pub fn subset1(&mut self, p: u32, item: u32) -> Result<u32, Refusal> {
+        self.placing(|record, words| calls::subset1(record, words, p, item))
+    }
+
+    /// The members of p without the item. Refusals: Handle, Item, Full.
+    pub fn subset0(&mut self, p: u32, item: u32) -> Result<u32, Refusal> {
+        self.placing(|record, words| calls::subset0(record, words, p, item))
+    }
+
+    /// The members of p with the item put in where absent and taken out where present. Refusals: Handle, Item, Full.
+    pub fn change(&mut self, p: u32, item: u32) -> Result<u32, Refusal> {
+        self.placing(|record, words| calls::change(record, words, p, item))
+    }
+
+    /// The combinations in p or in q. Refusals: Handle, Full.
+    pub fn union(&mut self, p: u32, q: u32) -> Result<u32, Refusal> {
+        self.placing(|record, words| calls::union(record, words, p, q))
+    }
+
+    /// The combinations in p and in q. Refusals: Handle, Full.
+    pub fn intsec(&mut self, p: u32, q: u32) -> Result<u32, Refusal> {
+        self.placing(|record, words| calls::intsec(record, words, p, q))
+    }
+
+    /// The combinations in p and not in q. Refusals: Handle, Full.
+    pub fn diff(&mut self, p: u32, q: u32) -> Result<u32, Refusal> {
+        self.placing(|record, words| calls::diff(record, words, p, q))
+    }
+
+    /// The number of members of p. Refusals: Handle, Large.
+    pub fn size(&self, p: u32) -> Result<u64, Refusal> {
+        let mut scratch = vec![0; self.record.count as usize];
+        calls::size(self.record, &self.nodes, &self.lookup, p, &mut scratch).result()
+    }
+
+    /// Whether the combination is a member of p. Refusal: Handle.
+    pub fn has(&self, p: u32, combination: Combination) -> Result<bool, Refusal> {
+        calls::has(self.record, &self.nodes, &self.lookup, p, combination).result()
+    }
+
+    /// The file of p. Refusal: Handle.
+    pub fn save(&self, p: u32) -> Result<Vec<u8>, Refusal> {
+        let count = self.record.count as usize;
+        let mut scratch = vec![0; count];
+        let mut file = vec![0; 5 + 11 * count];
+        let length = calls::save(self.record, &self.nodes, &self.lookup, p, &mut scratch, &mut file).result()?;
+        file.truncate(length);
+        Ok(file)
+    }
+
+    /// Places the family of a file, from a store of any size. Refusals: NoFile, Full.
+    pub fn load(&mut self, file: &[u8]) -> Result<u32, Refusal> {
+        let mut scratch = vec![0; 6 * file.len()];
+        self.placing(|record, words| calls::load(record, words, file, &mut scratch))
+    }
+
+    /// Zeroes the cache and says whether the store is sound.
+    pub fn audit(&mut self) -> bool {
+        calls::audit(self.record, &self.nodes, &self.lookup, &mut self.cache).sound
+    }
+}

@@ -1,0 +1,144 @@
+//! Unsound stores: what document 01 asks of a call there, and Audit's verdict against a plain reading of the words.
+use crate::faults::{faulty, made_up};
+use crate::lists::{any_call, Makings};
+use crate::observe::compare;
+use crate::plain::book::Book;
+use crate::plain::call::{Answer, Call};
+use crate::plain::sound::{book_of, fits, is_sound, is_true};
+use crate::random::Random;
+use crate::shelf::{Seen, Shelf};
+use crate::tally::Tally;
+
+// How often Audit said yes and no, and how often another call met a store of each kind.
+#[derive(Default)]
+struct Tallies {
+    sound: Tally,
+    certain: Tally,
+    unsound: Tally,
+    audit_yes: u64,
+    audit_no: u64,
+}
+
+fn zeroed(cache: &[u32]) -> Vec<u32> {
+    let whole = cache.len() / 4 * 4;
+    [&vec![0; whole][..], &cache[whole..]].concat()
+}
+
+// On every store Audit zeroes the whole groups, changes nothing else and says whether the rest is sound.
+fn audit(rng: &mut Random, store: &Shelf, tallies: &mut Tallies) {
+    let mut shelf = store.clone();
+    let cache = store.cache.words();
+    let seen = shelf.call(&Call::Audit, cache.len(), rng);
+    let sound = is_sound(store.record, store.nodes.words(), store.lookup.words());
+    assert_eq!(seen.answer, Answer { yes: sound, ..Answer::default() }, "Audit of {:?}", store.record);
+    assert_eq!(shelf.record, store.record);
+    assert_eq!(shelf.nodes.words(), store.nodes.words());
+    assert_eq!(shelf.lookup.words(), store.lookup.words());
+    assert_eq!(shelf.cache.words(), zeroed(cache));
+    *(if sound { &mut tallies.audit_yes } else { &mut tallies.audit_no }) += 1;
+}
+
+// 10 is certain: nothing changes.
+fn certain(before: &Shelf, after: &Shelf, call: &Call, seen: &Seen) {
+    assert_eq!(seen.answer, Answer { refusal: 10, ..Answer::default() }, "{call:?} on {:?}", before.record);
+    assert_eq!(after.record, before.record);
+    assert_eq!(after.nodes.words(), before.nodes.words());
+    assert_eq!(after.lookup.words(), before.lookup.words());
+    assert_eq!(after.cache.words(), before.cache.words());
+    assert_eq!(seen.scratch, seen.scratch_before);
+    assert_eq!(seen.out, seen.out_before);
+}
+
+// Any answer will do, but a refusal gives nothing and hands the record back as it came.
+fn unsound(before: &Shelf, after: &Shelf, call: &Call, seen: &Seen) {
+    let refusal = seen.answer.refusal;
+    assert!([0, 3, 4, 5, 6, 7, 8, 9, 10].contains(&refusal), "{call:?} gave {refusal}");
+    if refusal != 0 {
+        assert_eq!(seen.answer, Answer { refusal, ..Answer::default() }, "{call:?} on {:?}", before.record);
+        assert_eq!(after.record, before.record, "{call:?}");
+    }
+    assert_eq!(after.record.capacity, before.record.capacity);
+    match call {
+        Call::Operation { .. } | Call::Load { .. } => {}
+        _ => assert_eq!(after.record, before.record, "{call:?}"),
+    }
+}
+
+fn one(rng: &mut Random, store: &Shelf, call: &Call, tallies: &mut Tallies) {
+    let (nodes, lookup, cache) = (store.nodes.words(), store.lookup.words(), store.cache.words());
+    let mut shelf = store.clone();
+    if is_sound(store.record, nodes, lookup) {
+        let mut book = book_of(store.record, nodes);
+        if is_true(&book, cache) {
+            return compare(&mut shelf, &mut book, call, cache.len(), rng, &mut tallies.sound);
+        }
+    }
+    let seen = shelf.call(call, cache.len(), rng);
+    if fits(store.record, nodes, lookup) {
+        unsound(store, &shelf, call, &seen);
+        tallies.unsound.add(call.name(), seen.answer.refusal);
+    } else {
+        certain(store, &shelf, call, &seen);
+        tallies.certain.add(call.name(), seen.answer.refusal);
+    }
+}
+
+fn stores(seed: u64, stores: usize, make: fn(&mut Random, &[u32]) -> Shelf) -> Tallies {
+    let mut rng = Random::new(seed);
+    let mut tallies = Tallies::default();
+    let files = vec![
+        vec![0],
+        vec![2],
+        vec![],
+        vec![1, 1, 0, 0, 0, 0],
+        vec![1, 2, 0, 0, 0, 0, 6, 2, 0, 0, 0, 1, 0, 0, 0],
+        vec![1, 1, 0, 0, 0, 1, 9, 1],
+    ];
+    for _ in 0..stores {
+        let len = 1 + rng.below(6);
+        let makings = Makings { pool: rng.pool(len), files: files.clone() };
+        let store = make(&mut rng, &makings.pool);
+        audit(&mut rng, &store, &mut tallies);
+        let book = Book::with_count(store.record.count.min(20));
+        for _ in 0..12 {
+            let call = any_call(&mut rng, &book, &makings);
+            if !matches!(call, Call::Audit) {
+                one(&mut rng, &store, &call, &mut tallies);
+            }
+        }
+    }
+    tallies
+}
+
+#[test]
+fn stores_with_faults() {
+    let tallies = stores(41, 25_000, faulty);
+    println!(
+        "stores with faults: Audit said yes {} and no {} times, as the words are",
+        tallies.audit_yes, tallies.audit_no
+    );
+    assert!(tallies.audit_yes > 1000 && tallies.audit_no > 10_000);
+    tallies.certain.close(
+        "stores with a certain 10",
+        500,
+        &[("Union", &[10]), ("Has", &[10]), ("Size", &[10]), ("Save", &[10]), ("Load", &[10])],
+    );
+    tallies.unsound.close(
+        "unsound stores without a certain 10",
+        50,
+        &[("Union", &[0, 4]), ("Change", &[0]), ("Has", &[0]), ("Save", &[0])],
+    );
+    tallies.sound.close("stores that the faults left sound", 50, &[("Union", &[0]), ("Save", &[0]), ("Load", &[0])]);
+}
+
+#[test]
+fn made_up_stores() {
+    let tallies = stores(42, 25_000, made_up);
+    println!(
+        "made-up stores: Audit said yes {} and no {} times, as the words are",
+        tallies.audit_yes, tallies.audit_no
+    );
+    assert!(tallies.audit_yes > 1000 && tallies.audit_no > 5000);
+    tallies.unsound.close("made-up unsound stores", 50, &[("Union", &[0, 10]), ("Change", &[0])]);
+    tallies.sound.close("made-up sound stores", 50, &[("Union", &[0]), ("Save", &[0]), ("Load", &[0])]);
+}

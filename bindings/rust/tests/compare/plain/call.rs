@@ -1,0 +1,108 @@
+//! 'Calls' and 'Numbers and trade words': the answer of each call, worked out from the book.
+use super::book::Book;
+use super::family::{named, Combination, Family};
+use super::file::{family_of, file_of};
+
+/// A call with its arguments; scratch and output by their lengths.
+#[derive(Clone, Debug)]
+pub enum Call {
+    Operation { op: u32, p: u32, q: u32 },
+    Size { p: u32, scratch: usize },
+    Has { p: u32, combination: Combination },
+    Save { p: u32, scratch: usize, out: usize },
+    Load { file: Vec<u8>, scratch: usize },
+    Audit,
+}
+
+/// All that a call gives but the record.
+#[derive(Clone, PartialEq, Eq, Debug, Default)]
+pub struct Answer {
+    pub refusal: u32,
+    pub handle: u32,
+    pub size: u64,
+    pub yes: bool,
+    pub length: usize,
+    pub file: Vec<u8>,
+}
+
+fn refused(refusal: u32) -> Answer {
+    Answer { refusal, ..Answer::default() }
+}
+
+impl Call {
+    /// The name, for the tally.
+    pub fn name(&self) -> &'static str {
+        match self {
+            Call::Operation { op, .. } => ["", "Subset1", "Subset0", "Change", "Union", "Intsec", "Diff"][*op as usize],
+            Call::Size { .. } => "Size",
+            Call::Has { .. } => "Has",
+            Call::Save { .. } => "Save",
+            Call::Load { .. } => "Load",
+            Call::Audit => "Audit",
+        }
+    }
+}
+
+impl Book {
+    /// The answer to a call in a store of this capacity; the book then is the one after the call.
+    pub fn answer(&mut self, capacity: u32, call: &Call) -> Answer {
+        let held = self.count() as usize;
+        match call {
+            Call::Operation { op, p, q } => self.operation(capacity, *op, *p, *q),
+            Call::Load { file, scratch } => self.load(capacity, file, *scratch),
+            Call::Audit => Answer { yes: true, ..Answer::default() },
+            Call::Has { p, combination } => match self.at(*p) {
+                None => refused(4),
+                Some(f) => Answer { yes: f.contains(combination), ..Answer::default() },
+            },
+            Call::Size { p, scratch } => match self.at(*p) {
+                None => refused(4),
+                Some(_) if *scratch < held => refused(7),
+                Some(f) => Answer { size: f.len() as u64, ..Answer::default() },
+            },
+            Call::Save { p, scratch, out } => match self.at(*p) {
+                None => refused(4),
+                Some(_) if *scratch < held => refused(7),
+                Some(f) => saved(file_of(f), *out),
+            },
+        }
+    }
+
+    fn operation(&mut self, capacity: u32, op: u32, p: u32, q: u32) -> Answer {
+        let Some(first) = self.at(p) else { return refused(4) };
+        let f = if op < 4 {
+            if q == 0 || q > 512 {
+                return refused(3);
+            }
+            named(op, first, q, &Family::new())
+        } else {
+            let Some(second) = self.at(q) else { return refused(4) };
+            named(op, first, 0, second)
+        };
+        self.placed(capacity, &f)
+    }
+
+    fn load(&mut self, capacity: u32, file: &[u8], scratch: usize) -> Answer {
+        if scratch < 6 * file.len() {
+            return refused(7);
+        }
+        match family_of(file) {
+            None => refused(9),
+            Some(f) => self.placed(capacity, &f),
+        }
+    }
+
+    fn placed(&mut self, capacity: u32, f: &Family) -> Answer {
+        if self.missing(f) > (capacity - self.count()) as usize {
+            return refused(5);
+        }
+        Answer { handle: self.place(f), ..Answer::default() }
+    }
+}
+
+fn saved(file: Vec<u8>, out: usize) -> Answer {
+    if out < file.len() {
+        return refused(8);
+    }
+    Answer { length: file.len(), file, ..Answer::default() }
+}

@@ -1,0 +1,67 @@
+//! A small generator of numbers with fixed seeds: every run compares the same cases.
+use crate::plain::family::Combination;
+
+pub struct Random(u64);
+
+impl Random {
+    pub fn new(seed: u64) -> Random {
+        Random(seed.wrapping_mul(0x9E37_79B9_7F4A_7C15) | 1)
+    }
+
+    /// The next number (xorshift).
+    pub fn next(&mut self) -> u64 {
+        self.0 ^= self.0 << 13;
+        self.0 ^= self.0 >> 7;
+        self.0 ^= self.0 << 17;
+        self.0.wrapping_mul(0x2545_F491_4F6C_DD1D) >> 11
+    }
+
+    /// A number below n.
+    pub fn below(&mut self, n: usize) -> usize {
+        (self.next() % n.max(1) as u64) as usize
+    }
+
+    /// Once in n times.
+    pub fn once_in(&mut self, n: usize) -> bool {
+        self.below(n) == 0
+    }
+
+    pub fn pick<T: Clone>(&mut self, all: &[T]) -> T {
+        all[self.below(all.len())].clone()
+    }
+
+    pub fn word(&mut self) -> u32 {
+        self.next() as u32
+    }
+
+    /// Words of any value, zero at times.
+    pub fn junk(&mut self, len: usize) -> Vec<u32> {
+        (0..len).map(|_| if self.once_in(4) { 0 } else { self.word() }).collect()
+    }
+
+    /// A number about n: one less, n itself, or some more.
+    pub fn about(&mut self, n: usize) -> usize {
+        match self.below(5) {
+            0 => n.saturating_sub(1),
+            1 => n.saturating_sub(1 + self.below(n.max(1))),
+            2 => n + 1 + self.below(9),
+            _ => n,
+        }
+    }
+
+    /// A set of items out of a pool.
+    pub fn combination(&mut self, pool: &[u32]) -> Combination {
+        pool.iter().copied().filter(|_| self.once_in(2)).collect()
+    }
+
+    /// So many different items; the ends of the range are likely.
+    pub fn pool(&mut self, len: usize) -> Vec<u32> {
+        let mut items = Combination::new();
+        while items.len() < len {
+            let any = 1 + self.below(512) as u32;
+            let near = 1 + self.below(2 * len) as u32;
+            items.insert(self.pick(&[any, near, near, 1, 512]));
+        }
+        items.into_iter().collect()
+    }
+}

@@ -1,0 +1,84 @@
+// The record handed in, and how much of the words is lent.
+ghost use Prim.Native.Nat.{_≤_};
+use crate::draw::at_most;
+use crate::draw::size_below;
+use store::record::Store;
+
+// What a call is handed besides its own arguments.
+pub struct Lent {
+    pub record: Store,
+    pub slots: usize,
+    pub cache: usize,
+}
+
+// The record: seldom one that does not fit the words.
+fn handed(d: u32, store: Store) -> Store {
+    let way = d % 64;
+    let capacity = store.capacity;
+    if way == 0 {
+        return Store {
+            capacity: std::num::wrapping_add_u32(capacity, 1),
+            count: store.count,
+        };
+    }
+    if way == 1 {
+        return Store {
+            capacity: std::num::wrapping_sub_u32(capacity, 1),
+            count: store.count,
+        };
+    }
+    if way == 2 {
+        return Store {
+            capacity: capacity,
+            count: std::num::wrapping_add_u32(capacity, 1),
+        };
+    }
+    store
+}
+
+// The lookup: seldom only as much of it as the capacity.
+fn slots(d: u32, capacity: u32, length: usize) -> usize {
+    if d % 64 == 3 {
+        return at_most(capacity as usize, length);
+    }
+    length
+}
+
+// The cache: none, a part, or all.
+pub fn part(x: u32, whole: bool, length: usize) -> usize {
+    if whole {
+        return length;
+    }
+    let way = x % 8;
+    if way == 0 {
+        return 0;
+    }
+    if way < 3 {
+        return size_below(x / 8, std::num::wrapping_add_usize(length, 1));
+    }
+    length
+}
+
+// Draws what is lent.
+pub fn lend(x: u32, d: u32, whole: bool, store: Store, lookup: usize, cache: usize) -> Lent {
+    Lent {
+        record: handed(d, store),
+        slots: slots(d, store.capacity, lookup),
+        cache: part(x, whole, cache),
+    }
+}
+
+// Scratch for so many words: seldom one too few or just enough, else all that there is.
+pub fn scratch(x: u32, needed: usize, all: usize) -> usize {
+    let way = x % 8;
+    if way == 0 {
+        if needed == 0 {
+            return 0;
+        }
+        return needed - 1;
+    }
+    if way == 1 {
+        return needed;
+    }
+    all
+}

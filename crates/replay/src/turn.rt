@@ -1,0 +1,271 @@
+// One turn of a list: draws a call, runs it and writes its line.
+use crate::audits;
+use crate::craft::craft;
+use crate::craft::put;
+use crate::draw::Drawn;
+use crate::draw::at_most;
+use crate::draw::draw;
+use crate::draw::handle;
+use crate::draw::size_below;
+use crate::lend::lend;
+use crate::lend::scratch;
+use crate::loads;
+use crate::loads::Reading;
+use crate::loads::needed;
+use crate::loads::taken;
+use crate::members;
+use crate::output::length;
+use crate::output::text;
+use crate::output::word;
+use crate::placing;
+use crate::placing::drawn_operation;
+use crate::placing::next_record;
+use crate::saves;
+use crate::saves::Room;
+use crate::sizes;
+use store::record::Store;
+
+// The draw, the record last given back, and the length of the file in the buffer.
+pub struct State {
+    pub draw: u32,
+    pub store: Store,
+    pub length: usize,
+}
+
+// How the calls of a list are drawn: the items, and whether the cache is always lent whole.
+pub struct Manner {
+    pub items: u32,
+    pub whole: bool,
+}
+
+// The state with another record.
+pub fn with_record(state: State, store: Store) -> State {
+    State {
+        draw: state.draw,
+        store: store,
+        length: state.length,
+    }
+}
+
+// The state with another draw and another file in the buffer.
+fn with_file(state: State, draw: u32, length: usize) -> State {
+    let store = state.store;
+    State {
+        draw: draw,
+        store: store,
+        length: length,
+    }
+}
+
+// An operation.
+fn operation(
+    op: u32,
+    drawn: Drawn,
+    manner: Manner,
+    state: State,
+    nodes: &mut [u32],
+    lookup: &mut [u32],
+    cache: &mut [u32],
+) -> State {
+    let store = state.store;
+    let call = drawn_operation(op, drawn, manner.items, store.count);
+    let lent = lend(
+        drawn.c,
+        drawn.d,
+        manner.whole,
+        store,
+        lookup.len(),
+        cache.len(),
+    );
+    let placed = placing::line(call, lent, nodes, lookup, cache);
+    with_record(state, next_record(placed, store))
+}
+
+// Size.
+fn size(drawn: Drawn, state: State, nodes: &[u32], lookup: &[u32]) -> State {
+    let store = state.store;
+    let p = handle(drawn.a, store.count);
+    let lent = lend(0, drawn.d, true, store, lookup.len(), 0);
+    let words = scratch(drawn.c, store.count as usize, 1100);
+    sizes::line(p, words, lent, nodes, lookup);
+    state
+}
+
+// Has.
+fn has(drawn: Drawn, manner: Manner, state: State, nodes: &[u32], lookup: &[u32]) -> State {
+    let store = state.store;
+    let p = handle(drawn.a, store.count);
+    let lent = lend(0, drawn.d, true, store, lookup.len(), 0);
+    let combination = members::combination(drawn, manner.items, nodes, p);
+    members::line(p, combination, lent, nodes, lookup);
+    state
+}
+
+// The output: seldom a few bytes, else all of the buffer.
+fn output(x: u32, all: usize) -> usize {
+    if x % 8 == 0 {
+        return (x / 8 % 40) as usize;
+    }
+    all
+}
+
+// Save.
+fn save(drawn: Drawn, state: State, nodes: &[u32], lookup: &[u32], file: &mut [u8]) -> State {
+    let store = state.store;
+    let p = handle(drawn.a, store.count);
+    let lent = lend(0, drawn.d, true, store, lookup.len(), 0);
+    let room = Room {
+        words: scratch(drawn.c, store.count as usize, 1100),
+        bytes: output(drawn.b, file.len()),
+    };
+    let last = saves::lines(p, room, lent, nodes, lookup, file, state.length);
+    with_file(state, state.draw, last)
+}
+
+// Load.
+fn load(
+    drawn: Drawn,
+    manner: Manner,
+    state: State,
+    nodes: &mut [u32],
+    lookup: &mut [u32],
+    cache: &mut [u32],
+    file: &[u8],
+) -> State {
+    let store = state.store;
+    let lent = lend(
+        drawn.a,
+        drawn.d,
+        manner.whole,
+        store,
+        lookup.len(),
+        cache.len(),
+    );
+    let bytes = at_most(taken(drawn.c, state.length, file.len()), file.len());
+    let reading = Reading {
+        bytes: bytes,
+        words: scratch(drawn.b, needed(bytes), 12400),
+    };
+    let placed = loads::line(reading, lent, nodes, lookup, cache, file);
+    with_record(state, next_record(placed, store))
+}
+
+// Audit.
+fn audit(
+    drawn: Drawn,
+    manner: Manner,
+    state: State,
+    nodes: &mut [u32],
+    lookup: &mut [u32],
+    cache: &mut [u32],
+) -> State {
+    let lent = lend(
+        drawn.c,
+        drawn.d,
+        manner.whole,
+        state.store,
+        lookup.len(),
+        cache.len(),
+    );
+    audits::lines(drawn, lent, nodes, lookup, cache);
+    state
+}
+
+// A drawn file into the buffer.
+fn crafted(drawn: Drawn, state: State, file: &mut [u8]) -> State {
+    let made = craft(file, drawn);
+    text(b"Craft");
+    saves::bytes(file, made.length);
+    text(b"\n");
+    with_file(state, made.draw, made.length)
+}
+
+// A drawn byte into the file in the buffer.
+fn damaged(drawn: Drawn, state: State, file: &mut [u8]) -> State {
+    let at = size_below(drawn.a, state.length);
+    let mut value = drawn.c % 8;
+    if drawn.b % 4 == 0 {
+        value = drawn.c % 256;
+    }
+    put(file, at, value);
+    text(b"Byte");
+    length(at);
+    word(value);
+    text(b"\n");
+    state
+}
+
+// The number of the operation that a kind stands for.
+fn operation_of(kind: u32) -> u32 {
+    if kind < 3 {
+        return 1;
+    }
+    if kind < 6 {
+        return 2;
+    }
+    if kind < 12 {
+        return 3;
+    }
+    if kind < 17 {
+        return 4;
+    }
+    if kind < 20 {
+        return 5;
+    }
+    6
+}
+
+// Size, Has or Save.
+fn reading(
+    kind: u32,
+    drawn: Drawn,
+    manner: Manner,
+    state: State,
+    nodes: &[u32],
+    lookup: &[u32],
+    file: &mut [u8],
+) -> State {
+    if kind < 25 {
+        return size(drawn, state, nodes, lookup);
+    }
+    if kind < 27 {
+        return has(drawn, manner, state, nodes, lookup);
+    }
+    save(drawn, state, nodes, lookup, file)
+}
+
+// A drawn file or a drawn byte.
+fn writing(kind: u32, drawn: Drawn, state: State, file: &mut [u8]) -> State {
+    if kind < 39 {
+        return crafted(drawn, state, file);
+    }
+    damaged(drawn, state, file)
+}
+
+// Draws a call, runs it and writes its line.
+pub fn turn(
+    manner: Manner,
+    state: State,
+    nodes: &mut [u32],
+    lookup: &mut [u32],
+    cache: &mut [u32],
+    file: &mut [u8],
+) -> State {
+    let drawn = draw(state.draw);
+    let now = with_file(state, drawn.d, state.length);
+    let kind = drawn.kind % 40;
+    if kind < 23 {
+        let op = operation_of(kind);
+        return operation(op, drawn, manner, now, nodes, lookup, cache);
+    }
+    if kind < 29 {
+        return reading(kind, drawn, manner, now, nodes, lookup, file);
+    }
+    if kind < 34 {
+        return load(drawn, manner, now, nodes, lookup, cache, file);
+    }
+    if kind < 36 {
+        return audit(drawn, manner, now, nodes, lookup, cache);
+    }
+    writing(kind, drawn, now, file)
+}

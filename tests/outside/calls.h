@@ -1,0 +1,230 @@
+// The calls: the answers of document 01, and their lines.
+#pragma once
+#include <algorithm>
+#include "drawing.h"
+
+static const char *NAMES[] = {"", "Subset1", "Subset0", "Change", "Union", "Intsec", "Diff"};
+
+// A refusal of a call that is lent the cache: after 5 the whole groups are 0, else all of it stays.
+static void refused_placing(int n) {
+    refused(n);
+    text(n == 5 ? " cleared yes" : " stays yes");
+}
+
+// Places a family, or refuses with 5; gives its handle, 0 for a refusal.
+static u32 placed(Family f) {
+    if (capacity - count() < parts_not_held(f)) {
+        refused_placing(5);
+        return 0;
+    }
+    place(f);
+    num(number[f]);
+    return number[f];
+}
+
+// One of the six operations; gives its handle, 0 for a refusal.
+static u32 operation(u32 op, u32 p, u32 q, const Lent &lent, size_t cache) {
+    called(NAMES[op]);
+    text(NAMES[op]);
+    num(p);
+    num(q);
+    text(" lent");
+    num(lent.slots);
+    num(cache);
+    text(":");
+    u32 handle = 0, n = lent.n;
+    if (lent.damaged) refused_placing(10);
+    else if (!held(p) || (4 <= op && !held(q))) refused_placing(4);
+    else if (op < 4 && (q < 1 || 512 < q)) refused_placing(3);
+    else {
+        handle = placed(operated(op, book[p], op < 4 ? EMPTY : book[q], q));
+        n = count();
+    }
+    record(n, lent.room);
+    sum_of_words();
+    text("\n");
+    return handle;
+}
+
+// Size; the scratch is summed whole.
+static void size_call(u32 p, const Lent &lent, size_t words) {
+    called("Size");
+    text("Size");
+    num(p);
+    text(" lent");
+    num(lent.slots);
+    num(words);
+    text(":");
+    std::vector<u64> lent_sizes(1100, 12297829382473034410ull);
+    if (lent.damaged) refused(10);
+    else if (!held(p)) refused(4);
+    else if (words < count()) refused(7);
+    else {
+        for (u32 j = 0; j < count(); j++) {
+            Size s = size_of(book[j + 2]);
+            lent_sizes[j] = MOST < s ? MOST : (u64)s;
+        }
+        if (MOST < size_of(book[p])) refused(6);
+        else num((u64)size_of(book[p]));
+    }
+    record(lent.n, lent.room);
+    u32 s = 1;
+    for (size_t k = 0; k < lent_sizes.size(); k++) s = sum_word(sum_word(s, (u32)lent_sizes[k]), (u32)(lent_sizes[k] >> 32));
+    sum(s);
+    text("\n");
+}
+
+// A member of p that the draw picks; the empty combination where p is not held.
+static Combination drawn_member(u32 p, u32 draw) {
+    Combination c;
+    if (!held(p)) return c;
+    Family f = book[p];
+    while (!leaf(f)) {
+        draw = step(draw);
+        if (draw % 2 == 0 && without_side(f) != EMPTY) f = without_side(f);
+        else { c.toggle(top(f)); f = with_side(f); }
+    }
+    return c;
+}
+
+// A combination: empty, a single item, a member of p, or a member with an item put in or taken out.
+static Combination drawn_combination(const Drawn &drawn, u32 items, u32 p) {
+    u32 way = drawn.d / 64 % 4, item = drawn_item(drawn.b, items);
+    Combination c;
+    if (way == 0) return c;
+    if (2 <= way) c = drawn_member(p, drawn.c);
+    if (way != 2) c.toggle(item);
+    return c;
+}
+
+// Has.
+static void has_call(u32 p, const Combination &c, const Lent &lent) {
+    called("Has");
+    text("Has");
+    num(p);
+    text(" items");
+    for (u32 item = 1; item <= 512; item++)
+        if (c.in[item]) num(item);
+    text(" lent");
+    num(lent.slots);
+    text(":");
+    if (lent.damaged) refused(10);
+    else if (!held(p)) refused(4);
+    else {
+        yes_no(is_member(book[p], c));
+        tally[is_member(book[p], c) ? "Has yes" : "Has no"]++;
+    }
+    record(lent.n, lent.room);
+    text("\n");
+}
+
+static Bytes buffer(2048, 0); // Save's output and Load's input
+static size_t file_length = 0;
+
+// Save; the output is summed whole. Gives the file's length, 0 for a refusal.
+static size_t save_call(u32 p, const Lent &lent, size_t words, size_t room) {
+    called("Save");
+    text("Save");
+    num(p);
+    text(" lent");
+    num(lent.slots);
+    num(words);
+    num(room);
+    text(":");
+    size_t length = 0;
+    if (lent.damaged) refused(10);
+    else if (!held(p)) refused(4);
+    else if (words < count()) refused(7);
+    else {
+        Bytes file = file_of(book[p]);
+        if (room < file.size()) refused(8);
+        else {
+            length = file.size();
+            std::copy(file.begin(), file.end(), buffer.begin());
+            num(length);
+        }
+    }
+    text(" kept yes");
+    record(lent.n, lent.room);
+    u32 s = 1;
+    for (size_t k = 0; k < buffer.size(); k++) s = sum_word(s, buffer[k]);
+    sum(s);
+    text("\n");
+    return length;
+}
+
+// Save; where it gives a length, also into just that many bytes and into one less.
+static void save_calls(u32 p, const Lent &lent, size_t words, size_t room) {
+    size_t length = save_call(p, lent, words, room);
+    if (length == 0) return;
+    text("File");
+    bytes(buffer, length);
+    text("\n");
+    save_call(p, lent, words, length);
+    save_call(p, lent, words, length - 1);
+    file_length = length;
+}
+
+// Load of the buffer's first bytes.
+static void load_call(size_t n, const Lent &lent, size_t cache, size_t words) {
+    called("Load");
+    text("Load");
+    num(n);
+    text(" lent");
+    num(lent.slots);
+    num(cache);
+    num(words);
+    text(":");
+    Bytes file(buffer.begin(), buffer.begin() + n);
+    Family f;
+    u32 held_after = lent.n;
+    if (lent.damaged) refused_placing(10);
+    else if (words < 6 * n) refused_placing(7);
+    else if (!family_of(file, f)) refused_placing(9);
+    else {
+        tally[placed(f) || f == EMPTY ? "Load placed" : "Load full"]++;
+        held_after = count();
+    }
+    record(held_after, lent.room);
+    sum_of_words();
+    text(" kept yes\n");
+}
+
+// How many bytes are loaded: mostly the last file's; seldom none, one less, one more, or any number.
+static size_t drawn_length(u32 x) {
+    size_t n = file_length;
+    switch (x % 16) {
+    case 0: n = 0; break;
+    case 1: n = n - 1; break;
+    case 2: n = n + 1; break;
+    case 3: n = x / 16 % (buffer.size() + 1); break;
+    }
+    return buffer.size() < n ? buffer.size() : n;
+}
+
+// Audit of the store as it is, or with one word changed.
+static void audit_call(const Drawn &drawn, const Lent &lent, size_t cache) {
+    called("Audit");
+    std::vector<u32> nodes(all_nodes.begin(), all_nodes.begin() + node_words);
+    std::vector<u32> lookup(all_lookup.begin(), all_lookup.begin() + slots);
+    u32 way = drawn.d / 64 % 4, value = drawn.b % 8;
+    text("Audit");
+    if (way < 2) {
+        std::vector<u32> &words = way == 0 ? nodes : lookup;
+        size_t at = drawn.a % words.size();
+        words[at] = value;
+        text(way == 0 ? " with node word" : " with slot");
+        num(at);
+        num(value);
+    }
+    lookup.resize(lent.slots);
+    text(" lent");
+    num(lent.slots);
+    num(cache);
+    text(":");
+    bool is_sound = sound(nodes, lookup, lent.room, lent.n);
+    tally[is_sound ? "Audit yes" : "Audit no"]++;
+    yes_no(is_sound);
+    record(lent.n, lent.room);
+    text(" cleared yes\n");
+}

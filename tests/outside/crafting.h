@@ -1,0 +1,73 @@
+// Drawn files and drawn bytes.
+#pragma once
+#include "calls.h"
+
+// Puts the low byte of a number into the buffer, if it reaches so far.
+static void put(size_t at, u32 x) { if (at < buffer.size()) buffer[at] = (uint8_t)x; }
+
+// Puts a field where its bit stands; gives the next place.
+static size_t put_field(size_t at, bool stands, int bytes, u32 x) {
+    if (!stands) return at;
+    for (int k = 0; k < bytes; k++) put(at + k, x >> (8 * k));
+    return at + bytes;
+}
+
+static u32 craft_item(u32 x, u32 before) {
+    u32 way = x % 32;
+    if (way == 0) return 512 + x / 32 % 2;
+    if (way == 1) return before;
+    if (way < 4) return 1 + x / 32 % 4;
+    if (way < 8) return before + 1 + x / 32 % 3;
+    return before + 1;
+}
+
+static u32 craft_zero(u32 x, u32 local) {
+    if (x % 2 == 0) return 0;
+    if (x % 64 == 1) return local;
+    return x / 64 % local;
+}
+
+static u32 craft_one(u32 x, u32 local) {
+    u32 way = x % 64;
+    if (way == 0) return 0;
+    if (way == 1) return local;
+    if (way < 8) return 1 + x / 64 % (local - 1);
+    return local - 1;
+}
+
+// Puts a drawn file at the front of the buffer: a few records, mostly near to those of a true file.
+static void craft(const Drawn &drawn) {
+    u32 parts = 1 + drawn.a % 6, way = drawn.b % 32, item = 0;
+    put(0, way == 0 ? drawn.c : 1);
+    put_field(1, true, 4, way == 1 ? parts + 1 : way == 2 ? parts - 1 : parts);
+    size_t at = 5;
+    for (u32 local = 2; local < parts + 2; local++) {
+        u32 a = step(state), b = step(a), c = step(b), d = step(c);
+        u32 next = craft_item(a, item), zero = craft_zero(b, local), one = craft_one(c, local);
+        u32 bits = (next != item + 1) + 2 * (zero != 0) + 4 * (one != local - 1);
+        if (d % 32 == 0) bits |= d / 32 % 16;
+        put(at, bits);
+        at = put_field(at + 1, bits & 1, 2, next);
+        at = put_field(at, bits & 2, 4, zero);
+        at = put_field(at, bits & 4, 4, one);
+        item = next;
+        state = d;
+    }
+    file_length = way == 3 ? at + 1 : at;
+    text("Craft");
+    bytes(buffer, file_length);
+    text("\n");
+    tally["file drawn"]++;
+}
+
+// Puts a drawn byte into the file in the buffer.
+static void damage(const Drawn &drawn) {
+    size_t at = file_length == 0 ? 0 : drawn.a % file_length;
+    u32 value = drawn.b % 4 == 0 ? drawn.c % 256 : drawn.c % 8;
+    put(at, value);
+    text("Byte");
+    num(at);
+    num(value);
+    text("\n");
+    tally["byte drawn"]++;
+}

@@ -1,0 +1,93 @@
+// The xorshift, and what is drawn with it.
+#pragma once
+#include "book.h"
+#include "output.h"
+
+static u32 state = 2463534242u;
+
+// One step of the xorshift.
+static u32 step(u32 x) {
+    x ^= x << 13;
+    x ^= x >> 17;
+    return x ^ (x << 5);
+}
+
+// A sum with one word more.
+static u32 sum_word(u32 s, u32 w) { return step(s + w); }
+static void sum(u32 s) { text(" sum "); hex(s, 8); }
+
+// Writes the sum of the node words and the lookup.
+static void sum_of_words() {
+    u32 s = 1;
+    for (size_t k = 0; k < node_words; k++) s = sum_word(s, all_nodes[k]);
+    for (size_t k = 0; k < slots; k++) s = sum_word(s, all_lookup[k]);
+    sum(s);
+}
+
+struct Drawn { u32 kind, a, b, c, d; };
+
+// The five numbers drawn for a call.
+static Drawn draw() {
+    Drawn drawn;
+    drawn.kind = step(state);
+    drawn.a = step(drawn.kind);
+    drawn.b = step(drawn.a);
+    drawn.c = step(drawn.b);
+    drawn.d = step(drawn.c);
+    state = drawn.d;
+    return drawn;
+}
+
+// A handle: often one of the newest eight, else any that is held; seldom one that is too large.
+static u32 drawn_handle(u32 x) {
+    u32 way = x % 32, pick = x / 32;
+    if (way == 0) return count() + 2;
+    if (way == 1) return 4294967295u;
+    if (way < 16 && 8 <= count()) return count() + 1 - pick % 8;
+    return pick % (count() + 2);
+}
+
+// An item; seldom 512, or a number that is no item.
+static u32 drawn_item(u32 x, u32 items) {
+    switch (x % 32) {
+    case 0: return 0;
+    case 1: return 513;
+    case 2: return 512;
+    case 3: return 4294967295u;
+    default: return 1 + x / 32 % items;
+    }
+}
+
+// The record handed in, the lookup lent, and whether the two call for 10 on the words of this list.
+struct Lent {
+    u32 room, n;
+    size_t slots;
+    bool damaged;
+};
+
+static Lent lend(u32 d) {
+    Lent lent = {capacity, count(), slots, false};
+    switch (d % 64) {
+    case 0: lent.room = capacity + 1; break;
+    case 1: lent.room = capacity - 1; break;
+    case 2: lent.n = capacity + 1; break;
+    case 3: lent.slots = capacity; break;
+    }
+    lent.damaged = lent.room != node_words / 3 || lent.slots <= lent.room || lent.room < lent.n;
+    return lent;
+}
+
+// How much of the cache is lent: none, a part, or all.
+static size_t cache_part(u32 x, bool whole, size_t cache) {
+    if (whole) return cache;
+    if (x % 8 == 0) return 0;
+    if (x % 8 < 3) return x / 8 % (cache + 1);
+    return cache;
+}
+
+// How much scratch is lent: seldom one word too few or just enough, else all.
+static size_t scratch(u32 x, size_t needed, size_t all) {
+    if (x % 8 == 0) return needed == 0 ? 0 : needed - 1;
+    if (x % 8 == 1) return needed;
+    return all;
+}

@@ -1,0 +1,126 @@
+// The comparison runs' other side: draws the same lists of calls as the crate `replay` and works out every answer from
+// document 01 alone. The families are CUDD's zero-suppressed diagrams; nothing of this library is used.
+#include "crafting.h"
+
+// One drawn call.
+static void turn(u32 items, bool whole, size_t cache) {
+    Drawn drawn = draw();
+    u32 kind = drawn.kind % 40;
+    Lent lent = lend(drawn.d);
+    if (kind < 23) {
+        u32 op = kind < 3 ? 1 : kind < 6 ? 2 : kind < 12 ? 3 : kind < 17 ? 4 : kind < 20 ? 5 : 6;
+        u32 q = op < 4 ? drawn_item(drawn.b, items) : drawn_handle(drawn.b);
+        operation(op, drawn_handle(drawn.a), q, lent, cache_part(drawn.c, whole, cache));
+    } else if (kind < 25) {
+        size_call(drawn_handle(drawn.a), lent, scratch(drawn.c, count(), 1100));
+    } else if (kind < 27) {
+        u32 p = drawn_handle(drawn.a);
+        has_call(p, drawn_combination(drawn, items, p), lent);
+    } else if (kind < 29) {
+        size_t room = drawn.b % 8 == 0 ? drawn.b / 8 % 40 : buffer.size();
+        save_calls(drawn_handle(drawn.a), lent, scratch(drawn.c, count(), 1100), room);
+    } else if (kind < 34) {
+        size_t n = drawn_length(drawn.c);
+        load_call(n, lent, cache_part(drawn.a, whole, cache), scratch(drawn.b, 6 * n, 12400));
+    } else if (kind < 36) {
+        audit_call(drawn, lent, cache_part(drawn.c, whole, cache));
+    } else if (kind < 39) {
+        craft(drawn);
+    } else {
+        damage(drawn);
+    }
+}
+
+// An operation with all words lent, and the size of what it gives.
+static u32 measured_operation(u32 op, u32 p, u32 q, size_t cache) {
+    u32 handle = operation(op, p, q, lend(63), cache);
+    size_call(handle, lend(63), 1100);
+    return handle;
+}
+
+// All subsets of 1 to 64 items, and families of 2^64 - 1 members and of one more.
+static void subsets(size_t cache) {
+    u32 all = 1;
+    for (u32 item = 1; item <= 64; item++) {
+        u32 changed = measured_operation(3, all, item, cache);
+        all = measured_operation(4, all, changed, cache);
+    }
+    u32 less = measured_operation(6, all, 1, cache);
+    measured_operation(3, less, 65, cache);
+    measured_operation(3, all, 65, cache);
+    u32 single = measured_operation(3, 1, 65, cache);
+    measured_operation(4, less, single, cache);
+}
+
+// Fresh: a book with {} and {{}} alone.
+static void fresh(size_t words, size_t lookup, size_t cache) {
+    node_words = words;
+    slots = lookup;
+    capacity = 0;
+    book.assign(1, EMPTY);
+    book.push_back(BASE);
+    number.clear();
+    number[EMPTY] = 0;
+    number[BASE] = 1;
+    called("Fresh");
+    text("Fresh");
+    num(words);
+    num(lookup);
+    num(cache);
+    text(":");
+    u32 room = (u32)std::min(words / 3, (size_t)1000000);
+    if (words < 3) refused(1);
+    else if (lookup <= room) refused(2);
+    else {
+        capacity = room;
+        std::fill(all_nodes.begin(), all_nodes.begin() + 3 * room, 0);
+        std::fill(all_lookup.begin(), all_lookup.begin() + lookup, 0);
+        text(" done cleared yes");
+    }
+    record(0, capacity);
+    sum_of_words();
+    text("\n");
+}
+
+// A list: Fresh, the drawn calls, and the words at its end. One with more than 16 items always lends its whole cache.
+static void list(size_t words, size_t lookup, size_t cache, u32 items, u32 calls) {
+    fresh(words, lookup, cache);
+    if (items == 70) subsets(cache);
+    for (u32 k = 0; k < calls; k++) turn(items, 16 < items, cache);
+    text("Nodes");
+    for (size_t k = 0; k < node_words; k++) num(all_nodes[k]);
+    text("\nLookup");
+    for (size_t k = 0; k < slots; k++) num(all_lookup[k]);
+    text("\nSpare cache words kept yes\n");
+}
+
+// Node words, lookup words, cache words, items and drawn calls of each list.
+static const u32 LISTS[][5] = {
+    {2, 5, 8, 3, 0},
+    {14, 4, 8, 3, 0},
+    {3, 2, 0, 2, 80},
+    {12, 7, 0, 3, 150},
+    {600, 211, 255, 9, 260},
+    {14, 5, 3, 2, 150},
+    {43, 15, 4, 4, 250},
+    {901, 307, 4099, 512, 260},
+    {75, 64, 0, 4, 250},
+    {151, 53, 29, 5, 300},
+    {240, 83, 64, 6, 300},
+    {3002, 2053, 4096, 70, 260},
+};
+
+int main(int argc, char **argv) {
+    manager = pbori_Cudd_Init(0, 512, CUDD_UNIQUE_SLOTS, CUDD_CACHE_SLOTS, 0);
+    if (!manager) return 2;
+    EMPTY = keep(pbori_Cudd_ReadZero(manager));
+    BASE = keep(pbori_Cudd_ReadZddOne(manager, 512)); // past the last variable: {{}} itself
+    all_nodes.assign(3010, 2779096485u);
+    all_lookup.assign(2060, 2779096485u);
+    for (const u32 *l : LISTS) list(l[0], l[1], l[2], l[3], l[4]);
+    if (argc == 2 && std::strcmp(argv[1], "--tally") == 0) {
+        for (const std::pair<const std::string, int> &t : tally) std::printf("%s: %d\n", t.first.c_str(), t.second);
+        return 0;
+    }
+    return std::fwrite(out.data(), 1, out.size(), stdout) == out.size() ? 0 : 2;
+}
