@@ -8,3 +8,4 @@ pub mod Closings
 pub mod Reports
 pub mod Meanings
 pub mod Growths
+pub mod Grammar

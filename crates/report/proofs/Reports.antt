@@ -68,7 +68,7 @@ module _ (b : ℕ) (n : b ≡ 10 → ⊥) where
 step-spoiled : (s : State) (b : ℕ) → s .progress ≡ malformed → step s b .progress ≡ malformed
 step-spoiled s b e = by-test (eqb (s .left) 0) (λ t. rw t) (λ t. rw t (ap (λ p. advance p b) e))
 
-spoiled : (s : State) (x : List ℕ) → s .progress ≡ malformed → foldl step s x .progress ≡ malformed
+pub spoiled : (s : State) (x : List ℕ) → s .progress ≡ malformed → foldl step s x .progress ≡ malformed
 spoiled s [] e = e
 spoiled s (b ∷ x) e = spoiled (step s b) x (step-spoiled s b e)
 
