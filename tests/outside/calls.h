@@ -87,16 +87,9 @@ static Combination drawn_member(u32 p, u32 draw) {
     return c;
 }
 
-// An item to ask for: often the last of all or the last of a word, else one that is drawn.
-static u32 asked_item(u32 x, u32 items) {
-    if (x % 4 == 0) return 512;
-    if (x % 4 == 1) return 32 * (1 + x / 4 % 16);
-    return drawn_item(x, items);
-}
-
 // A combination: empty, a single item, a member of p, or a member with an item put in or taken out.
 static Combination drawn_combination(const Drawn &drawn, u32 items, u32 p) {
-    u32 way = drawn.d / 64 % 4, item = asked_item(drawn.b, items);
+    u32 way = drawn.d / 64 % 4, item = drawn_item(drawn.b, items);
     Combination c;
     if (way == 0) return c;
     if (2 <= way) c = drawn_member(p, drawn.c);

@@ -16,25 +16,13 @@ use queries::has::Asked;
 use queries::has::HasAnswer;
 use queries::has::has;
 
-// An item to ask for: often the last of all or the last of a word, else one that is drawn.
-fn asked_item(x: u32, items: u32) -> u32 {
-    let way = x % 4;
-    if way == 0 {
-        return 512;
-    }
-    if way == 1 {
-        return 32 * (1 + x / 4 % 16);
-    }
-    item(x, items)
-}
-
 // A combination: empty, a single item, a member of p, or a member with an item put in or taken out.
 pub fn combination(drawn: Drawn, items: u32, nodes: &[u32], p: u32) -> Combination {
     let way = drawn.d / 64 % 4;
     if way == 0 {
         return none();
     }
-    let one = asked_item(drawn.b, items);
+    let one = item(drawn.b, items);
     if way == 1 {
         return toggled(none(), one);
     }
