@@ -1,5 +1,5 @@
 // Moves bytes: reads a log from a descriptor in pieces, and writes what the report comes to.
-ghost use Rattle.gate.specs.Following.{Follows, Reported};
+ghost use Rattle.gate.specs.Following.{Follows, Reported, Ran};
 use libc::STDOUT_FILENO;
 use report::sums::close;
 use report::tally::Ending;
@@ -136,7 +136,9 @@ fn make_report(fd: i32, most: usize, out: &mut [u8; 128]) -> Report
 
 // Reads a log of passed and returned panels from a descriptor, at most so many bytes at a time, and writes the report to
 // standard output. False where a read failed, and then nothing is written, or where a write failed.
-pub fn report_on(fd: i32, most: usize) -> bool {
+pub fn report_on(fd: i32, most: usize) -> bool
+    ensures { λ r. ⌜ Ran r ⌝ }
+{
     let mut out = [0u8; 128];
     let report = make_report(fd, most, &mut out);
     if !report.made {

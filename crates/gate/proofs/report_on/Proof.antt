@@ -1,17 +1,21 @@
--- The report that was made is written.
--- Its bytes lie within the output.
+-- `report_on` says yes only where a report was made, and hands its bytes to the system.
+-- Its bytes lie within the output; without a report it says no.
 use borrow.Author.Needs.{needs}
-use mathlib.Core.Path.{sym}
+use mathlib.Core.Path.{refl, sym}
 use lib.Seq.{length-take-le}
-use borrow.Author.Needs.{needs}
+use borrow.Author.Tests.{not-false}
+use Rattle.words.proofs.Cases.{clash}
 use Rattle.gate.proofs.report_on.Statement.{statement}
 use Rattle.gate.proofs.report_on.Tie as tie
+
+abbrev make-report·After-write-all : tie.After-write-all → tie.After-make-report
+make-report·After-write-all c = c .before .before .before .before
 
 make-report-requires : tie.Need-make-report-requires
 make-report-requires c κs = search needs
 
 returns : tie.Need-returns
-returns c = search needs
+returns c = record { report = _; out = _; is = (c .before .before) .make-report .ensures; made = λ e. clash e refl }
 
 array-share-prefix-out : tie.Need-array-share-prefix-out
 array-share-prefix-out c = search needs
@@ -20,7 +24,7 @@ write-all-requires : tie.Need-write-all-requires
 write-all-requires c κs = search needs
 
 returns-2 : tie.Need-returns-2
-returns-2 c = search needs
+returns-2 c = record { report = _; out = _; is = (make-report·After-write-all c) .make-report .ensures; made = λ e. not-false _ ((c .before .before) .if1 .left) }
 
 slice-aggregate-write-all : tie.Need-slice-aggregate-write-all
 slice-aggregate-write-all c = sym (length-take-le _ _ ((c .before .before .before) .make-report .ensures .inside))

@@ -35,7 +35,11 @@ spell-requires : tie.Need-spell-requires
 spell-requires c κs = omega (arith, (start·After-spell-arg c) .pre .0, (c .before .before .before) .put-word .ensures .end, (c .before .before .before) .put-word .kept .0, short-64 ((start·After-spell-arg c) .args .n) ((start·After-spell-arg c) .fits .n .fits))
 
 put-word-requires-2 : tie.Need-put-word-requires-2
-put-word-requires-2 c κs = omega (arith, (start·After-put-word-arg3 c) .pre .0, (start·After-put-word-arg3 c) .pre .1, (put-word·After-put-word-arg3 c) .put-word .ensures .end, (put-word·After-put-word-arg3 c) .put-word .kept .0, (c .before .before .before) .spell .ensures .end, (c .before .before .before) .spell .kept .0, short-64 ((start·After-put-word-arg3 c) .args .n) ((start·After-put-word-arg3 c) .fits .n .fits))
+put-word-requires-2 c κs =
+    let a = start·After-put-word-arg3 c in
+    let w = (put-word·After-put-word-arg3 c) .put-word in
+    let d = (c .before .before .before) .spell in
+    omega (arith, a .pre .0, a .pre .1, w .ensures .end, w .kept .0, d .ensures .end, d .kept .0, short-64 (a .args .n) (a .fits .n .fits))
 
 returns : tie.Need-returns
 returns c = wrote-then ((put-word·After-slice-known4 c) .put-word .ensures) (wrote-then ((spell·After-slice-known4 c) .spell .ensures) ((c .before .before) .put-word2 .ensures))

@@ -66,10 +66,31 @@ put-sum-requires-2 : tie.Need-put-sum-requires-2
 put-sum-requires-2 c κs = omega (arith, (start·After-put-sum-arg4 c) .pre, (put-sum·After-put-sum-arg4 c) .put-sum .ensures .end, (put-sum·After-put-sum-arg4 c) .put-sum .kept .0, sum-short passedWord ((start·After-put-sum-arg4 c) .args .passed) ((start·After-put-sum-arg4 c) .fits .passed .fits))
 
 put-sum-requires-3 : tie.Need-put-sum-requires-3
-put-sum-requires-3 c κs = omega (arith, (start·After-put-sum-arg6 c) .pre, (put-sum·After-put-sum-arg6 c) .put-sum .ensures .end, (put-sum·After-put-sum-arg6 c) .put-sum .kept .0, (put-sum2·After-put-sum-arg6 c) .put-sum2 .ensures .end, (put-sum2·After-put-sum-arg6 c) .put-sum2 .kept .0, sum-short passedWord ((start·After-put-sum-arg6 c) .args .passed) ((start·After-put-sum-arg6 c) .fits .passed .fits), sum-short returnedWord ((start·After-put-sum-arg6 c) .args .returned) ((start·After-put-sum-arg6 c) .fits .returned .fits))
+put-sum-requires-3 c κs =
+    let a = start·After-put-sum-arg6 c in
+    let p = (put-sum·After-put-sum-arg6 c) .put-sum in
+    let q = (put-sum2·After-put-sum-arg6 c) .put-sum2 in
+    omega (arith, a .pre, p .ensures .end, p .kept .0, q .ensures .end, q .kept .0, sum-short passedWord (a .args .passed) (a .fits .passed .fits), sum-short returnedWord (a .args .returned) (a .fits .returned .fits))
 
 put-sum-requires-4 : tie.Need-put-sum-requires-4
-put-sum-requires-4 c κs = omega (arith, (start·After-put-sum-arg8 c) .pre, (put-sum·After-put-sum-arg8 c) .put-sum .ensures .end, (put-sum·After-put-sum-arg8 c) .put-sum .kept .0, (put-sum2·After-put-sum-arg8 c) .put-sum2 .ensures .end, (put-sum2·After-put-sum-arg8 c) .put-sum2 .kept .0, (put-sum3·After-put-sum-arg8 c) .put-sum3 .ensures .end, (put-sum3·After-put-sum-arg8 c) .put-sum3 .kept .0, sum-short passedWord ((start·After-put-sum-arg8 c) .args .passed) ((start·After-put-sum-arg8 c) .fits .passed .fits), sum-short returnedWord ((start·After-put-sum-arg8 c) .args .returned) ((start·After-put-sum-arg8 c) .fits .returned .fits), sum-short bothWord ((start·After-put-sum-arg8 c) .args .both) ((start·After-put-sum-arg8 c) .fits .both .fits))
+put-sum-requires-4 c κs =
+    let a = start·After-put-sum-arg8 c in
+    let p = (put-sum·After-put-sum-arg8 c) .put-sum in
+    let q = (put-sum2·After-put-sum-arg8 c) .put-sum2 in
+    let o = (put-sum3·After-put-sum-arg8 c) .put-sum3 in
+    omega (
+      arith,
+      a .pre,
+      p .ensures .end,
+      p .kept .0,
+      q .ensures .end,
+      q .kept .0,
+      o .ensures .end,
+      o .kept .0,
+      sum-short passedWord (a .args .passed) (a .fits .passed .fits),
+      sum-short returnedWord (a .args .returned) (a .fits .returned .fits),
+      sum-short bothWord (a .args .both) (a .fits .both .fits),
+    )
 
 returns : tie.Need-returns
 returns c = wrote-then ((put-sum·After-slice-known5 c) .put-sum .ensures) (wrote-then ((put-sum2·After-slice-known5 c) .put-sum2 .ensures) (wrote-then ((put-sum3·After-slice-known5 c) .put-sum3 .ensures) ((c .before .before) .put-sum4 .ensures)))
