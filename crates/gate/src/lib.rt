@@ -2,10 +2,10 @@
 ghost use Rattle.gate.specs.Following.{Follows, Reported, Ran};
 use libc::STDOUT_FILENO;
 use report::sums::close;
-use report::tally::Ending;
-use report::tally::Tally;
-use report::tally::open_log;
-use report::tally::take_piece;
+use tally::tally::Ending;
+use tally::tally::Tally;
+use tally::tally::open_log;
+use tally::tally::take_piece;
 
 // Whether there may be more to read.
 pub enum Step {

@@ -11,12 +11,12 @@ use lib.ListN.{length, length-append}
 use borrow.Author.Tests.{eq-eqb, ne-eqb, leb-true, leb-false, le-leb, lt-leb}
 use Rattle.words.proofs.Cases.{by-test, by-eq, by-lt, clash}
 use Rattle.family.specs.Combination.{insert, isFree}
-use Rattle.report.specs.declared.line.Side.{Side}
-use Rattle.report.specs.declared.line.Side.the-variants.{Passed, Returned}
-use Rattle.report.specs.Line.{Progress, blank, letter, space, number, whole, malformed, first, gap, opened, isDigit, grown, closed, advance, State, begin, step, lineOf}
-use Rattle.report.specs.Text.{decimalOf}
-use Rattle.report.proofs.States.{first-passed, first-returned, first-other, opened-digit, opened-low, opened-high, number-digit, number-low, number-high, grown-low, grown-high, closed-not, gap-space, gap-newline, gap-other}
-use Rattle.report.proofs.Writings.{decimal-small, decimal-more}
+use Rattle.line.specs.declared.line.Side.{Side}
+use Rattle.line.specs.declared.line.Side.the-variants.{Passed, Returned}
+use Rattle.line.specs.Line.{Progress, blank, letter, space, number, whole, malformed, first, gap, opened, isDigit, grown, closed, advance, State, begin, step, lineOf}
+use Rattle.text.specs.Text.{decimalOf}
+use Rattle.line.proofs.States.{first-passed, first-returned, first-other, opened-digit, opened-low, opened-high, number-digit, number-low, number-high, grown-low, grown-high, closed-not, gap-space, gap-newline, gap-other}
+use Rattle.text.proofs.Writings.{decimal-small, decimal-more}
 use Rattle.report.proofs.Reports.{spoiled}
 
 -- the text of a line: the letter, each item after one space, the newline

@@ -13,7 +13,7 @@ use Rattle.family.specs.Operation.{change, lacking, holding, isBase, leaf, appl
 use Rattle.family.specs.Combination.{largest, Falling}
 use Rattle.family.proofs.Diagrams.{within-lacking, within-holding, rebuild, is-leaf}
 use Rattle.family.proofs.Laws.{union-law}
-use Rattle.report.specs.Adding.{Added, placed, next, made, added}
+use Rattle.adding.specs.Adding.{Added, placed, next, made, added}
 use Rattle.report.proofs.Closings.{placed-family}
 
 -- the family of one combination

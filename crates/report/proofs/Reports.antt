@@ -9,12 +9,12 @@ use lib.Dec.{eqb, leb}
 use borrow.Author.Tests.{eq-eqb, ne-eqb}
 use Rattle.words.proofs.Cases.{by-test, by-eq}
 use Rattle.family.specs.Combination.{insert, isFree}
-use Rattle.report.specs.declared.line.Side.{Side}
-use Rattle.report.specs.declared.tally.Ending.{Ending}
-use Rattle.report.specs.declared.tally.Ending.the-variants.{Going, Refused, Full}
-use Rattle.report.specs.Line.{Progress, blank, letter, space, number, whole, malformed, first, gap, opened, isDigit, grown, closed, advance, State, begin, step, lineOf}
-use Rattle.report.specs.Text.{lineText, refusedWord, fullWord}
-use Rattle.report.specs.Log.{Lot, Taken, takeLine, Log, opening, counted, readOn, whileGoing, logByte, feed, capped, closing, lastOf, endOf, outputOf}
+use Rattle.line.specs.declared.line.Side.{Side}
+use Rattle.tally.specs.declared.tally.Ending.{Ending}
+use Rattle.tally.specs.declared.tally.Ending.the-variants.{Going, Refused, Full}
+use Rattle.line.specs.Line.{Progress, blank, letter, space, number, whole, malformed, first, gap, opened, isDigit, grown, closed, advance, State, begin, step, lineOf}
+use Rattle.text.specs.Text.{lineText, refusedWord, fullWord}
+use Rattle.tally.specs.Log.{Lot, Taken, takeLine, Log, opening, counted, readOn, whileGoing, logByte, feed, capped, closing, lastOf, endOf, outputOf}
 use Rattle.report.specs.Report.{onto, linesOf, nextLine, onLine, reportFrom, reportOf}
 
 -- a newline ends a line

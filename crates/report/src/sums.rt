@@ -1,15 +1,15 @@
 // The end of a report: the closing sums, or the line that ended the log.
 ghost use Prim.Native.Nat.{_≤_};
 ghost use lib.ListN.{length};
-ghost use Rattle.report.specs.Log.{CloseCall};
+ghost use Rattle.tally.specs.Log.{CloseCall};
 ghost use Rattle.report.specs.Ends.{SizeIt, SizesIt, SumsIt, EndIt};
-use crate::line::Stage;
-use crate::tally::Ending;
-use crate::tally::Tally;
-use crate::tally::bumped;
-use crate::text::put_line;
-use crate::text::put_sums;
-use crate::text::put_word;
+use line::line::Stage;
+use tally::tally::Ending;
+use tally::tally::Tally;
+use tally::tally::bumped;
+use text::text::put_line;
+use text::text::put_sums;
+use text::text::put_word;
 use operations::calls::diff;
 use operations::calls::intsec;
 use queries::size::SizeAnswer;

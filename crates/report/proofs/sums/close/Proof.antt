@@ -1,7 +1,7 @@
 -- What a log comes to: the end of one that goes on, or the number of the line that ended it.
 -- The tally's ending is the log's.
 use borrow.Author.Needs.{needs}
-use Rattle.report.specs.Text.{refusedWord, fullWord}
+use Rattle.text.specs.Text.{refusedWord, fullWord}
 use mathlib.Core.Path.{refl}
 use Rattle.report.proofs.Closings.{close-going, close-ended}
 use borrow.Author.Needs.{needs}

@@ -1,0 +1,3 @@
+-- The laws of `adding`.
+pub mod Placings
+pub mod Makings

@@ -1,0 +1,3 @@
+-- What the contracts of `adding` cite.
+pub mod Adding
+pub mod Inner

@@ -1,0 +1,2 @@
+// A combination added to a family.
+pub mod adding;

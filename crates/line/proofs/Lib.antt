@@ -1,0 +1,2 @@
+-- The laws of `line`.
+pub mod States

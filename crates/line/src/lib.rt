@@ -1,0 +1,2 @@
+// One line of a log, byte by byte.
+pub mod line;

@@ -1,0 +1,27 @@
+-- What the functions below `take_piece` promise each other. A reader of the promises can pass this page over.
+use Prim.Native.Nat.{ℕ}
+use mathlib.Core.Path.{_≡_}
+use mathlib.Core.List.{List}
+use Rattle.store.specs.declared.record.Store.{Store}
+use Rattle.line.specs.declared.line.Side.{Side}
+use Rattle.tally.specs.declared.tally.Ending.{Ending}
+use Rattle.tally.specs.declared.tally.Tally.{Tally}
+use Rattle.line.specs.Line.{begin, step, stateOf}
+use Rattle.tally.specs.Log.{Log, takeLine, counted, readOn, Keeps}
+
+-- a tally by its fields, behind the end of a line
+pub record TallyIs (s : Store) (passed returned lines : ℕ) (e : Ending) (t : Tally) : Type 0 where
+  pub store-is : t .store ≡ s
+  pub passed-is : t .passed ≡ passed
+  pub returned-is : t .returned ≡ returned
+  pub lines-is : t .lines ≡ lines
+  pub line-is : stateOf (t .reading) ≡ begin
+  pub ending-is : t .ending ≡ e
+
+-- a whole line taken
+pub record LineIt (t : Tally) (nodes lookup cache : List ℕ) (d : Side) (c : List ℕ) (r : Tally) (nodes′ lookup′ cache′ : List ℕ) : Type 0 where
+  pub keeps : (capacity : ℕ) (g : Log) → Keeps capacity t nodes lookup cache g → Keeps capacity r nodes′ lookup′ cache′ (counted g (takeLine capacity (g .lot) d c))
+
+-- one byte more of the line, whatever the ending was
+pub record NextIt (t : Tally) (nodes lookup cache : List ℕ) (b : ℕ) (r : Tally) (nodes′ lookup′ cache′ : List ℕ) : Type 0 where
+  pub keeps : (capacity : ℕ) (g : Log) → Keeps capacity t nodes lookup cache g → Keeps capacity r nodes′ lookup′ cache′ (readOn capacity g (step (g .line) b) (step (g .line) b .progress))

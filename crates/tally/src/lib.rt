@@ -1,0 +1,2 @@
+// The tally of a log: its lines read and its two families grown.
+pub mod tally;

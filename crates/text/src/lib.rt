@@ -1,0 +1,2 @@
+// The report's lines as text.
+pub mod text;
