@@ -6,7 +6,7 @@ ghost use Rattle.adding.specs.Inner.{ChangeIt, MakeIt};
 use family::combination::Combination;
 use operations::calls::change;
 use operations::calls::union;
-use store::fresh::base;
+use fresh::fresh::base;
 use store::record::PlaceAnswer;
 use store::record::Placed;
 use store::record::Store;

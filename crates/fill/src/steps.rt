@@ -18,7 +18,7 @@ use crate::output::text;
 use crate::output::told;
 use audit::audit::audit;
 use operations::calls::change;
-use store::fresh::fresh;
+use fresh::fresh::fresh;
 use store::record::Placed;
 use store::record::Store;
 

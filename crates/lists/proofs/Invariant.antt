@@ -13,12 +13,12 @@ use Rattle.words.proofs.Cases.{by-test}
 use Rattle.words.proofs.Zeroed.{zeroed-length}
 use Rattle.family.specs.Family.{Family}
 use Rattle.family.specs.Book.{start, Book}
-use Rattle.store.specs.declared.fresh.Freshened.{Freshened}
+use Rattle.fresh.specs.declared.fresh.Freshened.{Freshened}
 use Rattle.store.specs.Capacity.{capacityOf}
 use Rattle.store.specs.Words.{itemLimit, bookOf}
 use Rattle.store.specs.Sound.{Sound}
 use Rattle.store.specs.Inner.{Holds}
-use Rattle.store.specs.Fresh.{freshNumber, freshOf, FreshCall}
+use Rattle.fresh.specs.Fresh.{freshNumber, freshOf, FreshCall}
 use Rattle.store.proofs.Decoding.{sound-holds}
 use Rattle.store.proofs.Sounds.{fresh-sound}
 use Rattle.lists.specs.Calls.{Call, Answer}

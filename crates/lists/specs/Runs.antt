@@ -7,9 +7,9 @@ use lib.ListN.{length, take, drop}
 use Rattle.family.specs.Combination.{itemsOf}
 use Rattle.store.specs.declared.record.Store.{Store}
 use Rattle.store.specs.declared.record.Placed.{Placed}
-use Rattle.store.specs.declared.fresh.Freshened.{Freshened}
+use Rattle.fresh.specs.declared.fresh.Freshened.{Freshened}
 use Rattle.store.specs.Refusals.{Given, givenBy}
-use Rattle.store.specs.Fresh.{freshNumber, FreshCall}
+use Rattle.fresh.specs.Fresh.{freshNumber, FreshCall}
 use Rattle.operations.specs.Promise.{OperationCall}
 use Rattle.queries.specs.declared.size.Measured.{Measured}
 use Rattle.queries.specs.declared.has.Asked.{Asked}

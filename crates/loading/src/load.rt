@@ -13,7 +13,7 @@ use records::read::four;
 use store::record::Placed;
 use store::record::Refusal;
 use store::record::Store;
-use store::rollback::finish;
+use rollback::rollback::finish;
 use words::zero;
 
 // What a file holds: {} or {{}} by its handle, so many parts in the local table, or no family.

@@ -4,7 +4,7 @@ ghost use Prim.Native.Nat.{_+_, _*_, _<_, _≤_};
 ghost use lib.ListN.{length, getD};
 ghost use Rattle.store.specs.Inner.{Roomy, NodeIt};
 ghost use Rattle.loading.specs.Inner.{handleIn, NodeAt, Nodes, Handles, PlacedOf};
-use store::make::get_node;
+use making::make::get_node;
 use store::record::PlaceAnswer;
 use store::record::Placed;
 use store::record::Store;

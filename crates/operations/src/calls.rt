@@ -9,7 +9,7 @@ use store::node::top_of;
 use store::record::Placed;
 use store::record::Refusal;
 use store::record::Store;
-use store::rollback::finish;
+use rollback::rollback::finish;
 
 // An operation on two families.
 fn of_families(

@@ -30,8 +30,7 @@ use Rattle.store.specs.Sound.{Sound}
 use Rattle.store.specs.Placing.{costOf, tooLarge, placeAnswer, placeBook}
 use Rattle.store.specs.Promise.{Left, leaves, placing, cacheRefused, Placed-sound, PlaceCall}
 use Rattle.store.specs.Inner.{Roomy, Holds, Handed, Answer, gave, full, Kept, RolledBack, Ran, Finished}
-use Rattle.store.proofs.Fitting.{Fits, fits-true, true-fits}
-use Rattle.store.proofs.Freshly.{store-is}
+use Rattle.store.proofs.Fitting.{store-is, Fits, fits-true, true-fits}
 use Rattle.store.proofs.Held.{handle-of}
 use Rattle.store.proofs.Decoding.{sound-holds}
 use Rattle.store.proofs.Encoding.{looked-up, laid-out}

@@ -1,4 +1,4 @@
--- When a record fits words of some lengths and holds a handle: the tests part by part, and what they say where they pass.
+-- A record as its two numbers; and when it fits words of some lengths and holds a handle: the tests part by part, and what they say where they pass.
 -- Each is one branch of the definition.
 use Prim.Native.Nat.{ℕ, _+_, _-_, _*_, _≤_, _<_}
 use mathlib.Core.Path.{_≡_, refl, sym, _∙_}
@@ -7,7 +7,12 @@ use native.Mathlib.Omega.{arith}
 use lib.Dec.{eqb, ltb, leb}
 use borrow.Author.Tests.{eq-eqb, ne-eqb, lt-ltb, le-ltb, le-leb, lt-leb, eqb-true, ltb-true, leb-true, leb-false, not-true, not-false}
 use Rattle.words.proofs.Cases.{by-lt, and-inv}
+use Rattle.store.specs.declared.record.Store.{Store}
 use Rattle.store.specs.Capacity.{capacityOf, fitting}
+
+-- a record is its two numbers
+pub store-is : {s : Store} {c n : ℕ} → s .capacity ≡ c → s .count ≡ n → s ≡ record { capacity = c; count = n }
+store-is p q = λ i. record { capacity = p i; count = q i }
 
 pub below-leb : (handle count : ℕ) → 2 ≤ handle → ltb (handle - 2) count ≡ leb handle (count + 1)
 below-leb handle count h =

@@ -5,10 +5,7 @@ pub mod Put
 pub mod Extending
 pub mod Probing
 pub mod Growing
-pub mod Nodes
 pub mod Cofactors
-pub mod Getting
-pub mod Freshly
 pub mod Decoding
 pub mod Encoding
 pub mod Sounds

@@ -1,11 +1,11 @@
 -- What the functions below the public calls promise each other: on any words that fit, and where the words hold a book. A reader of the promises can pass this page over.
 use Prim.Native.Nat.{ℕ, _+_, _*_, _-_, _/_, _≤_, _<_}
 use mathlib.Core.Path.{_≡_}
-use mathlib.Core.List.{List, [], _∷_, _++_}
+use mathlib.Core.List.{List}
 use lib.ListN.{length, getD, set}
-use Rattle.family.specs.Family.{Family, node, top, mk, Within}
+use Rattle.family.specs.Family.{Family, node, top, mk}
 use Rattle.family.specs.Operation.{lacking, holding}
-use Rattle.family.specs.Book.{at, number, place, made, Book}
+use Rattle.family.specs.Book.{at, place, made, Book}
 use Rattle.words.specs.Words.{zeroed}
 use Rattle.table.specs.Entered.{entered, startAt}
 use Rattle.table.specs.Own.{cleared}
@@ -17,9 +17,6 @@ use Rattle.store.specs.declared.record.PlaceAnswer.the-variants.{Handle,
 use Rattle.store.specs.declared.record.Placed.{Placed}
 use Rattle.store.specs.declared.node.Sides.{Sides}
 use Rattle.store.specs.declared.node.Sides.the-variants.{Two, Broken}
-use Rattle.store.specs.declared.make.Made.{Made}
-use Rattle.store.specs.declared.make.Made.the-variants.{Found, New, Full as NoRoom}
-use Rattle.store.specs.declared.make.Making.{Making}
 use Rattle.store.specs.Words.{itemLimit, topAt}
 use Rattle.store.specs.Cache.{True}
 
@@ -82,19 +79,6 @@ pub data SidesOf (nodes : List ℕ) (n p level : ℕ) : Sides → Type 0 where
 -- the three words of the node after `count` others
 unfoldable pub putNode : List ℕ → ℕ → ℕ → ℕ → ℕ → List ℕ
 putNode nodes count item z o = set (set (set nodes (3 * count) item) (3 * count + 1) z) (3 * count + 2) o
-
--- making the node F in a book: found there, new at its end, or no room for it
-pub data MadeOf (B : List Family) (F : Family) (capacity n : ℕ) (nodes lookup : List ℕ) : Made → Type 0 where
-  found : {h : ℕ} → Handed B F h n nodes lookup → MadeOf B F capacity n nodes lookup (Found h)
-  new : {h : ℕ} → length B ≤ number B F → Handed (B ++ (F ∷ [])) F h n nodes lookup → MadeOf B F capacity n nodes lookup (New h)
-  full : length B ≤ number B F → capacity + 2 ≤ length B → Holds B n nodes lookup → MadeOf B F capacity n nodes lookup NoRoom
-
-pub record MadeIt (s : Store) (nodes lookup : List ℕ) (i z o : ℕ) (r : Making) (nodes′ lookup′ : List ℕ) : Type 0 where
-  pub kept : Kept s nodes lookup (r .store) nodes′ lookup′
-  pub found-within : (h : ℕ) → r .made ≡ Found h → h ≤ r .store .count + 1
-  pub new-within : (h : ℕ) → r .made ≡ New h → h ≤ r .store .count + 1
-  pub sound : (B : List Family) → Holds B (s .count) nodes lookup → Within itemLimit (node i (at B z) (at B o))
-      → MadeOf B (node i (at B z) (at B o)) (s .capacity) (r .store .count) nodes′ lookup′ (r .made)
 
 -- Getnode: the family of an item and two sides that the book holds
 pub record NodeIt (s : Store) (nodes lookup : List ℕ) (i z o : ℕ) (r : Placed) (nodes′ lookup′ : List ℕ) : Type 0 where

@@ -6,5 +6,4 @@ pub mod Sound
 pub mod Placing
 pub mod Scratch
 pub mod Promise
-pub mod Fresh
 pub mod Inner

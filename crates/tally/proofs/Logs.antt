@@ -19,11 +19,11 @@ use Rattle.store.specs.declared.record.Store.{Store}
 use Rattle.store.specs.declared.record.Refusal.{Refusal}
 use Rattle.store.specs.declared.record.PlaceAnswer.the-variants.{Handle, Refused as NoHandle}
 use Rattle.store.specs.declared.record.Placed.{Placed}
-use Rattle.store.specs.declared.fresh.Freshened.{Freshened}
+use Rattle.fresh.specs.declared.fresh.Freshened.{Freshened}
 use Rattle.store.specs.Capacity.{capacityOf}
 use Rattle.store.specs.Words.{bookOf}
 use Rattle.store.specs.Sound.{Sound}
-use Rattle.store.specs.Fresh.{FreshCall, FreshLeft, freshLeaves, freshOf}
+use Rattle.fresh.specs.Fresh.{FreshCall, FreshLeft, freshLeaves, freshOf}
 use Rattle.store.proofs.Decoding.{sound-holds}
 use Rattle.store.proofs.Sounds.{fresh-sound}
 use Rattle.queries.specs.Sizes.{most}

@@ -6,7 +6,7 @@ use crate::output::word;
 use crate::questions::size_given;
 use operations::calls::change;
 use operations::calls::union;
-use store::fresh::fresh;
+use fresh::fresh::fresh;
 use store::record::PlaceAnswer;
 use store::record::Store;
 

@@ -6,8 +6,8 @@ use mathlib.Core.Bool.{true, false}
 use Rattle.store.specs.declared.record.Refusal.{Refusal}
 use Rattle.store.specs.declared.record.PlaceAnswer.the-variants as place
 use Rattle.store.specs.declared.record.Placed.{Placed}
-use Rattle.store.specs.declared.fresh.FreshAnswer.the-variants as fresh
-use Rattle.store.specs.declared.fresh.Freshened.{Freshened}
+use Rattle.fresh.specs.declared.fresh.FreshAnswer.the-variants as fresh
+use Rattle.fresh.specs.declared.fresh.Freshened.{Freshened}
 use Rattle.store.specs.Refusals.{refusalNumber}
 use Rattle.queries.specs.declared.size.SizeAnswer.the-variants as size
 use Rattle.queries.specs.declared.size.Measured.{Measured}

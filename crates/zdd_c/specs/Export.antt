@@ -2,9 +2,9 @@
 use mathlib.Core.Path.{_≡_}
 use Rattle.store.specs.declared.record.Store.{Store}
 use Rattle.store.specs.declared.record.Placed.{Placed}
-use Rattle.store.specs.declared.fresh.Freshened.{Freshened}
+use Rattle.fresh.specs.declared.fresh.Freshened.{Freshened}
 use Rattle.store.specs.Refusals.{givenBy}
-use Rattle.store.specs.Fresh.{freshNumber}
+use Rattle.fresh.specs.Fresh.{freshNumber}
 use Rattle.queries.specs.declared.size.Measured.{Measured}
 use Rattle.queries.specs.declared.has.Asked.{Asked}
 use Rattle.queries.specs.Sizes.{sizeGivenBy}

@@ -1,12 +1,12 @@
 // Fresh, Empty and Base.
 ghost use mathlib.Core.Path.{_≡_};
-ghost use Rattle.store.specs.Fresh.{FreshCall};
+ghost use Rattle.fresh.specs.Fresh.{FreshCall};
 ghost use Rattle.zdd_c.specs.Export.{ExportedFresh};
 use crate::given::CFreshened;
 use crate::given::freshened;
-use store::fresh::base;
-use store::fresh::empty;
-use store::fresh::fresh;
+use fresh::fresh::base;
+use fresh::fresh::empty;
+use fresh::fresh::fresh;
 
 // Makes an empty store of the lent words.
 #[no_mangle]

@@ -1,10 +1,10 @@
 -- `finish` keeps a handle as it is, and undoes what a refused call made.
 -- What `rollback`, `zero_groups` and `refused` ensure is the definition's own.
 use mathlib.Core.Path.{_∙_}
 use Rattle.store.proofs.Endings.{finished-gave, finished-undone}
 use borrow.Author.Needs.{needs}
-use Rattle.store.proofs.rollback.finish.Statement.{statement}
-use Rattle.store.proofs.rollback.finish.Tie as tie
+use Rattle.rollback.proofs.rollback.finish.Statement.{statement}
+use Rattle.rollback.proofs.rollback.finish.Tie as tie
 
 abbrev start·After-enum-told : tie.After-enum-told → tie.Start
 start·After-enum-told c = c .before .before .before .before .before

@@ -1,9 +1,9 @@
 // Taking back the newest nodes.
 ghost use Prim.Native.Nat.{_≤_};
 ghost use Rattle.store.specs.Inner.{Roomy, RolledBack, Finished};
-use crate::record::PlaceAnswer;
-use crate::record::Placed;
-use crate::record::Store;
+use store::record::PlaceAnswer;
+use store::record::Placed;
+use store::record::Store;
 use table::own::clear_newest;
 use words::zero;
 use words::zero_groups;

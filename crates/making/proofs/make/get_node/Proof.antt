@@ -1,9 +1,9 @@
 -- `get_node` is Getnode of document 001; each way out is one law of it.
 -- What `make` ensures carries over, with its answer turned into a handle or a refusal.
-use Rattle.store.proofs.Getting.{node-zero, node-found, node-new, node-full, node-damaged}
+use Rattle.making.proofs.Getting.{node-zero, node-found, node-new, node-full, node-damaged}
 use borrow.Author.Needs.{needs}
-use Rattle.store.proofs.make.get_node.Statement.{statement}
-use Rattle.store.proofs.make.get_node.Tie as tie
+use Rattle.making.proofs.make.get_node.Statement.{statement}
+use Rattle.making.proofs.make.get_node.Tie as tie
 
 abbrev start·After-placed : tie.After-placed → tie.Start
 start·After-placed c = c .before .before .before .before

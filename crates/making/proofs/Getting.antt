@@ -11,18 +11,19 @@ use Rattle.family.specs.Family.{Family, empty, node, top, inhabited, mk, Within
 use Rattle.family.specs.Book.{at, number, Held, add, made}
 use Rattle.family.proofs.Books.{add-same, add-new, held-at}
 use Rattle.family.proofs.Diagrams.{mk-node}
 use Rattle.store.specs.declared.record.Store.{Store}
 use Rattle.store.specs.declared.record.Refusal.the-variants.{Full, Damaged}
 use Rattle.store.specs.declared.record.PlaceAnswer.{PlaceAnswer}
 use Rattle.store.specs.declared.record.PlaceAnswer.the-variants.{Handle, Refused}
 use Rattle.store.specs.declared.record.Placed.{Placed}
-use Rattle.store.specs.declared.make.Made.{Made}
-use Rattle.store.specs.declared.make.Made.the-variants.{Found, New, Full as NoRoom, Damaged as Bad}
-use Rattle.store.specs.declared.make.Making.{Making}
+use Rattle.making.specs.declared.make.Made.{Made}
+use Rattle.making.specs.declared.make.Made.the-variants.{Found, New, Full as NoRoom, Damaged as Bad}
+use Rattle.making.specs.declared.make.Making.{Making}
 use Rattle.store.specs.Words.{itemLimit}
-use Rattle.store.specs.Inner.{Roomy, Holds, Handed, Answer, gave, full, Kept, MadeOf, found, new, MadeIt, NodeIt}
+use Rattle.store.specs.Inner.{Roomy, Holds, Handed, Answer, gave, full, Kept, NodeIt}
+use Rattle.making.specs.Making.{MadeOf, found, new, MadeIt}
 use Rattle.store.proofs.Held.{at-0, within, positive-one, inside, held}
 use Rattle.store.proofs.Growing.{kept-self}
 
 pub handle-is : {g h : ℕ} → Handle g ≡ Handle h → g ≡ h
 handle-is e = cc

@@ -6,15 +6,12 @@ use mathlib.Core.List.{List}
 use lib.ListN.{length}
 use borrow.Author.Tests.{lt-ltb, le-ltb, le-leb, lt-leb}
 use Rattle.words.specs.Words.{zeroed}
 use Rattle.store.specs.declared.record.Store.{Store}
 use Rattle.store.specs.declared.record.Refusal.the-variants.{Tiny, ShortLookup}
-use Rattle.store.specs.declared.fresh.FreshAnswer.the-variants.{Done, Refused}
+use Rattle.fresh.specs.declared.fresh.FreshAnswer.the-variants.{Done, Refused}
 use Rattle.store.specs.Capacity.{capacityOf}
-use Rattle.store.specs.Fresh.{freshOf, FreshCall}
-
--- a record is its two numbers
-pub store-is : {s : Store} {c n : ℕ} → s .capacity ≡ c → s .count ≡ n → s ≡ record { capacity = c; count = n }
-store-is p q = λ i. record { capacity = p i; count = q i }
+use Rattle.fresh.specs.Fresh.{freshOf, FreshCall}
+use Rattle.store.proofs.Fitting.{store-is}
 
 module _ (nodes lookup cache : List ℕ) (s : Store) where
   pub fresh-tiny : s .capacity ≡ 0 → s .count ≡ 0 → length nodes < 3 → FreshCall nodes lookup cache (record { store = s; answer = Refused Tiny }) nodes lookup cache

@@ -6,12 +6,12 @@ use mathlib.Core.List.{List}
 use lib.Dec.{ltb, leb}
 use lib.ListN.{length}
 use Rattle.words.specs.Words.{zeroed}
 use Rattle.store.specs.declared.record.Store.{Store}
-use Rattle.store.specs.declared.fresh.FreshAnswer.{FreshAnswer}
-use Rattle.store.specs.declared.fresh.FreshAnswer.the-variants.{Done, Refused}
-use Rattle.store.specs.declared.fresh.Freshened.{Freshened}
+use Rattle.fresh.specs.declared.fresh.FreshAnswer.{FreshAnswer}
+use Rattle.fresh.specs.declared.fresh.FreshAnswer.the-variants.{Done, Refused}
+use Rattle.fresh.specs.declared.fresh.Freshened.{Freshened}
 use Rattle.store.specs.Capacity.{capacityOf}
 use Rattle.store.specs.Refusals.{refusalNumber}
 
 -- the number of Fresh's answer, 0 where it is not refused
 abbrev pub freshNumber : FreshAnswer → ℕ

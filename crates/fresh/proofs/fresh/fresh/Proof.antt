@@ -5,11 +5,11 @@ use mathlib.Core.Path.{_≡_, ap, _∙_}
 use native.Mathlib.Omega.{arith}
 use lib.ListN.{length}
 use Rattle.words.specs.Words.{zeroed}
 use Rattle.store.specs.Capacity.{capacityOf}
-use Rattle.store.proofs.Freshly.{fresh-tiny, fresh-short, fresh-done}
+use Rattle.fresh.proofs.Freshly.{fresh-tiny, fresh-short, fresh-done}
 use borrow.Author.Needs.{needs}
-use Rattle.store.proofs.fresh.fresh.Statement.{statement}
-use Rattle.store.proofs.fresh.fresh.Tie as tie
+use Rattle.fresh.proofs.fresh.fresh.Statement.{statement}
+use Rattle.fresh.proofs.fresh.fresh.Tie as tie
 
 abbrev start·After-new : tie.After-new → tie.Start
 start·After-new c = c .before .before .before .before .before

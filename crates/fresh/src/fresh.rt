@@ -1,9 +1,9 @@
 // Fresh, Empty and Base.
 ghost use mathlib.Core.Path.{_≡_};
-ghost use Rattle.store.specs.Fresh.{FreshCall};
-use crate::record::Refusal;
-use crate::record::Store;
-use crate::record::capacity_of;
+ghost use Rattle.fresh.specs.Fresh.{FreshCall};
+use store::record::Refusal;
+use store::record::Store;
+use store::record::capacity_of;
 use words::zero;
 use words::zero_groups;
 

@@ -3,10 +3,10 @@
 use mathlib.Core.Path.{_≡_, refl}
 use native.Mathlib.Omega.{arith}
 use lib.ListN.{length-set}
 use Rattle.store.specs.Inner.{putNode}
 use borrow.Author.Needs.{needs}
-use Rattle.store.proofs.make.enter.Statement.{statement}
-use Rattle.store.proofs.make.enter.Tie as tie
+use Rattle.making.proofs.make.enter.Statement.{statement}
+use Rattle.making.proofs.make.enter.Tie as tie
 
 mul-base : tie.Need-mul-base
 mul-base c = search needs

@@ -10,16 +10,17 @@ use Rattle.family.specs.Family.{Family, node, Within}
 use Rattle.family.specs.Book.{at}
 use Rattle.table.specs.Probe.{probeOf}
 use Rattle.table.specs.Entered.{entered, startAt}
 use Rattle.store.specs.declared.record.Store.{Store}
-use Rattle.store.specs.declared.make.Made.{Made}
-use Rattle.store.specs.declared.make.Made.the-variants.{Found, New, Full, Damaged}
-use Rattle.store.specs.declared.make.Making.{Making}
+use Rattle.making.specs.declared.make.Made.{Made}
+use Rattle.making.specs.declared.make.Made.the-variants.{Found, New, Full, Damaged}
+use Rattle.making.specs.declared.make.Making.{Making}
 use Rattle.store.specs.Words.{itemLimit}
-use Rattle.store.specs.Inner.{Roomy, Holds, Handed, Kept, putNode, MadeOf, found, new, full, MadeIt}
+use Rattle.store.specs.Inner.{Roomy, Holds, Handed, Kept, putNode}
+use Rattle.making.specs.Making.{MadeOf, found, new, full, MadeIt}
 use Rattle.store.proofs.Extending.{holds-kept, next-is, extended}
 use Rattle.store.proofs.Put.{put-length, put-below, put-above, put-has, put-entered}
 use Rattle.store.proofs.Probing.{Present, Absent, probe-cases}
 use Rattle.store.proofs.Growing.{kept-self}
 
 -- the book with the new node, in the words with the new node
 module _ {B : List Family} {n : ℕ} {nodes lookup : List ℕ} (H : Holds B n nodes lookup) (i z o slot : ℕ) (lz : z < n + 2) (lo : o < n + 2) (w : Within itemLimit (node i (at B z) (at B o)))

@@ -2,12 +2,13 @@
 ghost use mathlib.Core.Path.{_≡_};
 ghost use Prim.Native.Nat.{_+_, _*_, _<_, _≤_};
 ghost use lib.ListN.{length, set};
 ghost use Rattle.store.specs.Words.{itemLimit};
-ghost use Rattle.store.specs.Inner.{Roomy, putNode, MadeIt, NodeIt};
-use crate::record::PlaceAnswer;
-use crate::record::Placed;
-use crate::record::Refusal;
-use crate::record::Store;
+ghost use Rattle.store.specs.Inner.{Roomy, putNode, NodeIt};
+ghost use Rattle.making.specs.Making.{MadeIt};
+use store::record::PlaceAnswer;
+use store::record::Placed;
+use store::record::Refusal;
+use store::record::Store;
 use table::probe::probe;
 
 // What making a node comes to: found among the nodes, a new node, no room, or words that no sound store has.

@@ -1,0 +1,2 @@
+-- The laws of `fresh`.
+pub mod Freshly

@@ -1,0 +1,2 @@
+-- What the contracts of `fresh` cite.
+pub mod Fresh

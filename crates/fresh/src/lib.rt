@@ -1,0 +1,2 @@
+// Fresh, Empty and Base.
+pub mod fresh;

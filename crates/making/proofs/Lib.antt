@@ -1,0 +1,3 @@
+-- The laws of `making`.
+pub mod Nodes
+pub mod Getting

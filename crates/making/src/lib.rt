@@ -1,0 +1,2 @@
+// Making or finding a node.
+pub mod make;

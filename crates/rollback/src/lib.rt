@@ -1,0 +1,2 @@
+// Taking back the newest nodes.
+pub mod rollback;
