@@ -17,7 +17,8 @@ use Rattle.store.specs.Words.{itemLimit}
 use Rattle.records.proofs.Taking.{number-short, number-four}
 use Rattle.loading.specs.declared.load.Content.{Content}
 use Rattle.loading.specs.declared.load.Content.the-variants.{Leaf, Parts, Bad}
-use Rattle.loading.specs.Inner.{Local, Table, own, no-records, no-order, TableOf, Holding, leaf, parts, nothing, ContentOf}
+use Rattle.local_table.specs.Local.{Local}
+use Rattle.loading.specs.Inner.{Table, own, no-records, no-order, TableOf, Holding, leaf, parts, nothing, ContentOf}
 
 -- bytes that hold no family
 pub content-bad : (file words : List ℕ) (b : ℕ) → familyOf itemLimit file ≡ none → ContentOf file words b Bad words

@@ -30,8 +30,10 @@ use Rattle.cache.proofs.Plain.{plain-handle, plain-ran}
 use Rattle.loading.specs.declared.load.Content.{Content}
 use Rattle.loading.specs.declared.load.Content.the-variants.{Leaf, Parts, Bad}
 use Rattle.loading.specs.Promise.{noFile, found, loadRefusal, loadFamily, LoadCall}
-use Rattle.loading.specs.Inner.{Local, Nodes, Holding, leaf, parts, nothing, ContentOf, PlacedOf}
-use Rattle.loading.proofs.Walks.{local-nodes}
+use Rattle.local_table.specs.Local.{Local, Nodes}
+use Rattle.placement.specs.Placement.{PlacedOf}
+use Rattle.loading.specs.Inner.{Holding, leaf, parts, nothing, ContentOf}
+use Rattle.local_table.proofs.Walks.{local-nodes}
 
 -- the promise's tests
 module _ (file : List ℕ) (n : ℕ) where

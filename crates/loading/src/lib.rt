@@ -1,6 +1,2 @@
 // Load: places the family of a file. The records go into a local table in the scratch, the order of the parts is tested there, then each part is placed in the store.
 pub mod load;
-pub mod local;
-pub mod order;
-pub mod place;
-pub mod read;

@@ -1,0 +1,6 @@
+-- The laws of `local_table`.
+pub mod Slots
+pub mod Entries
+pub mod Accepting
+pub mod Recording
+pub mod Walks

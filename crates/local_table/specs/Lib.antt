@@ -1,0 +1,2 @@
+-- What the contracts of `local_table` cite.
+pub mod Local

@@ -1,0 +1,2 @@
+-- The laws of `placement`.
+pub mod Placements

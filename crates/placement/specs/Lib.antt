@@ -1,0 +1,2 @@
+-- What the contracts of `placement` cite.
+pub mod Placement
