@@ -27,16 +27,18 @@ use Rattle.store.proofs.Held.{at-0, at-1, top-at, within, at-node}
 use Rattle.store.proofs.Decoding.{sound-holds}
 use Rattle.store.proofs.Calls.{sound-fits}
 use Rattle.store.proofs.Tested.{tests-handle, tests-scratch, tests-passed}
-use Rattle.saving.specs.declared.trail.Trail.{Trail}
-use Rattle.saving.specs.declared.walk.Walked.{Walked}
-use Rattle.saving.specs.declared.walk.Walked.the-variants.{Went, Broken as NoWay}
+use Rattle.trail.specs.declared.trail.Trail.{Trail}
+use Rattle.trail.specs.declared.walk.Walked.{Walked}
+use Rattle.trail.specs.declared.walk.Walked.the-variants.{Went, Broken as NoWay}
 use Rattle.saving.specs.declared.save.SaveAnswer.the-variants.{Length, Refused}
 use Rattle.saving.specs.declared.save.Saved.{Saved}
 use Rattle.saving.specs.Promise.{saveGivenBy, saveRefusal, saveAnswer, saveOutput, SaveCall}
-use Rattle.saving.specs.Inner.{TrailFits, Trailed, WalkOf, Writing, startAt, WritesOf, LeafOf, FileOf, PartsOf}
-use Rattle.saving.proofs.Trails.{trail-start}
-use Rattle.saving.proofs.Walking.{came-to, never}
-use Rattle.saving.proofs.Cursors.{sets-front}
+use Rattle.trail.specs.Trail.{TrailFits, Trailed, WalkOf}
+use Rattle.writing.specs.Writing.{Writing, startAt, WritesOf}
+use Rattle.saving.specs.Inner.{LeafOf, FileOf, PartsOf}
+use Rattle.trail.proofs.Trails.{trail-start}
+use Rattle.trail.proofs.Walking.{came-to, never}
+use Rattle.writing.proofs.Cursors.{sets-front}
 
 file-length : (D : List Family) → length (fileOfBook D) ≡ 5 + length (recordsBytes 0 1 (triplesOf D (drop 2 D)))
 unfolding fileOfBook

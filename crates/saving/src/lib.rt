@@ -1,5 +1,2 @@
 // Save: the file of a family. A walk over the diagram links the parts in placing order; then each record is written behind the one before.
 pub mod save;
-pub mod trail;
-pub mod walk;
-pub mod write;

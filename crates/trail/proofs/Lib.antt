@@ -1,0 +1,4 @@
+-- The laws of `trail`.
+pub mod Links
+pub mod Trails
+pub mod Walking

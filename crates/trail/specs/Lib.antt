@@ -1,0 +1,2 @@
+-- What the contracts of `trail` cite.
+pub mod Trail

@@ -1,0 +1,3 @@
+-- The laws of `writing`.
+pub mod Cursors
+pub mod Writes
