@@ -3,7 +3,7 @@ ghost use Prim.Native.Nat.{_≤_};
 ghost use Rattle.family.specs.Combination.{itemsOf};
 ghost use Rattle.adding.specs.Adding.{AddCall};
 ghost use Rattle.adding.specs.Inner.{ChangeIt, MakeIt};
-use family::combination::Combination;
+use combination::combination::Combination;
 use operations::calls::change;
 use operations::calls::union;
 use fresh::fresh::base;

@@ -18,7 +18,7 @@ use Rattle.store.specs.Words.{topAt}
 use Rattle.store.specs.Cache.{True}
 use Rattle.store.specs.Inner.{Roomy, Holds, Handed, Answer, gave, full, Kept, NodeIt, Ran}
 use Rattle.store.proofs.Held.{held}
-use Rattle.making.proofs.Getting.{handle-is, damaged-not}
+use Rattle.getnode.proofs.Getting.{handle-is, damaged-not}
 use Rattle.store.proofs.Growing.{kept-self}
 use Rattle.cache.specs.Inner.{RanPlain}
 use Rattle.cache.proofs.Remembering.{true-grown}

@@ -15,6 +15,5 @@ pub mod Files
 pub mod Bits
 pub mod Words
 pub mod Lengths
-pub mod Given
 pub mod Laws
 pub mod Examples

@@ -1,2 +1,1 @@
 // Families of combinations: this crate is definitions (specs/), laws (proofs/) and the record of one combination.
-pub mod combination;

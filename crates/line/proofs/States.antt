@@ -10,7 +10,7 @@ use lib.ListN.{replicate}
 use borrow.Author.Tests.{eq-eqb, ne-eqb, le-leb, lt-leb}
 use Rattle.family.specs.Combination.{insert, isFree, including, holds, itemsOf}
 use Rattle.family.proofs.Words.{one-record, is-including, free-zero, free-high, free-held, free-item}
-use Rattle.family.specs.declared.combination.Combination.{Combination}
+use Rattle.combination.specs.declared.combination.Combination.{Combination}
 use Rattle.line.specs.declared.line.Side.{Side}
 use Rattle.line.specs.declared.line.Side.the-variants.{Passed, Returned}
 use Rattle.line.specs.declared.line.Stage.{Stage}

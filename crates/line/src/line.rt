@@ -4,7 +4,7 @@ ghost use mathlib.Core.List.{[]};
 ghost use Prim.Native.Nat.{_+_, _*_, _≤_};
 ghost use Rattle.family.specs.Combination.{including, itemsOf};
 ghost use Rattle.line.specs.Line.{letter, number, malformed, first, gap, opened, grown, closed, advance, begin, step, stateOf};
-use family::combination::Combination;
+use combination::combination::Combination;
 
 // Which family a line is for.
 pub enum Side {

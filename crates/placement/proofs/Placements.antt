@@ -24,7 +24,7 @@ use Rattle.store.specs.Words.{itemLimit}
 use Rattle.store.specs.Inner.{Roomy, Holds, Handed, Answer, gave, full, Kept, NodeIt}
 use Rattle.store.proofs.Held.{at-0, at-1, inside, within}
 use Rattle.store.proofs.Growing.{kept-self, kept-trans, kept-roomy}
-use Rattle.making.proofs.Getting.{handle-is, made-inhabited}
+use Rattle.getnode.proofs.Getting.{handle-is, made-inhabited}
 use Rattle.store.proofs.Endings.{handed-of, refused-on, not-both}
 use Rattle.cache.specs.Inner.{RanPlain}
 use Rattle.local_table.specs.Local.{Local, NodeAt, Nodes}

@@ -5,7 +5,7 @@ ghost use lib.ListN.{length, getD};
 ghost use Rattle.store.specs.Inner.{Roomy, NodeIt};
 ghost use Rattle.local_table.specs.Local.{NodeAt, Nodes};
 ghost use Rattle.placement.specs.Placement.{handleIn, Handles, PlacedOf};
-use making::make::get_node;
+use getnode::make::get_node;
 use store::record::PlaceAnswer;
 use store::record::Placed;
 use store::record::Store;

@@ -6,7 +6,7 @@ ghost use lib.ListN.{length};
 ghost use Rattle.family.specs.Combination.{isNone, itemsOf};
 ghost use Rattle.queries.specs.Membership.{HasCall};
 ghost use Rattle.queries.specs.Inner.{Memberly, Stepped};
-use family::combination::Combination;
+use combination::combination::Combination;
 use store::record::Refusal;
 use store::record::Store;
 

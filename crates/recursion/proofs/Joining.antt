@@ -9,7 +9,7 @@ use Rattle.store.specs.declared.record.PlaceAnswer.{PlaceAnswer}
 use Rattle.store.specs.declared.record.PlaceAnswer.the-variants.{Handle, Refused}
 use Rattle.store.specs.declared.record.Placed.{Placed}
 use Rattle.store.specs.Inner.{NodeIt}
-use Rattle.making.proofs.Getting.{handle-is}
+use Rattle.getnode.proofs.Getting.{handle-is}
 use Rattle.store.proofs.Endings.{not-both}
 use Rattle.cache.specs.declared.Call.{Call}
 use Rattle.cache.specs.Inner.{Remembered}

@@ -15,7 +15,7 @@ use Rattle.store.specs.declared.record.Placed.{Placed}
 use Rattle.store.specs.Words.{topAt}
 use Rattle.store.specs.Inner.{Roomy, Holds, Answer, gave, Ran}
 use Rattle.store.proofs.Held.{at-0, within}
-use Rattle.making.proofs.Getting.{handle-is}
+use Rattle.getnode.proofs.Getting.{handle-is}
 use Rattle.store.proofs.Growing.{kept-self}
 use Rattle.cache.specs.declared.Call.{Call}
 use Rattle.cache.specs.declared.Recalled.{Recalled}

@@ -9,7 +9,7 @@ use crate::join::join;
 use cache::Call;
 use cache::Recalled;
 use cache::recall;
-use making::make::get_node;
+use getnode::make::get_node;
 use store::node::Sides;
 use store::node::sides_at;
 use store::record::PlaceAnswer;

@@ -7,7 +7,7 @@ ghost use Rattle.store.specs.Inner.{Roomy};
 ghost use Rattle.recursion.specs.Inner.{Joined, RememberedAnswer};
 use cache::Call;
 use cache::remember;
-use making::make::get_node;
+use getnode::make::get_node;
 use store::record::PlaceAnswer;
 use store::record::Placed;
 

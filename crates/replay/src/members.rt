@@ -11,7 +11,7 @@ use crate::output::word;
 use crate::path::member;
 use crate::path::none;
 use crate::path::toggled;
-use family::combination::Combination;
+use combination::combination::Combination;
 use queries::has::Asked;
 use queries::has::HasAnswer;
 use queries::has::has;

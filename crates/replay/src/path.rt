@@ -1,6 +1,6 @@
 // Combinations to ask for.
 use crate::draw::step;
-use family::combination::Combination;
+use combination::combination::Combination;
 
 // The empty combination.
 pub fn none() -> Combination {

@@ -9,7 +9,7 @@ use adding::adding::add;
 use line::line::Reading;
 use line::line::Side;
 use line::line::Stage;
-use family::combination::Combination;
+use combination::combination::Combination;
 use fresh::fresh::empty;
 use fresh::fresh::fresh;
 use store::record::PlaceAnswer;

@@ -3,7 +3,7 @@ use crate::output::number;
 use crate::output::refused;
 use crate::output::text;
 use crate::output::word;
-use family::combination::Combination;
+use combination::combination::Combination;
 use queries::has::HasAnswer;
 use queries::has::has;
 use queries::size::SizeAnswer;

@@ -1,3 +1,2 @@
 -- The ways out of the exports.
-pub mod Showing
 pub mod Handing

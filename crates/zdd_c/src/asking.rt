@@ -2,15 +2,16 @@
 ghost use Rattle.family.specs.Combination.{itemsOf};
 ghost use Rattle.queries.specs.Membership.{HasCall};
 ghost use Rattle.queries.specs.Sizes.{SizeCall};
-ghost use Rattle.zdd_c.specs.Export.{Exported, measuredOf, askedOf};
-use crate::given::CAsked;
-use crate::given::CCombination;
-use crate::given::CMeasured;
-use crate::given::CStore;
-use crate::given::asked;
-use crate::given::measured;
-use crate::given::taken;
-use family::combination::Combination;
+ghost use Rattle.c_records.specs.Shown.{measuredOf, askedOf};
+ghost use Rattle.zdd_c.specs.Export.{Exported};
+use c_records::given::CAsked;
+use c_records::given::CCombination;
+use c_records::given::CMeasured;
+use c_records::given::CStore;
+use c_records::given::asked;
+use c_records::given::measured;
+use c_records::given::taken;
+use combination::combination::Combination;
 use queries::has::has;
 use queries::size::size;
 

@@ -1,13 +1,14 @@
 // Save and Load.
 ghost use Rattle.loading.specs.Promise.{LoadCall};
 ghost use Rattle.saving.specs.Promise.{SaveCall};
-ghost use Rattle.zdd_c.specs.Export.{Exported, placedOf, savedOf};
-use crate::given::CPlaced;
-use crate::given::CSaved;
-use crate::given::CStore;
-use crate::given::placed;
-use crate::given::saved;
-use crate::given::taken;
+ghost use Rattle.c_records.specs.Shown.{placedOf, savedOf};
+ghost use Rattle.zdd_c.specs.Export.{Exported};
+use c_records::given::CPlaced;
+use c_records::given::CSaved;
+use c_records::given::CStore;
+use c_records::given::placed;
+use c_records::given::saved;
+use c_records::given::taken;
 use loading::load::load;
 use saving::save::save;
 

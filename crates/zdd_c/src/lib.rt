@@ -2,6 +2,5 @@
 pub mod asking;
 pub mod auditing;
 pub mod filing;
-pub mod given;
 pub mod making;
 pub mod placing;

@@ -2,8 +2,8 @@
 ghost use mathlib.Core.Path.{_≡_};
 ghost use Rattle.fresh.specs.Fresh.{FreshCall};
 ghost use Rattle.zdd_c.specs.Export.{ExportedFresh};
-use crate::given::CFreshened;
-use crate::given::freshened;
+use c_records::given::CFreshened;
+use c_records::given::freshened;
 use fresh::fresh::base;
 use fresh::fresh::empty;
 use fresh::fresh::fresh;

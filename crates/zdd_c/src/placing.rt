@@ -1,10 +1,11 @@
 // The six operations.
 ghost use Rattle.operations.specs.Promise.{OperationCall};
-ghost use Rattle.zdd_c.specs.Export.{Exported, placedOf};
-use crate::given::CPlaced;
-use crate::given::CStore;
-use crate::given::placed;
-use crate::given::taken;
+ghost use Rattle.c_records.specs.Shown.{placedOf};
+ghost use Rattle.zdd_c.specs.Export.{Exported};
+use c_records::given::CPlaced;
+use c_records::given::CStore;
+use c_records::given::placed;
+use c_records::given::taken;
 use operations::calls::change;
 use operations::calls::diff;
 use operations::calls::intsec;

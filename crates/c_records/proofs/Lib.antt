@@ -1,0 +1,2 @@
+-- The laws of `c_records`.
+pub mod Showing

@@ -1,0 +1,2 @@
+-- What the contracts of `c_records` cite.
+pub mod Shown

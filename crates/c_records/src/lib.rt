@@ -1,0 +1,2 @@
+// The records and answers as C sees them.
+pub mod given;

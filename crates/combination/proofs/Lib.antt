@@ -1,0 +1,2 @@
+-- The laws of `combination`.
+pub mod Given

@@ -1,0 +1,2 @@
+// The record of a combination and its functions.
+pub mod combination;

@@ -1,0 +1,3 @@
+-- The laws of `getnode`.
+pub mod Nodes
+pub mod Getting

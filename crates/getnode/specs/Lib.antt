@@ -1,0 +1,2 @@
+-- What the contracts of `getnode` cite.
+pub mod Making

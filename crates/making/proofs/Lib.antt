@@ -1,3 +1,0 @@
--- The laws of `making`.
-pub mod Nodes
-pub mod Getting
