@@ -2,9 +2,9 @@
 ghost use Prim.Native.Nat.{_≤_};
 ghost use Rattle.operations.specs.Promise.{OperationCall};
 use cache::Call;
-use recursion::families::apply;
-use recursion::families::larger;
-use recursion::items::restrict;
+use families::families::apply;
+use families::families::larger;
+use items::items::restrict;
 use store::node::top_of;
 use store::record::Placed;
 use store::record::Refusal;

@@ -1,5 +1,5 @@
 -- What the functions below the six calls promise each other. A reader of the promises can pass this page over.
-use Prim.Native.Nat.{ℕ, _+_, _<_, max}
+use Prim.Native.Nat.{ℕ, _<_, max}
 use mathlib.Core.Path.{_≡_}
 use mathlib.Core.List.{List}
 use mathlib.Core.Logic.{_⊎_}
@@ -10,13 +10,11 @@ use Rattle.store.specs.declared.record.PlaceAnswer.{PlaceAnswer}
 use Rattle.store.specs.declared.record.PlaceAnswer.the-variants.{Handle, Refused}
 use Rattle.store.specs.declared.record.Placed.{Placed}
 use Rattle.store.specs.Cache.{named}
-use Rattle.store.specs.Inner.{Holds, TwoSides, NodeIt}
+use Rattle.store.specs.Inner.{TwoSides, NodeIt}
 use Rattle.cache.specs.declared.Call.{Call}
 use Rattle.cache.specs.declared.Recalled.{Recalled}
 use Rattle.cache.specs.declared.Recalled.the-variants.{Hit, Miss}
 use Rattle.cache.specs.Inner.{Remembered}
-use Rattle.recursion.specs.declared.families.Fork.{Fork}
-use Rattle.recursion.specs.declared.families.Fork.the-variants.{Two, Broken}
 
 -- the cache after an answer: its handle is remembered, and nothing is remembered of a refusal
 pub record RememberedAnswer (cache : List ℕ) (call : Call) (a : PlaceAnswer) (cache′ : List ℕ) : Type 0 where
@@ -55,10 +53,6 @@ pub record Forked (nodes : List ℕ) (n : ℕ) (call : Call) (level p₀ q₀ to
   pub second : TwoSides nodes n (call .q) level q₀ q₁ b₀ b₁
   pub top₀-is : top₀ ≡ max a₀ b₀
   pub top₁-is : top₁ ≡ max a₁ b₁
-
-pub data ForkOf (nodes : List ℕ) (n : ℕ) (call : Call) (level : ℕ) : Fork → Type 0 where
-  two : {p₀ q₀ top₀ p₁ q₁ top₁ : ℕ} → Forked nodes n call level p₀ q₀ top₀ p₁ q₁ top₁ → ForkOf nodes n call level (Two p₀ q₀ top₀ p₁ q₁ top₁)
-  broken : ((B : List Family) (lookup : List ℕ) → Holds B n nodes lookup → ⊥) → ForkOf nodes n call level Broken
 
 -- the end of a step: a refused second result is handed on; else the node of the level, the zero side and the second result, remembered
 pub record Joined (second : Placed) (nodes lookup cache : List ℕ) (call : Call) (level z : ℕ) (r : Placed) (nodes′ lookup′ cache′ : List ℕ) : Type 0 where

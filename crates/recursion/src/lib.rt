@@ -1,4 +1,2 @@
-// The recursions of document 001 on the two sides: for two families, and for a family and an item.
-pub mod families;
-pub mod items;
+// The end of a step of the recursions of document 001, and the laws of their steps.
 pub mod join;

@@ -6,6 +6,7 @@ pub mod Extending
 pub mod Probing
 pub mod Growing
 pub mod Cofactors
+pub mod Sides
 pub mod Decoding
 pub mod Encoding
 pub mod Sounds

@@ -4,29 +4,29 @@ use mathlib.Core.Path.{_∙_}
 use Prim.Native.Nat.{ℕ, _+_, _*_, _<_}
 use native.Mathlib.Omega.{arith}
 use Rattle.store.proofs.Growing.{kept-top, kept-roomy, kept-trans}
-use Rattle.recursion.proofs.Forks.{sides-two, sides-broken}
+use Rattle.store.proofs.Sides.{sides-two, sides-broken}
 use Rattle.cache.proofs.Plain.{plain-ran}
 use Rattle.recursion.proofs.Steps.{of, step-first, step-joined}
 use Rattle.recursion.proofs.Splitting.{split-item}
 use Rattle.recursion.proofs.Outcomes.{ran-broken, ran-recalled}
 use borrow.Author.Needs.{needs}
 use borrow.Fn.Kinds.{In}
 use borrow.Fn.PlainCycle.{Measures, is, falls, and}
-use Rattle.recursion.proofs.items.expand.Reads as expand
-use Rattle.recursion.proofs.items.expand.Kinds as expand-kinds
-use Rattle.recursion.proofs.items.+expand+restrict.Lts-expand as expand-lts
-use Rattle.recursion.proofs.items.restrict.Reads as restrict
-use Rattle.recursion.proofs.items.restrict.Kinds as restrict-kinds
-use Rattle.recursion.proofs.items.+expand+restrict.Lts-restrict as restrict-lts
+use Rattle.items.proofs.items.expand.Reads as expand
+use Rattle.items.proofs.items.expand.Kinds as expand-kinds
+use Rattle.items.proofs.items.+expand+restrict.Lts-expand as expand-lts
+use Rattle.items.proofs.items.restrict.Reads as restrict
+use Rattle.items.proofs.items.restrict.Kinds as restrict-kinds
+use Rattle.items.proofs.items.+expand+restrict.Lts-restrict as restrict-lts
 use Rattle.cache.proofs.recall.Reads as recall-reads
-use Rattle.recursion.proofs.items.above_top.Reads as above-top-reads
-use Rattle.recursion.proofs.items.at_top.Reads as at-top-reads
+use Rattle.items.proofs.items.above_top.Reads as above-top-reads
+use Rattle.items.proofs.items.at_top.Reads as at-top-reads
 use Rattle.recursion.proofs.join.join.Reads as join-reads
 use Rattle.store.proofs.node.sides_at.Reads as sides-at-reads
 use Rattle.store.proofs.record.Store.placed.Reads as placed-reads
 use Rattle.store.proofs.record.Store.refused.Reads as refused-reads
-use Rattle.recursion.proofs.items.+expand+restrict.{statement}
-use Rattle.recursion.proofs.items.+expand+restrict.Tie.{close}
+use Rattle.items.proofs.items.+expand+restrict.{statement}
+use Rattle.items.proofs.items.+expand+restrict.Tie.{close}
 
 abbrev μ-expand : Measures 3 expand-kinds.ps ℕ
 μ-expand κs a = 2 * a .1 .0

@@ -4,28 +4,28 @@ use mathlib.Core.Path.{_∙_}
 use Prim.Native.Nat.{ℕ, _+_, _*_, _<_}
 use native.Mathlib.Omega.{arith}
 use Rattle.store.proofs.Growing.{kept-top, kept-roomy, kept-trans}
-use Rattle.recursion.proofs.Forks.{fork-two, fork-broken}
+use Rattle.families.proofs.Forks.{fork-two, fork-broken}
 use Rattle.recursion.proofs.Steps.{step-first, step-joined}
 use Rattle.recursion.proofs.Splitting.{split-families}
 use Rattle.recursion.proofs.Outcomes.{shortcut-proper, ran-broken, ran-recalled, ran-shortcut, ordered-op, ordered-first, ordered-second, ordered-level, ran-ordered}
 use borrow.Author.Needs.{needs}
 use borrow.Fn.Kinds.{In}
 use borrow.Fn.PlainCycle.{Measures, is, falls, and}
-use Rattle.recursion.proofs.families.apply.Reads as apply
-use Rattle.recursion.proofs.families.apply.Kinds as apply-kinds
-use Rattle.recursion.proofs.families.+apply+expand.Lts-apply as apply-lts
-use Rattle.recursion.proofs.families.expand.Reads as expand
-use Rattle.recursion.proofs.families.expand.Kinds as expand-kinds
-use Rattle.recursion.proofs.families.+apply+expand.Lts-expand as expand-lts
+use Rattle.families.proofs.families.apply.Reads as apply
+use Rattle.families.proofs.families.apply.Kinds as apply-kinds
+use Rattle.families.proofs.families.+apply+expand.Lts-apply as apply-lts
+use Rattle.families.proofs.families.expand.Reads as expand
+use Rattle.families.proofs.families.expand.Kinds as expand-kinds
+use Rattle.families.proofs.families.+apply+expand.Lts-expand as expand-lts
 use Rattle.cache.proofs.recall.Reads as recall-reads
-use Rattle.recursion.proofs.families.fork_at.Reads as fork-at-reads
-use Rattle.recursion.proofs.families.ordered.Reads as ordered-reads
-use Rattle.recursion.proofs.families.shortcut.Reads as shortcut-reads
+use Rattle.families.proofs.families.fork_at.Reads as fork-at-reads
+use Rattle.families.proofs.families.ordered.Reads as ordered-reads
+use Rattle.families.proofs.families.shortcut.Reads as shortcut-reads
 use Rattle.recursion.proofs.join.join.Reads as join-reads
 use Rattle.store.proofs.record.Store.placed.Reads as placed-reads
 use Rattle.store.proofs.record.Store.refused.Reads as refused-reads
-use Rattle.recursion.proofs.families.+apply+expand.{statement}
-use Rattle.recursion.proofs.families.+apply+expand.Tie.{close}
+use Rattle.families.proofs.families.+apply+expand.{statement}
+use Rattle.families.proofs.families.+apply+expand.Tie.{close}
 
 abbrev μ-apply : Measures 3 apply-kinds.ps ℕ
 μ-apply κs a = 2 * a .1 .0 + 1

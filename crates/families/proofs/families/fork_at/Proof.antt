@@ -2,11 +2,12 @@
 -- Where a split fails, the words hold no book.
 use mathlib.Core.Path.{_≡_, refl}
 use native.Mathlib.Omega.{arith}
-use Rattle.recursion.specs.Inner.{two, broken}
-use Rattle.recursion.proofs.Forks.{sides-two, sides-broken, no-level}
+use Rattle.families.specs.Fork.{two, broken}
+use Rattle.store.proofs.Sides.{sides-two, sides-broken}
+use Rattle.families.proofs.Forks.{no-level}
 use borrow.Author.Needs.{needs}
-use Rattle.recursion.proofs.families.fork_at.Statement.{statement}
-use Rattle.recursion.proofs.families.fork_at.Tie as tie
+use Rattle.families.proofs.families.fork_at.Statement.{statement}
+use Rattle.families.proofs.families.fork_at.Tie as tie
 
 abbrev if1·After-larger2 : tie.After-larger2 → tie.Else1
 if1·After-larger2 c = c .before .before .before .before .before .before .before .before .before .before

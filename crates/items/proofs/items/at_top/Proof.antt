@@ -1,11 +1,11 @@
 -- `at_top` gives what the operation is at the top item: a side, or the node of the sides swapped.
 -- Each way out is one law of restricting; where a split fails, the words hold no book.
-use Rattle.recursion.proofs.Forks.{sides-two, sides-broken}
+use Rattle.store.proofs.Sides.{sides-two, sides-broken}
 use Rattle.cache.proofs.Plain.{plain-broken}
-use Rattle.recursion.proofs.Restricting.{at-one, at-zero, at-node}
+use Rattle.items.proofs.Restricting.{at-one, at-zero, at-node}
 use borrow.Author.Needs.{needs}
-use Rattle.recursion.proofs.items.at_top.Statement.{statement}
-use Rattle.recursion.proofs.items.at_top.Tie as tie
+use Rattle.items.proofs.items.at_top.Statement.{statement}
+use Rattle.items.proofs.items.at_top.Tie as tie
 
 abbrev start·After-placed : tie.After-placed → tie.Start
 start·After-placed c = c .before .before .before .before .before .before .before .before .before .before

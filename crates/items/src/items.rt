@@ -5,7 +5,7 @@ ghost use Rattle.store.specs.Words.{itemLimit, topAt};
 ghost use Rattle.store.specs.Cache.{named};
 ghost use Rattle.store.specs.Inner.{Roomy, Ran};
 ghost use Rattle.cache.specs.Inner.{RanPlain};
-use crate::join::join;
+use recursion::join::join;
 use cache::Call;
 use cache::Recalled;
 use cache::recall;

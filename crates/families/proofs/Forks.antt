@@ -7,29 +7,16 @@ use native.Mathlib.Omega.{arith}
 use lib.ListN.{getD}
 use Rattle.family.specs.Family.{Family, top}
 use Rattle.family.specs.Book.{at}
-use Rattle.store.specs.declared.node.Sides.{Sides}
-use Rattle.store.specs.declared.node.Sides.the-variants.{Two as TwoOf, Broken as NoSides}
 use Rattle.store.specs.Words.{topAt}
-use Rattle.store.specs.Inner.{Holds, TwoSides, SidesOf, two as two-sides, broken as no-sides}
+use Rattle.store.specs.Inner.{Holds}
 use Rattle.store.proofs.Held.{top-at, within, at-node, top-node}
 use Rattle.cache.specs.declared.Call.{Call}
-use Rattle.recursion.specs.declared.families.Fork.{Fork}
-use Rattle.recursion.specs.declared.families.Fork.the-variants.{Two, Broken}
-use Rattle.recursion.specs.Inner.{Proper, Forked, ForkOf, two, broken}
+use Rattle.families.specs.declared.families.Fork.{Fork}
+use Rattle.families.specs.declared.families.Fork.the-variants.{Two, Broken}
+use Rattle.families.specs.Fork.{ForkOf, two, broken}
+use Rattle.recursion.specs.Inner.{Proper, Forked}
 
--- what a split says, by the answer that it gave
-pub sides-two : {nodes : List ℕ} {n p level z o zt ot : ℕ} {x : Sides} → x ≡ TwoOf z o zt ot → SidesOf nodes n p level x → TwoSides nodes n p level z o zt ot
-sides-two e S = out (rw e at S)
-  where
-    out : {nodes : List ℕ} {n p level z o zt ot : ℕ} → SidesOf nodes n p level (TwoOf z o zt ot) → TwoSides nodes n p level z o zt ot
-    out (two-sides T) = T
-
-pub sides-broken : {nodes : List ℕ} {n p level : ℕ} {x : Sides} → x ≡ NoSides → SidesOf nodes n p level x → (B : List Family) (lookup : List ℕ) → Holds B n nodes lookup → ⊥
-sides-broken e S = out (rw e at S)
-  where
-    out : {nodes : List ℕ} {n p level : ℕ} → SidesOf nodes n p level NoSides → (B : List Family) (lookup : List ℕ) → Holds B n nodes lookup → ⊥
-    out (no-sides f) = f
-
+-- what a fork says, by the answer that was given
 pub fork-two : {nodes : List ℕ} {n : ℕ} {call : Call} {level p₀ q₀ top₀ p₁ q₁ top₁ : ℕ} {x : Fork} → x ≡ Two p₀ q₀ top₀ p₁ q₁ top₁ → ForkOf nodes n call level x → Forked nodes n call level p₀ q₀ top₀ p₁ q₁ top₁
 fork-two e S = out (rw e at S)
   where

@@ -1,0 +1,3 @@
+-- The laws of `families`.
+pub mod Orders
+pub mod Forks

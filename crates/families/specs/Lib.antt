@@ -1,0 +1,2 @@
+-- What the contracts of `families` cite.
+pub mod Fork

@@ -1,0 +1,2 @@
+// The recursion for two families: Union, Intsec and Diff.
+pub mod families;

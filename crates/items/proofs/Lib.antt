@@ -1,0 +1,2 @@
+-- The laws of `items`.
+pub mod Restricting

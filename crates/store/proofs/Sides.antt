@@ -1,0 +1,21 @@
+-- What the sides of a family say, by the answer that was given.
+-- The answer is one of two, and each carries what it says.
+use Prim.Native.Nat.{ℕ}
+use mathlib.Core.Path.{_≡_}
+use mathlib.Core.List.{List}
+use Rattle.family.specs.Family.{Family}
+use Rattle.store.specs.declared.node.Sides.{Sides}
+use Rattle.store.specs.declared.node.Sides.the-variants.{Two, Broken}
+use Rattle.store.specs.Inner.{Holds, TwoSides, SidesOf, two, broken}
+
+pub sides-two : {nodes : List ℕ} {n p level z o zt ot : ℕ} {x : Sides} → x ≡ Two z o zt ot → SidesOf nodes n p level x → TwoSides nodes n p level z o zt ot
+sides-two e S = out (rw e at S)
+  where
+    out : {nodes : List ℕ} {n p level z o zt ot : ℕ} → SidesOf nodes n p level (Two z o zt ot) → TwoSides nodes n p level z o zt ot
+    out (two T) = T
+
+pub sides-broken : {nodes : List ℕ} {n p level : ℕ} {x : Sides} → x ≡ Broken → SidesOf nodes n p level x → (B : List Family) (lookup : List ℕ) → Holds B n nodes lookup → ⊥
+sides-broken e S = out (rw e at S)
+  where
+    out : {nodes : List ℕ} {n p level : ℕ} → SidesOf nodes n p level Broken → (B : List Family) (lookup : List ℕ) → Holds B n nodes lookup → ⊥
+    out (broken f) = f
