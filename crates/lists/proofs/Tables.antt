@@ -17,7 +17,7 @@ use Rattle.family.specs.File.{fileOf, familyOf}
 use Rattle.store.specs.Words.{itemLimit}
 use Rattle.store.specs.Placing.{tooLarge}
 use Rattle.store.specs.Scratch.{scratchTests}
-use Rattle.operations.specs.Promise.{isItem, operationRefusal}
+use Rattle.dispatch.specs.Promise.{isItem, operationRefusal}
 use Rattle.queries.specs.Sizes.{most, sizeRefusal, sizeAnswer}
 use Rattle.queries.specs.Membership.{hasAnswer}
 use Rattle.saving.specs.Promise.{saveRefusal, saveAnswer, saveOutput}

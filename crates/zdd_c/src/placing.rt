@@ -1,5 +1,5 @@
 // The six operations.
-ghost use Rattle.operations.specs.Promise.{OperationCall};
+ghost use Rattle.dispatch.specs.Promise.{OperationCall};
 ghost use Rattle.c_records.specs.Shown.{placedOf};
 ghost use Rattle.zdd_c.specs.Export.{Exported};
 use c_records::given::CPlaced;

@@ -1,0 +1,2 @@
+-- The laws of `dispatch`.
+pub mod Refusing

@@ -1,0 +1,2 @@
+-- What the contracts of `dispatch` cite.
+pub mod Promise

@@ -1,2 +1,0 @@
--- The ways out of the six calls.
-pub mod Refusing
