@@ -9,10 +9,10 @@ use Rattle.store.specs.declared.record.Placed.{Placed}
 use Rattle.fresh.specs.declared.fresh.FreshAnswer.the-variants as fresh
 use Rattle.fresh.specs.declared.fresh.Freshened.{Freshened}
 use Rattle.store.specs.Refusals.{refusalNumber}
-use Rattle.queries.specs.declared.size.SizeAnswer.the-variants as size
-use Rattle.queries.specs.declared.size.Measured.{Measured}
-use Rattle.queries.specs.declared.has.HasAnswer.the-variants as has
-use Rattle.queries.specs.declared.has.Asked.{Asked}
+use Rattle.counting.specs.declared.size.SizeAnswer.the-variants as size
+use Rattle.counting.specs.declared.size.Measured.{Measured}
+use Rattle.membership.specs.declared.has.HasAnswer.the-variants as has
+use Rattle.membership.specs.declared.has.Asked.{Asked}
 use Rattle.saving.specs.declared.save.SaveAnswer.the-variants as save
 use Rattle.saving.specs.declared.save.Saved.{Saved}
 use Rattle.audit.specs.declared.audit.Audited.{Audited}

@@ -4,10 +4,10 @@ use Rattle.store.specs.declared.record.Placed.{Placed}
 use Rattle.fresh.specs.declared.fresh.Freshened.{Freshened}
 use Rattle.store.specs.Refusals.{givenBy}
 use Rattle.fresh.specs.Fresh.{freshNumber}
-use Rattle.queries.specs.declared.size.Measured.{Measured}
-use Rattle.queries.specs.declared.has.Asked.{Asked}
-use Rattle.queries.specs.Sizes.{sizeGivenBy}
-use Rattle.queries.specs.Membership.{hasGivenBy}
+use Rattle.counting.specs.declared.size.Measured.{Measured}
+use Rattle.membership.specs.declared.has.Asked.{Asked}
+use Rattle.counting.specs.Sizes.{sizeGivenBy}
+use Rattle.membership.specs.Membership.{hasGivenBy}
 use Rattle.saving.specs.declared.save.Saved.{Saved}
 use Rattle.saving.specs.Promise.{saveGivenBy}
 use Rattle.audit.specs.declared.audit.Audited.{Audited}

@@ -1,1 +1,1 @@
-// Families of combinations: this crate is definitions (specs/), laws (proofs/) and the record of one combination.
+// Families of combinations: this crate is definitions (specs/) and laws (proofs/).

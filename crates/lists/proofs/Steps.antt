@@ -18,10 +18,10 @@ use Rattle.store.specs.Cache.{named, True}
 use Rattle.store.specs.Sound.{Sound}
 use Rattle.store.proofs.Sounds.{zeroed-true}
 use Rattle.dispatch.specs.Promise.{operationRefusal, OperationCall}
-use Rattle.queries.specs.declared.size.Measured.{Measured}
-use Rattle.queries.specs.declared.has.Asked.{Asked}
-use Rattle.queries.specs.Sizes.{sizeGivenBy, sizeAnswer, SizeCall}
-use Rattle.queries.specs.Membership.{hasGivenBy, hasAnswer, HasCall}
+use Rattle.counting.specs.declared.size.Measured.{Measured}
+use Rattle.membership.specs.declared.has.Asked.{Asked}
+use Rattle.counting.specs.Sizes.{sizeGivenBy, sizeAnswer, SizeCall}
+use Rattle.membership.specs.Membership.{hasGivenBy, hasAnswer, HasCall}
 use Rattle.saving.specs.declared.save.Saved.{Saved}
 use Rattle.saving.specs.Promise.{saveGivenBy, saveAnswer, saveOutput, SaveCall}
 use Rattle.loading.specs.Promise.{loadRefusal, loadFamily, LoadCall}

@@ -18,8 +18,8 @@ use Rattle.store.specs.Words.{itemLimit}
 use Rattle.store.specs.Placing.{tooLarge}
 use Rattle.store.specs.Scratch.{scratchTests}
 use Rattle.dispatch.specs.Promise.{isItem, operationRefusal}
-use Rattle.queries.specs.Sizes.{most, sizeRefusal, sizeAnswer}
-use Rattle.queries.specs.Membership.{hasAnswer}
+use Rattle.counting.specs.Sizes.{most, sizeRefusal, sizeAnswer}
+use Rattle.membership.specs.Membership.{hasAnswer}
 use Rattle.saving.specs.Promise.{saveRefusal, saveAnswer, saveOutput}
 use Rattle.loading.specs.Promise.{noFile, loadRefusal, found, loadFamily}
 use Rattle.lists.specs.Calls.{Operation, Subset1, Subset0, Change, Union, Intsec, Diff, numberOf, takesItem, Call, Operate, Size, Has, Save, Load, Audit}

@@ -11,10 +11,10 @@ use Rattle.fresh.specs.declared.fresh.Freshened.{Freshened}
 use Rattle.store.specs.Refusals.{Given, givenBy}
 use Rattle.fresh.specs.Fresh.{freshNumber, FreshCall}
 use Rattle.dispatch.specs.Promise.{OperationCall}
-use Rattle.queries.specs.declared.size.Measured.{Measured}
-use Rattle.queries.specs.declared.has.Asked.{Asked}
-use Rattle.queries.specs.Sizes.{SizeGiven, sizeGivenBy, SizeCall}
-use Rattle.queries.specs.Membership.{HasGiven, hasGivenBy, HasCall}
+use Rattle.counting.specs.declared.size.Measured.{Measured}
+use Rattle.membership.specs.declared.has.Asked.{Asked}
+use Rattle.counting.specs.Sizes.{SizeGiven, sizeGivenBy, SizeCall}
+use Rattle.membership.specs.Membership.{HasGiven, hasGivenBy, HasCall}
 use Rattle.saving.specs.declared.save.Saved.{Saved}
 use Rattle.saving.specs.Promise.{SaveGiven, saveGivenBy, SaveCall}
 use Rattle.loading.specs.Promise.{LoadCall}

@@ -9,9 +9,9 @@ use crate::output::sum_line;
 use crate::output::text;
 use crate::output::word;
 use crate::sums::of_sizes;
-use queries::size::Measured;
-use queries::size::SizeAnswer;
-use queries::size::size;
+use counting::size::Measured;
+use counting::size::SizeAnswer;
+use counting::size::size;
 
 // Writes what Size gave.
 fn given(measured: Measured) {

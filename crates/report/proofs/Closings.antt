@@ -26,9 +26,9 @@ use Rattle.store.proofs.Decoding.{sound-holds}
 use Rattle.store.proofs.Calls.{refusal-some}
 use Rattle.store.proofs.Tested.{tests-passed}
 use Rattle.dispatch.specs.Promise.{OperationCall}
-use Rattle.queries.specs.declared.size.SizeAnswer.the-variants.{Members, Refused as NoSize}
-use Rattle.queries.specs.declared.size.Measured.{Measured}
-use Rattle.queries.specs.Sizes.{most, SizeGiven, sizeGivenBy, sizeRefusal, sizeAnswer, SizeCall}
+use Rattle.counting.specs.declared.size.SizeAnswer.the-variants.{Members, Refused as NoSize}
+use Rattle.counting.specs.declared.size.Measured.{Measured}
+use Rattle.counting.specs.Sizes.{most, SizeGiven, sizeGivenBy, sizeRefusal, sizeAnswer, SizeCall}
 use Rattle.family.specs.Combination.{itemsOf}
 use Rattle.line.specs.declared.line.Side.{Side}
 use Rattle.line.specs.declared.line.Stage.{Stage}

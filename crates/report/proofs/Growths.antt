@@ -14,7 +14,7 @@ use Rattle.family.specs.Combination.{largest, Falling, Combined, holds, insert,
 use Rattle.family.proofs.Falling.{insert-falling}
 use Rattle.family.proofs.Diagrams.{within-self}
 use Rattle.family.proofs.Laws.{union-within}
-use Rattle.queries.specs.Sizes.{most}
+use Rattle.counting.specs.Sizes.{most}
 use Rattle.line.specs.declared.line.Side.{Side}
 use Rattle.line.specs.declared.line.Side.the-variants.{Passed, Returned}
 use Rattle.tally.specs.declared.tally.Ending.{Ending}

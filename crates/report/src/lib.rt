@@ -1,2 +1,2 @@
-// The report on a log of passed and returned panels: reading its lines, adding them up, and the closing sums.
+// The report on a log: the closing sums and how they are written.
 pub mod sums;

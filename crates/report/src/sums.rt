@@ -12,8 +12,8 @@ use text::text::put_sums;
 use text::text::put_word;
 use operations::calls::diff;
 use operations::calls::intsec;
-use queries::size::SizeAnswer;
-use queries::size::size;
+use counting::size::SizeAnswer;
+use counting::size::size;
 use store::record::PlaceAnswer;
 use store::record::Store;
 

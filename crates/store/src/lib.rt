@@ -1,3 +1,3 @@
-// The store in lent words: record, nodes, making and taking back, Fresh.
+// The store in lent words: the record and the nodes.
 pub mod node;
 pub mod record;

@@ -10,7 +10,7 @@ use Rattle.family.specs.Book.{start, at}
 use Rattle.store.specs.Capacity.{capacityOf}
 use Rattle.store.specs.Words.{bookOf}
 use Rattle.store.specs.Sound.{Sound}
-use Rattle.queries.specs.Sizes.{most}
+use Rattle.counting.specs.Sizes.{most}
 use Rattle.line.specs.declared.line.Side.{Side}
 use Rattle.line.specs.declared.line.Side.the-variants.{Passed, Returned}
 use Rattle.tally.specs.declared.tally.Ending.{Ending}

@@ -1,7 +1,7 @@
 // Size and Has.
 ghost use Rattle.family.specs.Combination.{itemsOf};
-ghost use Rattle.queries.specs.Membership.{HasCall};
-ghost use Rattle.queries.specs.Sizes.{SizeCall};
+ghost use Rattle.membership.specs.Membership.{HasCall};
+ghost use Rattle.counting.specs.Sizes.{SizeCall};
 ghost use Rattle.c_records.specs.Shown.{measuredOf, askedOf};
 ghost use Rattle.zdd_c.specs.Export.{Exported};
 use c_records::given::CAsked;
@@ -12,8 +12,8 @@ use c_records::given::asked;
 use c_records::given::measured;
 use c_records::given::taken;
 use combination::combination::Combination;
-use queries::has::has;
-use queries::size::size;
+use membership::has::has;
+use counting::size::size;
 
 // The number of members of p; the scratch then holds the size of every node held.
 #[no_mangle]

@@ -1,0 +1,2 @@
+// Size: the number of members.
+pub mod size;

@@ -1,0 +1,3 @@
+-- The laws of `membership`.
+pub mod Descending
+pub mod Asking

@@ -1,0 +1,3 @@
+-- What the contracts of `membership` cite.
+pub mod Membership
+pub mod Descent

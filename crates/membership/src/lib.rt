@@ -1,0 +1,2 @@
+// Has: whether a combination is a member.
+pub mod has;

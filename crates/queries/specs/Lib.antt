@@ -1,3 +1,0 @@
-pub mod Sizes
-pub mod Membership
-pub mod Inner
