@@ -17,8 +17,8 @@ use crate::output::given;
 use crate::output::text;
 use crate::output::told;
 use audit::audit::audit;
-use operations::calls::change;
 use fresh::fresh::fresh;
+use operations::calls::change;
 use store::record::Placed;
 use store::record::Store;
 

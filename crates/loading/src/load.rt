@@ -7,13 +7,13 @@ ghost use Rattle.loading.specs.Promise.{LoadCall};
 ghost use Rattle.loading.specs.Inner.{TableOf, ContentOf};
 use local_table::order::Order;
 use local_table::order::in_order;
-use placement::place::place_parts;
 use local_table::read::read_records;
+use placement::place::place_parts;
 use records::read::four;
+use rollback::rollback::finish;
 use store::record::Placed;
 use store::record::Refusal;
 use store::record::Store;
-use rollback::rollback::finish;
 use words::zero;
 
 // What a file holds: {} or {{}} by its handle, so many parts in the local table, or no family.

@@ -3,19 +3,19 @@ ghost use Prim.Native.Nat.{_≤_};
 ghost use lib.ListN.{length};
 ghost use Rattle.tally.specs.Log.{CloseCall};
 ghost use Rattle.report.specs.Ends.{SizeIt, SizesIt, SumsIt, EndIt};
+use counting::size::SizeAnswer;
+use counting::size::size;
 use line::line::Stage;
+use operations::calls::diff;
+use operations::calls::intsec;
+use store::record::PlaceAnswer;
+use store::record::Store;
 use tally::tally::Ending;
 use tally::tally::Tally;
 use tally::tally::bumped;
 use text::text::put_line;
 use text::text::put_sums;
 use text::text::put_word;
-use operations::calls::diff;
-use operations::calls::intsec;
-use counting::size::SizeAnswer;
-use counting::size::size;
-use store::record::PlaceAnswer;
-use store::record::Store;
 
 // The families of which the sizes are printed.
 pub struct Handles {

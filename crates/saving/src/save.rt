@@ -11,15 +11,15 @@ ghost use Rattle.store.specs.Inner.{Roomy};
 ghost use Rattle.saving.specs.Promise.{SaveCall};
 ghost use Rattle.trail.specs.Trail.{TrailFits};
 ghost use Rattle.saving.specs.Inner.{LeafOf, FileOf, PartsOf};
-use trail::trail::Trail;
-use trail::walk::Walked;
-use trail::walk::walk;
-use writing::write::write_parts;
 use records::write::put_four;
 use store::node::top_of;
 use store::record::Refusal;
 use store::record::Store;
+use trail::trail::Trail;
+use trail::walk::Walked;
+use trail::walk::walk;
 use words::zero;
+use writing::write::write_parts;
 
 // What Save answers.
 pub enum SaveAnswer {

@@ -4,10 +4,10 @@ use crate::output::refused;
 use crate::output::text;
 use crate::output::word;
 use combination::combination::Combination;
-use membership::has::HasAnswer;
-use membership::has::has;
 use counting::size::SizeAnswer;
 use counting::size::size;
+use membership::has::HasAnswer;
+use membership::has::has;
 use store::record::Store;
 
 // Asks whether a combination of items up to 32 is in p, and writes the line.

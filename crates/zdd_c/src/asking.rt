@@ -12,8 +12,8 @@ use c_records::given::asked;
 use c_records::given::measured;
 use c_records::given::taken;
 use combination::combination::Combination;
-use membership::has::has;
 use counting::size::size;
+use membership::has::has;
 
 // The number of members of p; the scratch then holds the size of every node held.
 #[no_mangle]
