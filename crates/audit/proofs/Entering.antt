@@ -12,13 +12,13 @@ use borrow.Author.Tests.{eq-eqb, eqb-true}
 use Rattle.words.proofs.Cases.{by-lt}
 use Rattle.table.specs.Probe.{scan, stopOn, probeOf}
 use Rattle.table.specs.Entered.{empty, firstFree, entered, used, startAt}
-use Rattle.table.specs.Own.{ownOf}
+use Rattle.own_slots.specs.Own.{ownOf}
 use Rattle.table.proofs.Scan.{scan-refine}
 use Rattle.table.proofs.Stops.{Has, stop-low, stop-high}
 use Rattle.table.proofs.Filled.{slotAt, holds, filled}
 use Rattle.table.proofs.Found.{starts-in, found}
-use Rattle.table.proofs.OwnSlots.{own-none, own-above, own-search, own-entered, Distinct, Items}
-use Rattle.audit.specs.Inner.{OwnAt}
+use Rattle.own_slots.proofs.OwnSlots.{own-none, own-above, own-search, own-entered, Distinct, Items}
+use Rattle.soundness.specs.Tests.{OwnAt}
 use Rattle.audit.proofs.Rows.{rows, rows-length, row-free, row-all, row-past}
 
 -- a node whose search stops at its number has an item

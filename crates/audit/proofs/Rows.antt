@@ -11,7 +11,7 @@ use Rattle.words.proofs.Cases.{by-eq, by-lt}
 use Rattle.words.proofs.Zeroed.{zeros-length, zero-getD}
 use Rattle.table.specs.Entered.{used}
 use Rattle.table.proofs.Used.{used-none, used-set}
-use Rattle.audit.proofs.Counting.{part-whole}
+use Rattle.soundness.proofs.Counting.{part-whole}
 
 -- the first m numbers entered at the slots that r gives
 unfoldable pub rows : (ℕ → ℕ) → ℕ → ℕ → List ℕ

@@ -9,7 +9,7 @@ use lib.ListN.{length}
 use Rattle.words.specs.Words.{zeroed}
 use Rattle.words.proofs.Cases.{by-test, clash}
 use Rattle.table.specs.Entered.{used}
-use Rattle.table.proofs.OwnSlots.{Distinct, Items}
+use Rattle.own_slots.proofs.OwnSlots.{Distinct, Items}
 use Rattle.store.specs.declared.record.Store.{Store}
 use Rattle.store.specs.Capacity.{fitting}
 use Rattle.store.specs.Words.{bookOf}
@@ -18,7 +18,8 @@ use Rattle.store.specs.Sound.{Sound}
 use Rattle.store.proofs.Fitting.{fits-true, true-fits}
 use Rattle.store.proofs.Sounds.{zeroed-true}
 use Rattle.audit.specs.Promise.{AuditCall}
-use Rattle.audit.specs.Inner.{Decides, NodesTo, Blank, Tells}
+use Rattle.soundness.specs.Tests.{Decides, NodesTo, Blank}
+use Rattle.audit.specs.Inner.{Tells}
 use Rattle.audit.proofs.Entering.{is-entered, are-distinct, entered-used, entered-own}
 
 module _ (s : Store) (nodes lookup : List ℕ) where

@@ -1,9 +1,9 @@
 // Audit: whether a store is sound.
 ghost use Rattle.audit.specs.Inner.{Tells};
 ghost use Rattle.audit.specs.Promise.{AuditCall};
-use crate::blank::are_zero;
-use crate::nodes::all_obey;
-use crate::slots::used_slots;
+use soundness::blank::are_zero;
+use soundness::nodes::all_obey;
+use soundness::slots::used_slots;
 use store::record::Store;
 use words::zero_groups;
 

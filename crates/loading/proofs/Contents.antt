@@ -14,7 +14,7 @@ use Rattle.family.specs.Book.{start, at, place}
 use Rattle.family.specs.Record.{front, readNumber}
 use Rattle.family.specs.File.{andThen, readRecords, lastOf, readParts, alone, familyOf}
 use Rattle.store.specs.Words.{itemLimit}
-use Rattle.records.proofs.Taking.{number-short, number-four}
+use Rattle.record_reading.proofs.Taking.{number-short, number-four}
 use Rattle.loading.specs.declared.load.Content.{Content}
 use Rattle.loading.specs.declared.load.Content.the-variants.{Leaf, Parts, Bad}
 use Rattle.local_table.specs.Local.{Local}

@@ -9,7 +9,7 @@ use local_table::order::Order;
 use local_table::order::in_order;
 use local_table::read::read_records;
 use placement::place::place_parts;
-use records::read::four;
+use record_reading::read::four;
 use rollback::rollback::finish;
 use store::record::Placed;
 use store::record::Refusal;

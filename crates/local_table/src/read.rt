@@ -5,9 +5,9 @@ ghost use lib.ListN.{length};
 ghost use Rattle.family.specs.Book.{start};
 ghost use Rattle.local_table.specs.Local.{Local, RecordsOf};
 use crate::local::take_part;
+use record_reading::read::Record;
+use record_reading::read::read_record;
 use records::field::Last;
-use records::read::Record;
-use records::read::read_record;
 
 // Takes so many records, each from the rest of the bytes; false where one is none, or bytes are left over.
 pub fn read_records(records: &[u8], parts: u32, words: &mut [u32], bytes: usize) -> bool

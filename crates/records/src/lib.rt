@@ -1,4 +1,3 @@
-// The records of a file: a bit map byte, then the fields that stand.
+// The record of a part in a file: a bit map byte, then the fields that stand; and one record written.
 pub mod field;
-pub mod read;
 pub mod write;

@@ -1,10 +1,10 @@
 // Taking back the newest nodes.
 ghost use Prim.Native.Nat.{_≤_};
 ghost use Rattle.store.specs.Inner.{Roomy, RolledBack, Finished};
+use own_slots::own::clear_newest;
 use store::record::PlaceAnswer;
 use store::record::Placed;
 use store::record::Store;
-use table::own::clear_newest;
 use words::zero;
 use words::zero_groups;
 

@@ -5,5 +5,4 @@ pub mod Stops
 pub mod Used
 pub mod Filled
 pub mod Found
-pub mod OwnSlots
 pub mod Examples

@@ -1,4 +1,3 @@
 pub mod Start
 pub mod Probe
 pub mod Entered
-pub mod Own

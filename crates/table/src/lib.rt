@@ -1,5 +1,4 @@
 // The unique table on bare words: mixing numbers, start slots, the probe.
 pub mod mix;
-pub mod own;
 pub mod probe;
 pub mod start;

@@ -3,7 +3,7 @@
 use borrow.Author.Needs.{needs}
 use mathlib.Core.Path.{refl}
 use native.Mathlib.Omega.{arith}
-use Rattle.records.proofs.Taking.{part-from}
+use Rattle.record_reading.proofs.Taking.{part-from}
 use Rattle.loading.proofs.Contents.{file-none, file-rest, file-over, file-leaf, file-other}
 use borrow.Author.Needs.{needs}
 use Rattle.loading.proofs.load.read_file.Statement.{statement}

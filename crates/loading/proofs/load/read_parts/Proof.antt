@@ -5,7 +5,7 @@ use native.Mathlib.Omega.{arith}
 use borrow.Author.Tests.{not-true, not-false}
 use lib.ListN.{drop}
 use Rattle.loading.proofs.Tables.{table-part}
-use Rattle.records.proofs.Taking.{part-from}
+use Rattle.record_reading.proofs.Taking.{part-from}
 use Rattle.loading.proofs.Contents.{file-short, file-zero, file-many, file-unread, file-parts}
 use borrow.Author.Needs.{needs}
 use Rattle.loading.proofs.load.read_parts.Statement.{statement}

@@ -5,7 +5,7 @@ use mathlib.Core.Path.{refl, _∙_}
 use Prim.Native.Nat.{_-_}
 use native.Mathlib.Omega.{arith}
 use borrow.Author.Tests.{not-true, not-false}
-use Rattle.records.proofs.Taking.{part-from}
+use Rattle.record_reading.proofs.Taking.{part-from}
 use Rattle.local_table.proofs.Recording.{Upto, upto-start, upto-none, upto-room, upto-fits, upto-unfit, upto-step, upto-done}
 use Rattle.local_table.proofs.read.read_records.Statement.{statement}
 use Rattle.local_table.proofs.read.read_records.Tie as tie

@@ -1,0 +1,2 @@
+-- The laws of `own_slots`.
+pub mod OwnSlots

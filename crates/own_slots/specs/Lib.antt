@@ -1,0 +1,2 @@
+-- What the contracts of `own_slots` cite.
+pub mod Own

@@ -1,0 +1,2 @@
+-- The laws of `record_reading`.
+pub mod Taking

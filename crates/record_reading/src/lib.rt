@@ -1,0 +1,2 @@
+// One record of a file read: its fields, and what they stand for.
+pub mod read;

@@ -1,0 +1,2 @@
+-- What the contracts of `soundness` cite.
+pub mod Tests
