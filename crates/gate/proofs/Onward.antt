@@ -7,8 +7,8 @@ use mathlib.Core.List.{List, [], _++_, foldl-append}
 use native.Mathlib.Omega.{arith}
 use lib.ListN.{length, take}
 use Rattle.store.specs.Capacity.{capacityOf}
-use Rattle.tally.specs.declared.tally.Tally.{Tally}
-use Rattle.tally.specs.Log.{Log, opening, logByte, feed, Keeps, OpenCall, TakeCall, CloseCall}
+use Rattle.log.specs.declared.log.Tally.{Tally}
+use Rattle.log.specs.Log.{Log, opening, logByte, feed, Keeps, OpenCall, TakeCall, CloseCall}
 use Rattle.report.proofs.Reports.{log-report}
 use Rattle.gate.specs.declared.Report.{Report}
 use Rattle.gate.specs.Following.{Follows, Reported}

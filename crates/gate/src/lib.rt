@@ -1,10 +1,10 @@
 // Moves bytes: reads a log from a descriptor in pieces, and writes what the report comes to.
 ghost use Rattle.gate.specs.Following.{Follows, Reported, Ran};
 use libc::STDOUT_FILENO;
+use log::log::Ending;
+use log::log::Tally;
+use log::log::open_log;
 use report::sums::close;
-use tally::tally::Ending;
-use tally::tally::Tally;
-use tally::tally::open_log;
 use tally::tally::take_piece;
 
 // Whether there may be more to read.

@@ -33,17 +33,17 @@ use Rattle.family.specs.Combination.{itemsOf}
 use Rattle.line.specs.declared.line.Side.{Side}
 use Rattle.line.specs.declared.line.Stage.{Stage}
 use Rattle.report.specs.declared.sums.Handles.{Handles}
-use Rattle.tally.specs.declared.tally.Ending.{Ending}
-use Rattle.tally.specs.declared.tally.Ending.the-variants.{Going}
-use Rattle.tally.specs.declared.tally.Tally.{Tally}
+use Rattle.log.specs.declared.log.Ending.{Ending}
+use Rattle.log.specs.declared.log.Ending.the-variants.{Going}
+use Rattle.log.specs.declared.log.Tally.{Tally}
 use Rattle.line.specs.Line.{progressOf}
 use Rattle.adding.specs.Adding.{Added, placed, After}
 use Rattle.text.specs.Text.{refusedWord, reportFull, lineText, sumsText, Wrote}
-use Rattle.tally.specs.Log.{Lot, Log, capped, closing, lastOf, endOf, outputOf, Keeps, CloseCall}
+use Rattle.log.specs.Log.{Lot, Log, capped, closing, lastOf, endOf, outputOf, Keeps, CloseCall}
 use Rattle.report.specs.Ends.{SizeIt, AllHeld, SizesIt, SumsIt, EndIt}
 use Rattle.adding.proofs.Placings.{combine-after}
 use Rattle.adding.proofs.Makings.{gives, refused-full, placed-grown}
-use Rattle.tally.proofs.Logs.{Stays, stays}
+use Rattle.log.proofs.Logs.{Stays, stays}
 
 -- a sound store is sound with no cache lent
 pub bare : {s : Store} {nodes lookup cache : List ℕ} → Sound s nodes lookup cache → Sound s nodes lookup []

@@ -17,11 +17,11 @@ use Rattle.family.proofs.Laws.{union-within}
 use Rattle.counting.specs.Sizes.{most}
 use Rattle.line.specs.declared.line.Side.{Side}
 use Rattle.line.specs.declared.line.Side.the-variants.{Passed, Returned}
-use Rattle.tally.specs.declared.tally.Ending.{Ending}
-use Rattle.tally.specs.declared.tally.Ending.the-variants.{Going, Refused, Full}
+use Rattle.log.specs.declared.log.Ending.{Ending}
+use Rattle.log.specs.declared.log.Ending.the-variants.{Going, Refused, Full}
 use Rattle.line.specs.Line.{Progress, blank, letter, space, number, whole, malformed, first, gap, opened, isDigit, grown, closed, advance, State, begin, step, lineOf}
 use Rattle.adding.specs.Adding.{Added, added}
-use Rattle.tally.specs.Log.{Lot, Taken, withPassed, withReturned, takeLine, Log, opening, counted, readOn, whileGoing, logByte, feed, capped}
+use Rattle.log.specs.Log.{Lot, Taken, withPassed, withReturned, takeLine, Log, opening, counted, readOn, whileGoing, logByte, feed, capped}
 use Rattle.report.proofs.Meanings.{single, single-falls, single-size, added-single, union-size, intsec-size, diff-size}
 
 -- the items taken of a line are a combination

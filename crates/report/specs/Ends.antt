@@ -9,9 +9,9 @@ use Rattle.store.specs.declared.record.Store.{Store}
 use Rattle.store.specs.Words.{bookOf}
 use Rattle.store.specs.Sound.{Sound}
 use Rattle.report.specs.declared.sums.Handles.{Handles}
-use Rattle.tally.specs.declared.tally.Tally.{Tally}
+use Rattle.log.specs.declared.log.Tally.{Tally}
 use Rattle.text.specs.Text.{sumsText}
-use Rattle.tally.specs.Log.{Log, capped, closing, lastOf, Keeps}
+use Rattle.log.specs.Log.{Log, capped, closing, lastOf, Keeps}
 
 -- the size of a handle that is held, with enough scratch
 pub record SizeIt (s : Store) (nodes lookup : List ℕ) (p words r : ℕ) : Type 0 where

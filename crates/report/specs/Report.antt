@@ -7,7 +7,7 @@ use Rattle.family.specs.Family.{empty}
 use Rattle.family.specs.Book.{start}
 use Rattle.line.specs.Line.{Progress, blank, letter, space, number, whole, malformed, lineOf}
 use Rattle.text.specs.Text.{lineText, refusedWord, fullWord}
-use Rattle.tally.specs.Log.{Lot, Taken, takeLine, capped, closing}
+use Rattle.log.specs.Log.{Lot, Taken, takeLine, capped, closing}
 
 -- The lines of an input, each with its newline; what stands behind the last newline, where anything does, is a line too.
 abbrev pub onto : ℕ → List (List ℕ) → List (List ℕ)

@@ -1,18 +1,18 @@
 // The end of a report: the closing sums, or the line that ended the log.
 ghost use Prim.Native.Nat.{_≤_};
 ghost use lib.ListN.{length};
-ghost use Rattle.tally.specs.Log.{CloseCall};
+ghost use Rattle.log.specs.Log.{CloseCall};
 ghost use Rattle.report.specs.Ends.{SizeIt, SizesIt, SumsIt, EndIt};
 use counting::size::SizeAnswer;
 use counting::size::size;
 use line::line::Stage;
+use log::log::Ending;
+use log::log::Tally;
+use log::log::bumped;
 use operations::calls::diff;
 use operations::calls::intsec;
 use store::record::PlaceAnswer;
 use store::record::Store;
-use tally::tally::Ending;
-use tally::tally::Tally;
-use tally::tally::bumped;
 use text::text::put_line;
 use text::text::put_sums;
 use text::text::put_word;

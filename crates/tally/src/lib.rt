@@ -1,2 +1,2 @@
-// The tally of a log: its lines read and its two families grown.
+// A log taken in pieces: its lines read and its two families grown.
 pub mod tally;

@@ -2,7 +2,7 @@
 -- The tally's ending is the log's.
 use borrow.Author.Needs.{needs}
 use mathlib.Core.Path.{refl}
-use Rattle.tally.proofs.Logs.{byte-going, byte-ended}
+use Rattle.log.proofs.Logs.{byte-going, byte-ended}
 use borrow.Author.Needs.{needs}
 use Rattle.tally.proofs.tally.take_byte.Statement.{statement}
 use Rattle.tally.proofs.tally.take_byte.Tie as tie

@@ -1,7 +1,7 @@
 -- A whole line goes to the family of its side.
 -- The side is the one that the line's letter told.
 use borrow.Author.Needs.{needs}
-use Rattle.tally.proofs.Logs.{line-side}
+use Rattle.log.proofs.Logs.{line-side}
 use borrow.Author.Needs.{needs}
 use Rattle.tally.proofs.tally.take_line.Statement.{statement}
 use Rattle.tally.proofs.tally.take_line.Tie as tie

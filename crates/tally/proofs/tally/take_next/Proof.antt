@@ -2,7 +2,7 @@
 -- The stage of the reading is the grammar's progress.
 use borrow.Author.Needs.{needs}
 use mathlib.Core.Path.{refl}
-use Rattle.tally.proofs.Logs.{next-whole, next-read}
+use Rattle.log.proofs.Logs.{next-whole, next-read}
 use borrow.Author.Needs.{needs}
 use Rattle.tally.proofs.tally.take_next.Statement.{statement}
 use Rattle.tally.proofs.tally.take_next.Tie as tie

@@ -2,7 +2,7 @@
 -- The laws of `Logs` have one case for each way out.
 use borrow.Author.Needs.{needs}
 use mathlib.Core.Path.{refl}
-use Rattle.tally.proofs.Logs.{take-passed-full, take-passed-more}
+use Rattle.log.proofs.Logs.{take-passed-full, take-passed-more}
 use borrow.Author.Needs.{needs}
 use Rattle.tally.proofs.tally.take_passed.Statement.{statement}
 use Rattle.tally.proofs.tally.take_passed.Tie as tie

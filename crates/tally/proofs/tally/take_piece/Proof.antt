@@ -5,7 +5,7 @@ use Prim.Native.Nat.{_-_}
 use mathlib.Core.Path.{refl}
 use lib.ListN.{length}
 use native.Mathlib.Omega.{arith}
-use Rattle.tally.proofs.Logs.{Taking, taking-start, taking-again, taking-end}
+use Rattle.log.proofs.Logs.{Taking, taking-start, taking-again, taking-end}
 use Rattle.tally.proofs.tally.take_piece.Statement.{statement}
 use Rattle.tally.proofs.tally.take_piece.Tie as tie
 

@@ -2,7 +2,7 @@
 -- The laws of `Logs` have one case for each way out.
 use borrow.Author.Needs.{needs}
 use mathlib.Core.Path.{refl}
-use Rattle.tally.proofs.Logs.{take-returned-full, take-returned-more}
+use Rattle.log.proofs.Logs.{take-returned-full, take-returned-more}
 use borrow.Author.Needs.{needs}
 use Rattle.tally.proofs.tally.take_returned.Statement.{statement}
 use Rattle.tally.proofs.tally.take_returned.Tie as tie

@@ -4,10 +4,10 @@ use mathlib.Core.Path.{_≡_}
 use mathlib.Core.List.{List}
 use Rattle.store.specs.declared.record.Store.{Store}
 use Rattle.line.specs.declared.line.Side.{Side}
-use Rattle.tally.specs.declared.tally.Ending.{Ending}
-use Rattle.tally.specs.declared.tally.Tally.{Tally}
+use Rattle.log.specs.declared.log.Ending.{Ending}
+use Rattle.log.specs.declared.log.Tally.{Tally}
 use Rattle.line.specs.Line.{begin, step, stateOf}
-use Rattle.tally.specs.Log.{Log, takeLine, counted, readOn, Keeps}
+use Rattle.log.specs.Log.{Log, takeLine, counted, readOn, Keeps}
 
 -- a tally by its fields, behind the end of a line
 pub record TallyIs (s : Store) (passed returned lines : ℕ) (e : Ending) (t : Tally) : Type 0 where

@@ -31,13 +31,13 @@ use Rattle.line.specs.declared.line.Side.{Side}
 use Rattle.line.specs.declared.line.Side.the-variants.{Passed, Returned}
 use Rattle.line.specs.declared.line.Stage.{Stage}
 use Rattle.line.specs.declared.line.Reading.{Reading}
-use Rattle.tally.specs.declared.tally.Ending.{Ending}
-use Rattle.tally.specs.declared.tally.Ending.the-variants.{Going, Refused, Full}
-use Rattle.tally.specs.declared.tally.Tally.{Tally}
+use Rattle.log.specs.declared.log.Ending.{Ending}
+use Rattle.log.specs.declared.log.Ending.the-variants.{Going, Refused, Full}
+use Rattle.log.specs.declared.log.Tally.{Tally}
 use Rattle.line.specs.Line.{Progress, State, begin, step, progressOf, stateOf}
 use Rattle.adding.specs.Adding.{Added, next, made, added, After, AddCall}
-use Rattle.tally.specs.Log.{Lot, Taken, withPassed, withReturned, takeLine, Log, opening, counted, readOn, whileGoing, logByte, feed, capped, Keeps, OpenCall, TakeCall}
-use Rattle.tally.specs.Steps.{TallyIs, LineIt, NextIt}
+use Rattle.log.specs.Log.{Lot, Taken, withPassed, withReturned, takeLine, Log, opening, counted, readOn, whileGoing, logByte, feed, capped, Keeps, OpenCall, TakeCall}
+use Rattle.log.specs.Steps.{TallyIs, LineIt, NextIt}
 use Rattle.adding.proofs.Makings.{Gives, gives, refused-full, next-grown, made-grown}
 
 -- opening

@@ -2,10 +2,10 @@
 -- What Fresh leaves is a sound store whose book is the first one.
 use borrow.Author.Needs.{needs}
 use mathlib.Core.Path.{refl}
-use Rattle.tally.proofs.Logs.{opened}
+use Rattle.log.proofs.Logs.{opened}
 use borrow.Author.Needs.{needs}
-use Rattle.tally.proofs.tally.open_log.Statement.{statement}
-use Rattle.tally.proofs.tally.open_log.Tie as tie
+use Rattle.log.proofs.log.open_log.Statement.{statement}
+use Rattle.log.proofs.log.open_log.Tie as tie
 
 fresh-requires : tie.Need-fresh-requires
 fresh-requires c κs = search needs

@@ -1,0 +1,2 @@
+-- The laws of `log`.
+pub mod Logs

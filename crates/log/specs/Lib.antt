@@ -1,0 +1,3 @@
+-- What the contracts of `log` cite.
+pub mod Log
+pub mod Steps

@@ -1,3 +1,0 @@
--- What the contracts of `tally` cite.
-pub mod Log
-pub mod Steps
