@@ -27,7 +27,7 @@ use Rattle.store.specs.Sound.{Sound}
 use Rattle.store.specs.Placing.{tooLarge}
 use Rattle.store.proofs.Decoding.{sound-holds}
 use Rattle.store.proofs.Calls.{refusal-some}
-use Rattle.dispatch.specs.Promise.{OperationCall}
+use Rattle.operations.specs.Promise.{OperationCall}
 use Rattle.adding.specs.Adding.{Added, placed, next, made, added, answerOf, After, AddCall}
 use Rattle.adding.specs.Inner.{changedBy, ChangeIt, MakeIt}
 use Rattle.adding.proofs.Placings.{handle-inside, change-after, combine-after}

@@ -26,7 +26,7 @@ use Rattle.store.specs.Placing.{tooLarge, placeAnswer, placeBook}
 use Rattle.store.specs.Promise.{Left, leaves, placing, PlaceCall}
 use Rattle.store.proofs.Decoding.{sound-holds}
 use Rattle.store.proofs.Recovering.{book-of-words}
-use Rattle.dispatch.specs.Promise.{isItem, operationRefusal, OperationCall}
+use Rattle.operations.specs.Promise.{isItem, operationRefusal, OperationCall}
 use Rattle.adding.specs.Adding.{Added, placed, answerOf, After}
 
 -- the two ways that a call has which nothing refuses before it places

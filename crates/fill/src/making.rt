@@ -1,6 +1,6 @@
 // Making many nodes with few calls each.
-use operations::calls::change;
-use operations::calls::union;
+use family_calls::calls::union;
+use item_calls::calls::change;
 use store::record::PlaceAnswer;
 use store::record::Placed;
 use store::record::Store;

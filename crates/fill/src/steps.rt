@@ -18,7 +18,7 @@ use crate::output::text;
 use crate::output::told;
 use audit::audit::audit;
 use fresh::fresh::fresh;
-use operations::calls::change;
+use item_calls::calls::change;
 use store::record::Placed;
 use store::record::Store;
 

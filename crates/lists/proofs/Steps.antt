@@ -17,7 +17,7 @@ use Rattle.store.specs.Words.{itemLimit, bookOf}
 use Rattle.store.specs.Cache.{named, True}
 use Rattle.store.specs.Sound.{Sound}
 use Rattle.store.proofs.Sounds.{zeroed-true}
-use Rattle.dispatch.specs.Promise.{operationRefusal, OperationCall}
+use Rattle.operations.specs.Promise.{operationRefusal, OperationCall}
 use Rattle.counting.specs.declared.size.Measured.{Measured}
 use Rattle.membership.specs.declared.has.Asked.{Asked}
 use Rattle.counting.specs.Sizes.{sizeGivenBy, sizeAnswer, SizeCall}

@@ -17,7 +17,7 @@ use Rattle.family.specs.File.{fileOf, familyOf}
 use Rattle.store.specs.Words.{itemLimit}
 use Rattle.store.specs.Placing.{tooLarge}
 use Rattle.store.specs.Scratch.{scratchTests}
-use Rattle.dispatch.specs.Promise.{isItem, operationRefusal}
+use Rattle.operations.specs.Promise.{isItem, operationRefusal}
 use Rattle.counting.specs.Sizes.{most, sizeRefusal, sizeAnswer}
 use Rattle.membership.specs.Membership.{hasAnswer}
 use Rattle.saving.specs.Promise.{saveRefusal, saveAnswer, saveOutput}

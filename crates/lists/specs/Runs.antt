@@ -10,7 +10,7 @@ use Rattle.store.specs.declared.record.Placed.{Placed}
 use Rattle.fresh.specs.declared.fresh.Freshened.{Freshened}
 use Rattle.store.specs.Refusals.{Given, givenBy}
 use Rattle.fresh.specs.Fresh.{freshNumber, FreshCall}
-use Rattle.dispatch.specs.Promise.{OperationCall}
+use Rattle.operations.specs.Promise.{OperationCall}
 use Rattle.counting.specs.declared.size.Measured.{Measured}
 use Rattle.membership.specs.declared.has.Asked.{Asked}
 use Rattle.counting.specs.Sizes.{SizeGiven, sizeGivenBy, SizeCall}

@@ -11,7 +11,7 @@ use Rattle.family.specs.Book.{at}
 use Rattle.family.specs.File.{fileOf, familyOf}
 use Rattle.store.specs.Words.{itemLimit}
 use Rattle.store.specs.Placing.{tooLarge}
-use Rattle.dispatch.specs.Promise.{isItem}
+use Rattle.operations.specs.Promise.{isItem}
 use Rattle.counting.specs.Sizes.{most}
 use Rattle.lists.specs.Calls.{Operation, Subset1, Subset0, Change, Union, Intsec, Diff, takesItem, Call, Operate, Size, Has, Save, Load, Audit}
 

@@ -1,2 +1,1 @@
-// The six operations on the store, with the cache.
-pub mod calls;
+// The promise of the six operations and the laws of their ways out: theory only, in specs/ and proofs/.

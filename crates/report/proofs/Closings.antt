@@ -25,7 +25,7 @@ use Rattle.store.specs.Placing.{tooLarge}
 use Rattle.store.proofs.Decoding.{sound-holds}
 use Rattle.store.proofs.Calls.{refusal-some}
 use Rattle.store.proofs.Tested.{tests-passed}
-use Rattle.dispatch.specs.Promise.{OperationCall}
+use Rattle.operations.specs.Promise.{OperationCall}
 use Rattle.counting.specs.declared.size.SizeAnswer.the-variants.{Members, Refused as NoSize}
 use Rattle.counting.specs.declared.size.Measured.{Measured}
 use Rattle.counting.specs.Sizes.{most, SizeGiven, sizeGivenBy, sizeRefusal, sizeAnswer, SizeCall}

@@ -1,17 +1,17 @@
 // The six operations.
-ghost use Rattle.dispatch.specs.Promise.{OperationCall};
+ghost use Rattle.operations.specs.Promise.{OperationCall};
 ghost use Rattle.c_records.specs.Shown.{placedOf};
 ghost use Rattle.zdd_c.specs.Export.{Exported};
 use c_records::given::CPlaced;
 use c_records::given::CStore;
 use c_records::given::placed;
 use c_records::given::taken;
-use operations::calls::change;
-use operations::calls::diff;
-use operations::calls::intsec;
-use operations::calls::subset0;
-use operations::calls::subset1;
-use operations::calls::union;
+use family_calls::calls::diff;
+use family_calls::calls::intsec;
+use family_calls::calls::union;
+use item_calls::calls::change;
+use item_calls::calls::subset0;
+use item_calls::calls::subset1;
 
 // The members of p with the item, the item taken out.
 #[no_mangle]

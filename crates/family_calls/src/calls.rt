@@ -1,50 +1,45 @@
-// The six public calls.
-ghost use Rattle.dispatch.specs.Promise.{OperationCall};
-use dispatch::dispatch::of_families;
-use dispatch::dispatch::of_item;
+// Union, Intsec and Diff: what refuses them, the recursion, and the end of the call.
+ghost use Prim.Native.Nat.{_≤_};
+ghost use Rattle.operations.specs.Promise.{OperationCall};
+use cache::Call;
+use families::families::apply;
+use families::families::larger;
+use rollback::rollback::finish;
+use store::node::top_of;
 use store::record::Placed;
+use store::record::Refusal;
 use store::record::Store;
 
-// The members of p with the item, the item taken out.
-pub fn subset1(
+// An operation on two families.
+fn of_families(
+    op: u32,
     store: Store,
     nodes: &mut [u32],
     lookup: &mut [u32],
     cache: &mut [u32],
     p: u32,
-    item: u32,
+    q: u32,
 ) -> Placed
-    ensures { λ r. ⌜ OperationCall 1 p item store (now (nodes .entry)) (now (lookup .entry)) (now (cache .entry)) r (now (nodes .exit)) (now (lookup .exit)) (now (cache .exit)) ⌝ }
+    requires { ⌜ (4 ≤ op) × (op ≤ 6) ⌝ }
+    ensures { λ r. ⌜ OperationCall op p q store (now (nodes .entry)) (now (lookup .entry)) (now (cache .entry)) r (now (nodes .exit)) (now (lookup .exit)) (now (cache .exit)) ⌝ }
 {
-    of_item(1, store, nodes, lookup, cache, p, item)
-}
-
-// The members of p without the item.
-pub fn subset0(
-    store: Store,
-    nodes: &mut [u32],
-    lookup: &mut [u32],
-    cache: &mut [u32],
-    p: u32,
-    item: u32,
-) -> Placed
-    ensures { λ r. ⌜ OperationCall 2 p item store (now (nodes .entry)) (now (lookup .entry)) (now (cache .entry)) r (now (nodes .exit)) (now (lookup .exit)) (now (cache .exit)) ⌝ }
-{
-    of_item(2, store, nodes, lookup, cache, p, item)
-}
-
-// The members of p with the item put in where absent and taken out where present.
-pub fn change(
-    store: Store,
-    nodes: &mut [u32],
-    lookup: &mut [u32],
-    cache: &mut [u32],
-    p: u32,
-    item: u32,
-) -> Placed
-    ensures { λ r. ⌜ OperationCall 3 p item store (now (nodes .entry)) (now (lookup .entry)) (now (cache .entry)) r (now (nodes .exit)) (now (lookup .exit)) (now (cache .exit)) ⌝ }
-{
-    of_item(3, store, nodes, lookup, cache, p, item)
+    if !store.fits(nodes.len(), lookup.len()) {
+        return store.refused(Refusal::Damaged);
+    }
+    if !store.holds(p) {
+        return store.refused(Refusal::Handle);
+    }
+    if !store.holds(q) {
+        return store.refused(Refusal::Handle);
+    }
+    let count = store.count;
+    let level = larger(top_of(nodes, count, p), top_of(nodes, count, q));
+    if 512 < level {
+        return store.refused(Refusal::Damaged);
+    }
+    let call = Call { op: op, p: p, q: q };
+    let placed = apply(call, level, store, nodes, lookup, cache);
+    finish(placed, count, nodes, lookup, cache)
 }
 
 // The combinations in p or in q.

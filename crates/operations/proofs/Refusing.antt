@@ -23,7 +23,7 @@ use Rattle.store.proofs.Held.{top-at, within}
 use Rattle.store.proofs.Decoding.{sound-holds}
 use Rattle.store.proofs.Calls.{call-unsound, call-refused, call-done}
 use Rattle.cache.specs.declared.Call.{Call}
-use Rattle.dispatch.specs.Promise.{isItem, operationRefusal, OperationCall}
+use Rattle.operations.specs.Promise.{isItem, operationRefusal, OperationCall}
 use Rattle.recursion.proofs.Steps.{of}
 
 module _ (op n p q : ℕ) where

@@ -5,10 +5,10 @@ use native.Mathlib.Omega.{arith}
 use Rattle.store.proofs.Fitting.{test-refused, test-passed, handle-refused, handle-passed}
 use Rattle.store.proofs.Growing.{kept-roomy}
 use Rattle.store.proofs.Calls.{call-misfit, fits-roomy}
-use Rattle.dispatch.proofs.Refusing.{refused-first, refused-second, refused-tops, done-families}
+use Rattle.operations.proofs.Refusing.{refused-first, refused-second, refused-tops, done-families}
 use borrow.Author.Needs.{needs}
-use Rattle.dispatch.proofs.dispatch.of_families.Statement.{statement}
-use Rattle.dispatch.proofs.dispatch.of_families.Tie as tie
+use Rattle.family_calls.proofs.calls.of_families.Statement.{statement}
+use Rattle.family_calls.proofs.calls.of_families.Tie as tie
 
 abbrev start·After-refused : tie.After-refused → tie.Start
 start·After-refused c = c .before .before .before .before .before .before

@@ -1,2 +1,0 @@
--- The laws of `dispatch`.
-pub mod Refusing

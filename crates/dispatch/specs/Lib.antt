@@ -1,2 +1,0 @@
--- What the contracts of `dispatch` cite.
-pub mod Promise

@@ -1,0 +1,2 @@
+// The operations on two families: Union, Intsec and Diff.
+pub mod calls;

@@ -1,0 +1,2 @@
+-- The laws of `operations`.
+pub mod Refusing
