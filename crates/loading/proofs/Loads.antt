@@ -27,13 +27,13 @@ use Rattle.store.proofs.Calls.{call-misfit, call-refused, call-done, fits-roomy
 use Rattle.store.proofs.Growing.{kept-roomy}
 use Rattle.cache.specs.Inner.{RanPlain}
 use Rattle.cache.proofs.Plain.{plain-handle, plain-ran}
-use Rattle.loading.specs.declared.load.Content.{Content}
-use Rattle.loading.specs.declared.load.Content.the-variants.{Leaf, Parts, Bad}
+use Rattle.reading.specs.declared.file.Content.{Content}
+use Rattle.reading.specs.declared.file.Content.the-variants.{Leaf, Parts, Bad}
 use Rattle.loading.specs.Promise.{noFile, found, loadRefusal, loadFamily, LoadCall}
 use Rattle.local_table.specs.Local.{Local, Nodes}
 use Rattle.placement.specs.Placement.{PlacedOf}
-use Rattle.loading.specs.Inner.{Holding, leaf, parts, nothing, ContentOf}
-use Rattle.local_table.proofs.Walks.{local-nodes}
+use Rattle.reading.specs.Inner.{Holding, leaf, parts, nothing, ContentOf}
+use Rattle.reading.proofs.Walks.{local-nodes}
 
 -- the promise's tests
 module _ (file : List ℕ) (n : ℕ) where

@@ -1,2 +1,2 @@
-// Load: places the family of a file. The records go into a local table in the scratch, the order of the parts is tested there, then each part is placed in the store.
+// Load: places the family of a file. The file is read and tested whole before the first part is placed.
 pub mod load;

@@ -2,5 +2,3 @@
 pub mod Slots
 pub mod Entries
 pub mod Accepting
-pub mod Recording
-pub mod Walks

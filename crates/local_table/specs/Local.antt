@@ -1,20 +1,17 @@
 -- The local table in Load's scratch, and what its functions promise each other. A reader of the promise can pass this page over.
-use Prim.Native.Nat.{ℕ, suc, _+_, _*_, _≤_, _<_}
+use Prim.Native.Nat.{ℕ, _+_, _*_, _≤_, _<_}
 use mathlib.Core.Path.{_≡_}
 use mathlib.Core.Bool.{Bool, true, false, _&&_}
 use mathlib.Core.List.{List, [], _∷_, _++_}
-use mathlib.Core.Option.{none, some}
 use lib.Dec.{ltb, leb}
 use lib.ListN.{length, getD, take, drop}
 use Rattle.family.specs.Family.{Family, node, Within}
-use Rattle.family.specs.Book.{start, at, number, Held}
+use Rattle.family.specs.Book.{at, number, Held}
 use Rattle.family.specs.Record.{triple}
-use Rattle.family.specs.File.{fits, readRecords, order}
+use Rattle.family.specs.File.{fits}
 use Rattle.store.specs.Words.{itemLimit, topAt}
 use Rattle.store.specs.Inner.{Holds}
 use Rattle.records.specs.declared.field.Part.{Part}
-use Rattle.local_table.specs.declared.order.Order.{Order}
-use Rattle.local_table.specs.declared.order.Order.the-variants.{Upto, Broken}
 
 -- The scratch of a file of b bytes: the words of the local nodes, 2b slots of the local lookup from 3b on, b handles from 5b on.
 unfoldable pub slots : ℕ → List ℕ → List ℕ
@@ -49,16 +46,6 @@ pub record TakeOf (words : List ℕ) (b k : ℕ) (part : Part) (r : Bool) (words
   pub low : r ≡ true → part .item ≤ itemLimit
   pub sound : (C : List Family) → Local C k b words → Taking C part k b words′ r
 
--- so many records read into the local table, or bytes that are not so many records
-pub data Reading (bytes : List ℕ) (n b : ℕ) (words : List ℕ) : Bool → Type 0 where
-  whole : {C : List Family} → readRecords itemLimit n start 0 1 bytes ≡ some C → n ≤ length bytes → Local C n b words → Reading bytes n b words true
-  none-such : readRecords itemLimit n start 0 1 bytes ≡ none → Reading bytes n b words false
-
-pub record RecordsOf (bytes : List ℕ) (n : ℕ) (words : List ℕ) (b : ℕ) (r : Bool) (words′ : List ℕ) : Type 0 where
-  pub long : length words′ ≡ length words
-  pub rest : (j : ℕ) → 6 * b ≤ j → getD words′ j 0 ≡ getD words j 0
-  pub outcome : Reading bytes n b words′ r
-
 -- the words of a local node, and of every local node
 pub record NodeAt (words : List ℕ) (k : ℕ) : Type 0 where
   pub item-some : 1 ≤ getD words (3 * k) 0
@@ -68,12 +55,3 @@ pub record NodeAt (words : List ℕ) (k : ℕ) : Type 0 where
 
 pub record Nodes (words : List ℕ) (n : ℕ) : Type 0 where
   pub each : (k : ℕ) → k < n → NodeAt words k
-
--- the walk of the placing order, by the last number placed in place of the next one
-pub data Walking (B : List Family) (p last : ℕ) : Order → Type 0 where
-  went : {m : ℕ} → order B (at B p) (suc last) ≡ some (suc m) → Walking B p last (Upto m)
-  broken : order B (at B p) (suc last) ≡ none → Walking B p last Broken
-
-pub record OrderOf (nodes : List ℕ) (n p last : ℕ) (r : Order) : Type 0 where
-  pub low : (m : ℕ) → r ≡ Upto m → 1 ≤ m
-  pub sound : (B : List Family) (lookup : List ℕ) → Holds B n nodes lookup → Walking B p last r

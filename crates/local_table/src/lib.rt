@@ -1,4 +1,2 @@
-// The records of a file in a local table in the scratch, and the walk that tests their order.
+// The local table in the scratch: a part tested, and entered as the next node.
 pub mod local;
-pub mod order;
-pub mod read;

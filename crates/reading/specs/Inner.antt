@@ -9,8 +9,8 @@ use Rattle.family.specs.Family.{Family}
 use Rattle.family.specs.Book.{start, at, place}
 use Rattle.family.specs.File.{readRecords, lastOf, familyOf}
 use Rattle.store.specs.Words.{itemLimit}
-use Rattle.loading.specs.declared.load.Content.{Content}
-use Rattle.loading.specs.declared.load.Content.the-variants.{Leaf, Parts, Bad}
+use Rattle.reading.specs.declared.file.Content.{Content}
+use Rattle.reading.specs.declared.file.Content.the-variants.{Leaf, Parts, Bad}
 use Rattle.local_table.specs.Local.{Local}
 
 -- the local book of a file's records, which is its last family's own book; or bytes that give none

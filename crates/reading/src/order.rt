@@ -2,7 +2,8 @@
 ghost use mathlib.Core.Path.{_≡_};
 ghost use Prim.Native.Nat.{_+_, _*_, _<_, _≤_};
 ghost use lib.ListN.{length};
-ghost use Rattle.local_table.specs.Local.{Nodes, OrderOf};
+ghost use Rattle.reading.specs.Records.{OrderOf};
+ghost use Rattle.local_table.specs.Local.{Nodes};
 
 // The last number placed, or parts out of their order.
 pub enum Order {

@@ -4,10 +4,10 @@ use borrow.Author.Needs.{needs}
 use mathlib.Core.Path.{refl, sym, ap, _∙_}
 use native.Mathlib.Omega.{arith}
 use borrow.Author.Tests.{not-true, not-false}
-use Rattle.loading.proofs.Tables.{blank-table, table-unread, table-room, table-nodes, table-broken, table-done}
+use Rattle.reading.proofs.Tables.{blank-table, table-unread, table-room, table-nodes, table-broken, table-done}
 use borrow.Author.Needs.{needs}
-use Rattle.loading.proofs.load.read_table.Statement.{statement}
-use Rattle.loading.proofs.load.read_table.Tie as tie
+use Rattle.reading.proofs.file.read_table.Statement.{statement}
+use Rattle.reading.proofs.file.read_table.Tie as tie
 
 mul-zero : tie.Need-mul-zero
 mul-zero c = search needs

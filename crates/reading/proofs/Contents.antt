@@ -15,10 +15,10 @@ use Rattle.family.specs.Record.{front, readNumber}
 use Rattle.family.specs.File.{andThen, readRecords, lastOf, readParts, alone, familyOf}
 use Rattle.store.specs.Words.{itemLimit}
 use Rattle.record_reading.proofs.Taking.{number-short, number-four}
-use Rattle.loading.specs.declared.load.Content.{Content}
-use Rattle.loading.specs.declared.load.Content.the-variants.{Leaf, Parts, Bad}
+use Rattle.reading.specs.declared.file.Content.{Content}
+use Rattle.reading.specs.declared.file.Content.the-variants.{Leaf, Parts, Bad}
 use Rattle.local_table.specs.Local.{Local}
-use Rattle.loading.specs.Inner.{Table, own, no-records, no-order, TableOf, Holding, leaf, parts, nothing, ContentOf}
+use Rattle.reading.specs.Inner.{Table, own, no-records, no-order, TableOf, Holding, leaf, parts, nothing, ContentOf}
 
 -- bytes that hold no family
 pub content-bad : (file words : List ℕ) (b : ℕ) → familyOf itemLimit file ≡ none → ContentOf file words b Bad words

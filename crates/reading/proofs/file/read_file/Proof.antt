@@ -4,10 +4,10 @@ use borrow.Author.Needs.{needs}
 use mathlib.Core.Path.{refl}
 use native.Mathlib.Omega.{arith}
 use Rattle.record_reading.proofs.Taking.{part-from}
-use Rattle.loading.proofs.Contents.{file-none, file-rest, file-over, file-leaf, file-other}
+use Rattle.reading.proofs.Contents.{file-none, file-rest, file-over, file-leaf, file-other}
 use borrow.Author.Needs.{needs}
-use Rattle.loading.proofs.load.read_file.Statement.{statement}
-use Rattle.loading.proofs.load.read_file.Tie as tie
+use Rattle.reading.proofs.file.read_file.Statement.{statement}
+use Rattle.reading.proofs.file.read_file.Tie as tie
 
 shared-slice-read-first : tie.Need-shared-slice-read-first
 shared-slice-read-first c = search needs

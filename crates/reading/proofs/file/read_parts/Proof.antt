@@ -4,12 +4,12 @@ use borrow.Author.Needs.{needs}
 use native.Mathlib.Omega.{arith}
 use borrow.Author.Tests.{not-true, not-false}
 use lib.ListN.{drop}
-use Rattle.loading.proofs.Tables.{table-part}
+use Rattle.reading.proofs.Tables.{table-part}
 use Rattle.record_reading.proofs.Taking.{part-from}
-use Rattle.loading.proofs.Contents.{file-short, file-zero, file-many, file-unread, file-parts}
+use Rattle.reading.proofs.Contents.{file-short, file-zero, file-many, file-unread, file-parts}
 use borrow.Author.Needs.{needs}
-use Rattle.loading.proofs.load.read_parts.Statement.{statement}
-use Rattle.loading.proofs.load.read_parts.Tie as tie
+use Rattle.reading.proofs.file.read_parts.Statement.{statement}
+use Rattle.reading.proofs.file.read_parts.Tie as tie
 
 four-requires : tie.Need-four-requires
 four-requires c κs = search needs

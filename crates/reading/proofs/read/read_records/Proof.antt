@@ -6,9 +6,9 @@ use Prim.Native.Nat.{_-_}
 use native.Mathlib.Omega.{arith}
 use borrow.Author.Tests.{not-true, not-false}
 use Rattle.record_reading.proofs.Taking.{part-from}
-use Rattle.local_table.proofs.Recording.{Upto, upto-start, upto-none, upto-room, upto-fits, upto-unfit, upto-step, upto-done}
-use Rattle.local_table.proofs.read.read_records.Statement.{statement}
-use Rattle.local_table.proofs.read.read_records.Tie as tie
+use Rattle.reading.proofs.Recording.{Upto, upto-start, upto-none, upto-room, upto-fits, upto-unfit, upto-step, upto-done}
+use Rattle.reading.proofs.read.read_records.Statement.{statement}
+use Rattle.reading.proofs.read.read_records.Tie as tie
 
 abbrev Inv-loop : tie.InvT-loop
 Inv-loop records parts words₀ bytes rest₀ last₀ k₀ words rest last k = Upto records parts words₀ bytes rest last k words

@@ -3,15 +3,15 @@
 use borrow.Author.Needs.{needs}
 use Prim.Native.Nat.{_-_}
 use native.Mathlib.Omega.{arith}
-use Rattle.local_table.proofs.Walks.{walk-placed, walk-first, walk-second, walk-other, walk-next}
+use Rattle.reading.proofs.Walks.{walk-placed, walk-first, walk-second, walk-other, walk-next}
 use Prim.Native.Nat.{ℕ, _<_}
 use borrow.Fn.Kinds.{In}
 use borrow.Fn.PlainCycle.{Measures, is, falls, and}
-use Rattle.local_table.proofs.order.in_order.Reads as in-order
-use Rattle.local_table.proofs.order.in_order.Kinds as in-order-kinds
-use Rattle.local_table.proofs.order.+in_order.Lts-in_order as in-order-lts
-use Rattle.local_table.proofs.order.+in_order.{statement}
-use Rattle.local_table.proofs.order.+in_order.Tie.{close}
+use Rattle.reading.proofs.order.in_order.Reads as in-order
+use Rattle.reading.proofs.order.in_order.Kinds as in-order-kinds
+use Rattle.reading.proofs.order.+in_order.Lts-in_order as in-order-lts
+use Rattle.reading.proofs.order.+in_order.{statement}
+use Rattle.reading.proofs.order.+in_order.Tie.{close}
 
 abbrev μ-in-order : Measures 1 in-order-kinds.ps ℕ
 μ-in-order κs a = a .1 .1 .0

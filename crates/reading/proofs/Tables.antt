@@ -23,12 +23,13 @@ use Rattle.table.specs.Entered.{entered}
 use Rattle.store.specs.Words.{itemLimit}
 use Rattle.store.specs.Inner.{Holds}
 use Rattle.store.proofs.Held.{held}
-use Rattle.local_table.specs.declared.order.Order.{Order}
-use Rattle.local_table.specs.declared.order.Order.the-variants.{Upto, Broken}
-use Rattle.local_table.specs.Local.{slots, Local, Nodes, Reading, whole, none-such, RecordsOf, OrderOf}
-use Rattle.loading.specs.Inner.{Table, own, no-records, no-order, TableOf}
+use Rattle.reading.specs.declared.order.Order.{Order}
+use Rattle.reading.specs.declared.order.Order.the-variants.{Upto, Broken}
+use Rattle.reading.specs.Records.{Reading, whole, none-such, RecordsOf, OrderOf}
+use Rattle.local_table.specs.Local.{slots, Local, Nodes}
+use Rattle.reading.specs.Inner.{Table, own, no-records, no-order, TableOf}
 use Rattle.local_table.proofs.Slots.{slots-length, slots-read}
-use Rattle.local_table.proofs.Walks.{went-of, broken-of, local-nodes}
+use Rattle.reading.proofs.Walks.{went-of, broken-of, local-nodes}
 
 -- an empty local table
 module _ (b : ℕ) (words : List ℕ) (room : 6 * b ≤ length words) where

@@ -19,7 +19,8 @@ use Rattle.records.specs.declared.field.Part.{Part}
 use Rattle.record_reading.specs.declared.read.Record.{Record}
 use Rattle.record_reading.specs.declared.read.Record.the-variants.{Taken, Bad}
 use Rattle.record_reading.specs.Reading.{RecordOf}
-use Rattle.local_table.specs.Local.{Local, Taking, fit, unfit, TakeOf, Reading, whole, none-such, RecordsOf}
+use Rattle.reading.specs.Records.{Reading, whole, none-such, RecordsOf}
+use Rattle.local_table.specs.Local.{Local, Taking, fit, unfit, TakeOf}
 
 -- what a reader said
 record Read (last : Last) (l : List ℕ) (part : Part) (m : ℕ) : Type 0 where

@@ -14,9 +14,10 @@ use Rattle.family.specs.Book.{at, number}
 use Rattle.family.specs.File.{andThen, order}
 use Rattle.store.specs.Inner.{Holds}
 use Rattle.store.proofs.Held.{handle-of, at-node, entry, within}
-use Rattle.local_table.specs.declared.order.Order.{Order}
-use Rattle.local_table.specs.declared.order.Order.the-variants.{Upto, Broken}
-use Rattle.local_table.specs.Local.{NodeAt, Nodes, Walking, went, broken, OrderOf}
+use Rattle.reading.specs.declared.order.Order.{Order}
+use Rattle.reading.specs.declared.order.Order.the-variants.{Upto, Broken}
+use Rattle.reading.specs.Records.{Walking, went, broken, OrderOf}
+use Rattle.local_table.specs.Local.{NodeAt, Nodes}
 
 -- a family that is placed already
 order-placed : (B : List Family) (F : Family) (n : ℕ) → number B F < n → order B F n ≡ some n

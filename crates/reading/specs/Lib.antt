@@ -1,0 +1,3 @@
+-- What the contracts of `reading` cite.
+pub mod Records
+pub mod Inner
