@@ -7,7 +7,7 @@ use lib.ListN.{length}
 use Rattle.words.specs.Words.{zeroed}
 use Rattle.store.specs.declared.record.Store.{Store}
 use Rattle.store.specs.Sound.{Sound}
-use Rattle.audit.specs.declared.audit.Audited.{Audited}
+use Rattle.audit.specs.declared.Audited.{Audited}
 
 -- Audit's promise. "Audit zeroes the whole cache groups and says yes exactly when the store is then sound"; "it never changes anything but the whole cache groups", gives no refusal and hands the record back as it came.
 pub record AuditCall (s : Store) (nodes lookup cache : List ℕ) (r : Audited) (cache′ : List ℕ) : Type 0 where

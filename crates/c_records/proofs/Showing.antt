@@ -6,17 +6,17 @@ use mathlib.Core.Bool.{true, false}
 use Rattle.store.specs.declared.record.Refusal.{Refusal}
 use Rattle.store.specs.declared.record.PlaceAnswer.the-variants as place
 use Rattle.store.specs.declared.record.Placed.{Placed}
-use Rattle.fresh.specs.declared.fresh.FreshAnswer.the-variants as fresh
-use Rattle.fresh.specs.declared.fresh.Freshened.{Freshened}
+use Rattle.fresh.specs.declared.FreshAnswer.the-variants as fresh
+use Rattle.fresh.specs.declared.Freshened.{Freshened}
 use Rattle.store.specs.Refusals.{refusalNumber}
-use Rattle.counting.specs.declared.size.SizeAnswer.the-variants as size
-use Rattle.counting.specs.declared.size.Measured.{Measured}
-use Rattle.membership.specs.declared.has.HasAnswer.the-variants as has
-use Rattle.membership.specs.declared.has.Asked.{Asked}
-use Rattle.saving.specs.declared.save.SaveAnswer.the-variants as save
-use Rattle.saving.specs.declared.save.Saved.{Saved}
-use Rattle.audit.specs.declared.audit.Audited.{Audited}
-use Rattle.c_records.specs.declared.given.CStore.{CStore}
+use Rattle.counting.specs.declared.SizeAnswer.the-variants as size
+use Rattle.counting.specs.declared.Measured.{Measured}
+use Rattle.membership.specs.declared.HasAnswer.the-variants as has
+use Rattle.membership.specs.declared.Asked.{Asked}
+use Rattle.saving.specs.declared.SaveAnswer.the-variants as save
+use Rattle.saving.specs.declared.Saved.{Saved}
+use Rattle.audit.specs.declared.Audited.{Audited}
+use Rattle.c_records.specs.declared.CStore.{CStore}
 use Rattle.c_records.specs.Shown.{recordOf, freshenedOf, placedOf, measuredOf, askedOf, savedOf, auditedOf}
 
 pub fresh-done : (b : Freshened) {s : CStore} → s ≡ recordOf (b .store) → b .answer ≡ fresh.Done → record { store = s; refusal = 0 } ≡ freshenedOf b

@@ -1,23 +1,23 @@
 -- What C is handed and given: the record, and the result of each kind of call.
 use Rattle.store.specs.declared.record.Store.{Store}
 use Rattle.store.specs.declared.record.Placed.{Placed}
-use Rattle.fresh.specs.declared.fresh.Freshened.{Freshened}
+use Rattle.fresh.specs.declared.Freshened.{Freshened}
 use Rattle.store.specs.Refusals.{givenBy}
 use Rattle.fresh.specs.Fresh.{freshNumber}
-use Rattle.counting.specs.declared.size.Measured.{Measured}
-use Rattle.membership.specs.declared.has.Asked.{Asked}
+use Rattle.counting.specs.declared.Measured.{Measured}
+use Rattle.membership.specs.declared.Asked.{Asked}
 use Rattle.counting.specs.Sizes.{sizeGivenBy}
 use Rattle.membership.specs.Membership.{hasGivenBy}
-use Rattle.saving.specs.declared.save.Saved.{Saved}
+use Rattle.saving.specs.declared.Saved.{Saved}
 use Rattle.saving.specs.Promise.{saveGivenBy}
-use Rattle.audit.specs.declared.audit.Audited.{Audited}
-use Rattle.c_records.specs.declared.given.CStore.{CStore}
-use Rattle.c_records.specs.declared.given.CFreshened.{CFreshened}
-use Rattle.c_records.specs.declared.given.CPlaced.{CPlaced}
-use Rattle.c_records.specs.declared.given.CMeasured.{CMeasured}
-use Rattle.c_records.specs.declared.given.CAsked.{CAsked}
-use Rattle.c_records.specs.declared.given.CSaved.{CSaved}
-use Rattle.c_records.specs.declared.given.CAudited.{CAudited}
+use Rattle.audit.specs.declared.Audited.{Audited}
+use Rattle.c_records.specs.declared.CStore.{CStore}
+use Rattle.c_records.specs.declared.CFreshened.{CFreshened}
+use Rattle.c_records.specs.declared.CPlaced.{CPlaced}
+use Rattle.c_records.specs.declared.CMeasured.{CMeasured}
+use Rattle.c_records.specs.declared.CAsked.{CAsked}
+use Rattle.c_records.specs.declared.CSaved.{CSaved}
+use Rattle.c_records.specs.declared.CAudited.{CAudited}
 
 -- "A small record is handed in by value and comes back by value": the record that a call is handed, and the one that C gets back
 abbrev pub storeOf : CStore → Store

@@ -1,2 +1,227 @@
 // The records and answers as C sees them.
-pub mod given;
+ghost use mathlib.Core.Path.{_≡_};
+ghost use Rattle.store.specs.Refusals.{refusalNumber};
+ghost use Rattle.c_records.specs.Shown.{storeOf, recordOf, freshenedOf, placedOf, measuredOf, askedOf, savedOf, auditedOf};
+use audit::Audited;
+use counting::Measured;
+use counting::SizeAnswer;
+use fresh::FreshAnswer;
+use fresh::Freshened;
+use membership::Asked;
+use membership::HasAnswer;
+use saving::SaveAnswer;
+use saving::Saved;
+use store::record::PlaceAnswer;
+use store::record::Placed;
+use store::record::Refusal;
+use store::record::Store;
+
+// The store record.
+#[repr(C)]
+pub struct CStore {
+    pub capacity: u32,
+    pub count: u32,
+}
+
+// A combination: item i is bit (i - 1) modulo 32 of word (i - 1) / 32.
+#[repr(C)]
+pub struct CCombination {
+    pub words: [u32; 16],
+}
+
+// What Fresh gives back. A refusal is its number, 0 where there is none, here and below.
+#[repr(C)]
+pub struct CFreshened {
+    pub store: CStore,
+    pub refusal: u32,
+}
+
+// What a call that places a family gives back; the handle is 0 where it is refused.
+#[repr(C)]
+pub struct CPlaced {
+    pub store: CStore,
+    pub refusal: u32,
+    pub handle: u32,
+}
+
+// What Size gives back; the size is 0 where it is refused.
+#[repr(C)]
+pub struct CMeasured {
+    pub store: CStore,
+    pub refusal: u32,
+    pub size: u64,
+}
+
+// What Has gives back; no where it is refused.
+#[repr(C)]
+pub struct CAsked {
+    pub store: CStore,
+    pub refusal: u32,
+    pub member: bool,
+}
+
+// What Save gives back; the length is 0 where it is refused.
+#[repr(C)]
+pub struct CSaved {
+    pub store: CStore,
+    pub refusal: u32,
+    pub length: usize,
+}
+
+// What Audit gives back.
+#[repr(C)]
+pub struct CAudited {
+    pub store: CStore,
+    pub sound: bool,
+}
+
+// The record that a call takes.
+pub fn taken(store: CStore) -> Store
+    ensures { λ r. ⌜ r ≡ storeOf store ⌝ }
+{
+    Store {
+        capacity: store.capacity,
+        count: store.count,
+    }
+}
+
+// The record that a call gave back.
+pub fn given(left: Store) -> CStore
+    ensures { λ r. ⌜ r ≡ recordOf left ⌝ }
+{
+    CStore {
+        capacity: left.capacity,
+        count: left.count,
+    }
+}
+
+// The number of a refusal.
+pub fn number(refusal: Refusal) -> u32
+    ensures { λ r. ⌜ r ≡ refusalNumber refusal ⌝ }
+{
+    match refusal {
+        Refusal::Tiny => 1,
+        Refusal::ShortLookup => 2,
+        Refusal::Item => 3,
+        Refusal::Handle => 4,
+        Refusal::Full => 5,
+        Refusal::Large => 6,
+        Refusal::Scratch => 7,
+        Refusal::Output => 8,
+        Refusal::NoFile => 9,
+        Refusal::Damaged => 10,
+    }
+}
+
+// What Fresh gave.
+pub fn freshened(behind: Freshened) -> CFreshened
+    ensures { λ r. ⌜ r ≡ freshenedOf behind ⌝ }
+{
+    let store = given(behind.store);
+    let answer = behind.answer;
+    match answer {
+        FreshAnswer::Done => CFreshened {
+            store: store,
+            refusal: 0,
+        },
+        FreshAnswer::Refused(refusal) => CFreshened {
+            store: store,
+            refusal: number(refusal),
+        },
+    }
+}
+
+// What a call that places a family gave.
+pub fn placed(behind: Placed) -> CPlaced
+    ensures { λ r. ⌜ r ≡ placedOf behind ⌝ }
+{
+    let store = given(behind.store);
+    let answer = behind.answer;
+    match answer {
+        PlaceAnswer::Handle(handle) => CPlaced {
+            store: store,
+            refusal: 0,
+            handle: handle,
+        },
+        PlaceAnswer::Refused(refusal) => CPlaced {
+            store: store,
+            refusal: number(refusal),
+            handle: 0,
+        },
+    }
+}
+
+// What Size gave.
+pub fn measured(behind: Measured) -> CMeasured
+    ensures { λ r. ⌜ r ≡ measuredOf behind ⌝ }
+{
+    let store = given(behind.store);
+    let answer = behind.answer;
+    match answer {
+        SizeAnswer::Members(size) => CMeasured {
+            store: store,
+            refusal: 0,
+            size: size,
+        },
+        SizeAnswer::Refused(refusal) => CMeasured {
+            store: store,
+            refusal: number(refusal),
+            size: 0,
+        },
+    }
+}
+
+// What Has gave.
+pub fn asked(behind: Asked) -> CAsked
+    ensures { λ r. ⌜ r ≡ askedOf behind ⌝ }
+{
+    let store = given(behind.store);
+    let answer = behind.answer;
+    match answer {
+        HasAnswer::Yes => CAsked {
+            store: store,
+            refusal: 0,
+            member: true,
+        },
+        HasAnswer::No => CAsked {
+            store: store,
+            refusal: 0,
+            member: false,
+        },
+        HasAnswer::Refused(refusal) => CAsked {
+            store: store,
+            refusal: number(refusal),
+            member: false,
+        },
+    }
+}
+
+// What Save gave.
+pub fn saved(behind: Saved) -> CSaved
+    ensures { λ r. ⌜ r ≡ savedOf behind ⌝ }
+{
+    let store = given(behind.store);
+    let answer = behind.answer;
+    match answer {
+        SaveAnswer::Length(length) => CSaved {
+            store: store,
+            refusal: 0,
+            length: length,
+        },
+        SaveAnswer::Refused(refusal) => CSaved {
+            store: store,
+            refusal: number(refusal),
+            length: 0,
+        },
+    }
+}
+
+// What Audit gave.
+pub fn audited(behind: Audited) -> CAudited
+    ensures { λ r. ⌜ r ≡ auditedOf behind ⌝ }
+{
+    CAudited {
+        store: given(behind.store),
+        sound: behind.sound,
+    }
+}

@@ -21,8 +21,8 @@ use Rattle.store.specs.Inner.{Holds}
 use Rattle.store.proofs.Decoding.{sound-holds}
 use Rattle.store.proofs.Calls.{sound-fits}
 use Rattle.store.proofs.Tested.{tests-handle, tests-scratch, tests-passed}
-use Rattle.counting.specs.declared.size.SizeAnswer.the-variants.{Members, Refused}
-use Rattle.counting.specs.declared.size.Measured.{Measured}
+use Rattle.counting.specs.declared.SizeAnswer.the-variants.{Members, Refused}
+use Rattle.counting.specs.declared.Measured.{Measured}
 use Rattle.counting.specs.Sizes.{most, sizeGivenBy, sizeRefusal, sizeAnswer, sizesOf, sizeScratch, SizeCall}
 use Rattle.counting.specs.Inner.{sizeAt, Filled, Exceeding}
 use Rattle.counting.proofs.Summing.{size-known, filled-is}

@@ -14,9 +14,9 @@ use Rattle.store.specs.Refusals.{refusalNumber}
 use Rattle.store.specs.Scratch.{scratchTests}
 use Rattle.store.specs.Words.{bookOf}
 use Rattle.store.specs.Sound.{Sound}
-use Rattle.counting.specs.declared.size.SizeAnswer.{SizeAnswer}
-use Rattle.counting.specs.declared.size.SizeAnswer.the-variants.{Members, Refused}
-use Rattle.counting.specs.declared.size.Measured.{Measured}
+use Rattle.counting.specs.declared.SizeAnswer.{SizeAnswer}
+use Rattle.counting.specs.declared.SizeAnswer.the-variants.{Members, Refused}
+use Rattle.counting.specs.declared.Measured.{Measured}
 
 -- the largest number of 64 bits
 abbrev pub most : ℕ

@@ -11,8 +11,8 @@ use Rattle.store.specs.Words.{topAt}
 use Rattle.store.specs.Inner.{Holds}
 use Rattle.store.proofs.Held.{top-at, within, at-node, top-node}
 use Rattle.cache.specs.declared.Call.{Call}
-use Rattle.families.specs.declared.families.Fork.{Fork}
-use Rattle.families.specs.declared.families.Fork.the-variants.{Two, Broken}
+use Rattle.families.specs.declared.Fork.{Fork}
+use Rattle.families.specs.declared.Fork.the-variants.{Two, Broken}
 use Rattle.families.specs.Fork.{ForkOf, two, broken}
 use Rattle.recursion.specs.Inner.{Proper, Forked}
 

@@ -4,8 +4,8 @@ use mathlib.Core.List.{List}
 use Rattle.family.specs.Family.{Family}
 use Rattle.store.specs.Inner.{Holds}
 use Rattle.cache.specs.declared.Call.{Call}
-use Rattle.families.specs.declared.families.Fork.{Fork}
-use Rattle.families.specs.declared.families.Fork.the-variants.{Two, Broken}
+use Rattle.families.specs.declared.Fork.{Fork}
+use Rattle.families.specs.declared.Fork.the-variants.{Two, Broken}
 use Rattle.recursion.specs.Inner.{Forked}
 
 pub data ForkOf (nodes : List ℕ) (n : ℕ) (call : Call) (level : ℕ) : Fork → Type 0 where

@@ -1,6 +1,6 @@
 // Making many nodes with few calls each.
-use family_calls::calls::union;
-use item_calls::calls::change;
+use family_calls::union;
+use item_calls::change;
 use store::record::PlaceAnswer;
 use store::record::Placed;
 use store::record::Store;

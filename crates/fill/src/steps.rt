@@ -16,9 +16,9 @@ use crate::output::done;
 use crate::output::given;
 use crate::output::text;
 use crate::output::told;
-use audit::audit::audit;
-use fresh::fresh::fresh;
-use item_calls::calls::change;
+use audit::audit;
+use fresh::fresh;
+use item_calls::change;
 use store::record::Placed;
 use store::record::Store;
 

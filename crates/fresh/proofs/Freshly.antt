@@ -8,7 +8,7 @@ use borrow.Author.Tests.{lt-ltb, le-ltb, le-leb, lt-leb}
 use Rattle.words.specs.Words.{zeroed}
 use Rattle.store.specs.declared.record.Store.{Store}
 use Rattle.store.specs.declared.record.Refusal.the-variants.{Tiny, ShortLookup}
-use Rattle.fresh.specs.declared.fresh.FreshAnswer.the-variants.{Done, Refused}
+use Rattle.fresh.specs.declared.FreshAnswer.the-variants.{Done, Refused}
 use Rattle.store.specs.Capacity.{capacityOf}
 use Rattle.fresh.specs.Fresh.{freshOf, FreshCall}
 use Rattle.store.proofs.Fitting.{store-is}

@@ -7,9 +7,9 @@ use lib.Dec.{ltb, leb}
 use lib.ListN.{length}
 use Rattle.words.specs.Words.{zeroed}
 use Rattle.store.specs.declared.record.Store.{Store}
-use Rattle.fresh.specs.declared.fresh.FreshAnswer.{FreshAnswer}
-use Rattle.fresh.specs.declared.fresh.FreshAnswer.the-variants.{Done, Refused}
-use Rattle.fresh.specs.declared.fresh.Freshened.{Freshened}
+use Rattle.fresh.specs.declared.FreshAnswer.{FreshAnswer}
+use Rattle.fresh.specs.declared.FreshAnswer.the-variants.{Done, Refused}
+use Rattle.fresh.specs.declared.Freshened.{Freshened}
 use Rattle.store.specs.Capacity.{capacityOf}
 use Rattle.store.specs.Refusals.{refusalNumber}
 

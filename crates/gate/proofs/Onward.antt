@@ -7,7 +7,7 @@ use mathlib.Core.List.{List, [], _++_, foldl-append}
 use native.Mathlib.Omega.{arith}
 use lib.ListN.{length, take}
 use Rattle.store.specs.Capacity.{capacityOf}
-use Rattle.log.specs.declared.log.Tally.{Tally}
+use Rattle.log.specs.declared.Tally.{Tally}
 use Rattle.log.specs.Log.{Log, opening, logByte, feed, Keeps, OpenCall, TakeCall, CloseCall}
 use Rattle.report.proofs.Reports.{log-report}
 use Rattle.gate.specs.declared.Report.{Report}

@@ -4,7 +4,7 @@ use mathlib.Core.Path.{_≡_}
 use mathlib.Core.Bool.{Bool, true}
 use mathlib.Core.List.{List}
 use lib.ListN.{length, take}
-use Rattle.log.specs.declared.log.Tally.{Tally}
+use Rattle.log.specs.declared.Tally.{Tally}
 use Rattle.log.specs.Log.{Log, feed, Keeps}
 use Rattle.report.specs.Report.{reportOf}
 use Rattle.gate.specs.declared.Report.{Report}

@@ -1,11 +1,11 @@
 // Moves bytes: reads a log from a descriptor in pieces, and writes what the report comes to.
 ghost use Rattle.gate.specs.Following.{Follows, Reported, Ran};
 use libc::STDOUT_FILENO;
-use log::log::Ending;
-use log::log::Tally;
-use log::log::open_log;
-use report::sums::close;
-use tally::tally::take_piece;
+use log::Ending;
+use log::Tally;
+use log::open_log;
+use report::close;
+use tally::take_piece;
 
 // Whether there may be more to read.
 pub enum Step {

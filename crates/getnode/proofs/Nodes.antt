@@ -11,9 +11,9 @@ use Rattle.family.specs.Book.{at}
 use Rattle.table.specs.Probe.{probeOf}
 use Rattle.table.specs.Entered.{entered, startAt}
 use Rattle.store.specs.declared.record.Store.{Store}
-use Rattle.getnode.specs.declared.make.Made.{Made}
-use Rattle.getnode.specs.declared.make.Made.the-variants.{Found, New, Full, Damaged}
-use Rattle.getnode.specs.declared.make.Making.{Making}
+use Rattle.getnode.specs.declared.Made.{Made}
+use Rattle.getnode.specs.declared.Made.the-variants.{Found, New, Full, Damaged}
+use Rattle.getnode.specs.declared.Making.{Making}
 use Rattle.store.specs.Words.{itemLimit}
 use Rattle.store.specs.Inner.{Roomy, Holds, Handed, Kept, putNode}
 use Rattle.getnode.specs.Making.{MadeOf, found, new, full, MadeIt}

@@ -10,11 +10,11 @@ use lib.ListN.{replicate}
 use borrow.Author.Tests.{eq-eqb, ne-eqb, le-leb, lt-leb}
 use Rattle.family.specs.Combination.{insert, isFree, including, holds, itemsOf}
 use Rattle.family.proofs.Words.{one-record, is-including, free-zero, free-high, free-held, free-item}
-use Rattle.combination.specs.declared.combination.Combination.{Combination}
-use Rattle.line.specs.declared.line.Side.{Side}
-use Rattle.line.specs.declared.line.Side.the-variants.{Passed, Returned}
-use Rattle.line.specs.declared.line.Stage.{Stage}
-use Rattle.line.specs.declared.line.Reading.{Reading}
+use Rattle.combination.specs.declared.Combination.{Combination}
+use Rattle.line.specs.declared.Side.{Side}
+use Rattle.line.specs.declared.Side.the-variants.{Passed, Returned}
+use Rattle.line.specs.declared.Stage.{Stage}
+use Rattle.line.specs.declared.Reading.{Reading}
 use Rattle.line.specs.Line.{Progress, letter, space, number, whole, malformed, first, gap, opened, isDigit, grown, closed, advance, State, step, progressOf, stateOf}
 
 -- the state of a reading, by its fields

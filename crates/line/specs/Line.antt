@@ -4,11 +4,11 @@ use mathlib.Core.Bool.{Bool, cond, _&&_}
 use mathlib.Core.List.{List, [], _∷_, foldl}
 use lib.Dec.{eqb, ltb, leb}
 use Rattle.family.specs.Combination.{insert, isFree, itemsOf}
-use Rattle.line.specs.declared.line.Side.{Side}
-use Rattle.line.specs.declared.line.Side.the-variants.{Passed, Returned}
-use Rattle.line.specs.declared.line.Stage.{Stage}
-use Rattle.line.specs.declared.line.Stage.the-variants.{Blank, Letter, Space, Number, Whole, Malformed}
-use Rattle.line.specs.declared.line.Reading.{Reading}
+use Rattle.line.specs.declared.Side.{Side}
+use Rattle.line.specs.declared.Side.the-variants.{Passed, Returned}
+use Rattle.line.specs.declared.Stage.{Stage}
+use Rattle.line.specs.declared.Stage.the-variants.{Blank, Letter, Space, Number, Whole, Malformed}
+use Rattle.line.specs.declared.Reading.{Reading}
 
 -- How far a line is read: no byte; behind the letter or an item that is taken; behind a space; within an item, with its number so far; behind the newline. The combination is that of the items taken.
 pub data Progress : Type 0 where

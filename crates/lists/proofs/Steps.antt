@@ -18,14 +18,14 @@ use Rattle.store.specs.Cache.{named, True}
 use Rattle.store.specs.Sound.{Sound}
 use Rattle.store.proofs.Sounds.{zeroed-true}
 use Rattle.operations.specs.Promise.{operationRefusal, OperationCall}
-use Rattle.counting.specs.declared.size.Measured.{Measured}
-use Rattle.membership.specs.declared.has.Asked.{Asked}
+use Rattle.counting.specs.declared.Measured.{Measured}
+use Rattle.membership.specs.declared.Asked.{Asked}
 use Rattle.counting.specs.Sizes.{sizeGivenBy, sizeAnswer, SizeCall}
 use Rattle.membership.specs.Membership.{hasGivenBy, hasAnswer, HasCall}
-use Rattle.saving.specs.declared.save.Saved.{Saved}
+use Rattle.saving.specs.declared.Saved.{Saved}
 use Rattle.saving.specs.Promise.{saveGivenBy, saveAnswer, saveOutput, SaveCall}
 use Rattle.loading.specs.Promise.{loadRefusal, loadFamily, LoadCall}
-use Rattle.audit.specs.declared.audit.Audited.{Audited}
+use Rattle.audit.specs.declared.Audited.{Audited}
 use Rattle.audit.specs.Promise.{AuditCall}
 use Rattle.lists.specs.Calls.{Operation, numberOf, Call, Operate, Size, Has, Save, Load, Audit, Answer}
 use Rattle.lists.specs.Table.{count, operated}

@@ -7,18 +7,18 @@ use lib.ListN.{length, take, drop}
 use Rattle.family.specs.Combination.{itemsOf}
 use Rattle.store.specs.declared.record.Store.{Store}
 use Rattle.store.specs.declared.record.Placed.{Placed}
-use Rattle.fresh.specs.declared.fresh.Freshened.{Freshened}
+use Rattle.fresh.specs.declared.Freshened.{Freshened}
 use Rattle.store.specs.Refusals.{Given, givenBy}
 use Rattle.fresh.specs.Fresh.{freshNumber, FreshCall}
 use Rattle.operations.specs.Promise.{OperationCall}
-use Rattle.counting.specs.declared.size.Measured.{Measured}
-use Rattle.membership.specs.declared.has.Asked.{Asked}
+use Rattle.counting.specs.declared.Measured.{Measured}
+use Rattle.membership.specs.declared.Asked.{Asked}
 use Rattle.counting.specs.Sizes.{SizeGiven, sizeGivenBy, SizeCall}
 use Rattle.membership.specs.Membership.{HasGiven, hasGivenBy, HasCall}
-use Rattle.saving.specs.declared.save.Saved.{Saved}
+use Rattle.saving.specs.declared.Saved.{Saved}
 use Rattle.saving.specs.Promise.{SaveGiven, saveGivenBy, SaveCall}
 use Rattle.loading.specs.Promise.{LoadCall}
-use Rattle.audit.specs.declared.audit.Audited.{Audited}
+use Rattle.audit.specs.declared.Audited.{Audited}
 use Rattle.audit.specs.Promise.{AuditCall}
 use Rattle.lists.specs.Calls.{Operation, numberOf, Call, Operate, Size, Has, Save, Load, Audit, Answer}
 

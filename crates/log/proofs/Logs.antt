@@ -19,7 +19,7 @@ use Rattle.store.specs.declared.record.Store.{Store}
 use Rattle.store.specs.declared.record.Refusal.{Refusal}
 use Rattle.store.specs.declared.record.PlaceAnswer.the-variants.{Handle, Refused as NoHandle}
 use Rattle.store.specs.declared.record.Placed.{Placed}
-use Rattle.fresh.specs.declared.fresh.Freshened.{Freshened}
+use Rattle.fresh.specs.declared.Freshened.{Freshened}
 use Rattle.store.specs.Capacity.{capacityOf}
 use Rattle.store.specs.Words.{bookOf}
 use Rattle.store.specs.Sound.{Sound}
@@ -27,13 +27,13 @@ use Rattle.fresh.specs.Fresh.{FreshCall, FreshLeft, freshLeaves, freshOf}
 use Rattle.store.proofs.Decoding.{sound-holds}
 use Rattle.store.proofs.Sounds.{fresh-sound}
 use Rattle.counting.specs.Sizes.{most}
-use Rattle.line.specs.declared.line.Side.{Side}
-use Rattle.line.specs.declared.line.Side.the-variants.{Passed, Returned}
-use Rattle.line.specs.declared.line.Stage.{Stage}
-use Rattle.line.specs.declared.line.Reading.{Reading}
-use Rattle.log.specs.declared.log.Ending.{Ending}
-use Rattle.log.specs.declared.log.Ending.the-variants.{Going, Refused, Full}
-use Rattle.log.specs.declared.log.Tally.{Tally}
+use Rattle.line.specs.declared.Side.{Side}
+use Rattle.line.specs.declared.Side.the-variants.{Passed, Returned}
+use Rattle.line.specs.declared.Stage.{Stage}
+use Rattle.line.specs.declared.Reading.{Reading}
+use Rattle.log.specs.declared.Ending.{Ending}
+use Rattle.log.specs.declared.Ending.the-variants.{Going, Refused, Full}
+use Rattle.log.specs.declared.Tally.{Tally}
 use Rattle.line.specs.Line.{Progress, State, begin, step, progressOf, stateOf}
 use Rattle.adding.specs.Adding.{Added, next, made, added, After, AddCall}
 use Rattle.log.specs.Log.{Lot, Taken, withPassed, withReturned, takeLine, Log, opening, counted, readOn, whileGoing, logByte, feed, capped, Keeps, OpenCall, TakeCall}

@@ -11,11 +11,11 @@ use Rattle.store.specs.Capacity.{capacityOf}
 use Rattle.store.specs.Words.{bookOf}
 use Rattle.store.specs.Sound.{Sound}
 use Rattle.counting.specs.Sizes.{most}
-use Rattle.line.specs.declared.line.Side.{Side}
-use Rattle.line.specs.declared.line.Side.the-variants.{Passed, Returned}
-use Rattle.log.specs.declared.log.Ending.{Ending}
-use Rattle.log.specs.declared.log.Ending.the-variants.{Going, Refused, Full}
-use Rattle.log.specs.declared.log.Tally.{Tally}
+use Rattle.line.specs.declared.Side.{Side}
+use Rattle.line.specs.declared.Side.the-variants.{Passed, Returned}
+use Rattle.log.specs.declared.Ending.{Ending}
+use Rattle.log.specs.declared.Ending.the-variants.{Going, Refused, Full}
+use Rattle.log.specs.declared.Tally.{Tally}
 use Rattle.line.specs.Line.{Progress, blank, letter, space, number, whole, malformed, State, begin, step, stateOf}
 use Rattle.adding.specs.Adding.{Added, placed, added}
 use Rattle.text.specs.Text.{lineText, refusedWord, fullWord, reportFull, sumsText, Wrote}

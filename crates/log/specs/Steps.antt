@@ -3,9 +3,9 @@ use Prim.Native.Nat.{ℕ}
 use mathlib.Core.Path.{_≡_}
 use mathlib.Core.List.{List}
 use Rattle.store.specs.declared.record.Store.{Store}
-use Rattle.line.specs.declared.line.Side.{Side}
-use Rattle.log.specs.declared.log.Ending.{Ending}
-use Rattle.log.specs.declared.log.Tally.{Tally}
+use Rattle.line.specs.declared.Side.{Side}
+use Rattle.log.specs.declared.Ending.{Ending}
+use Rattle.log.specs.declared.Tally.{Tally}
 use Rattle.line.specs.Line.{begin, step, stateOf}
 use Rattle.log.specs.Log.{Log, takeLine, counted, readOn, Keeps}
 

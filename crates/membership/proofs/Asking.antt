@@ -17,8 +17,8 @@ use Rattle.store.specs.Words.{bookOf}
 use Rattle.store.specs.Sound.{Sound}
 use Rattle.store.proofs.Decoding.{sound-holds}
 use Rattle.store.proofs.Calls.{sound-fits}
-use Rattle.membership.specs.declared.has.HasAnswer.the-variants.{Yes, No, Refused}
-use Rattle.membership.specs.declared.has.Asked.{Asked}
+use Rattle.membership.specs.declared.HasAnswer.the-variants.{Yes, No, Refused}
+use Rattle.membership.specs.declared.Asked.{Asked}
 use Rattle.membership.specs.Membership.{hasGivenBy, hasAnswer, HasCall}
 use Rattle.membership.specs.Descent.{Memberly}
 

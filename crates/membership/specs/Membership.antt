@@ -13,9 +13,9 @@ use Rattle.store.specs.Capacity.{fitting}
 use Rattle.store.specs.Refusals.{refusalNumber}
 use Rattle.store.specs.Words.{bookOf}
 use Rattle.store.specs.Sound.{Sound}
-use Rattle.membership.specs.declared.has.HasAnswer.{HasAnswer}
-use Rattle.membership.specs.declared.has.HasAnswer.the-variants.{Yes, No, Refused}
-use Rattle.membership.specs.declared.has.Asked.{Asked}
+use Rattle.membership.specs.declared.HasAnswer.{HasAnswer}
+use Rattle.membership.specs.declared.HasAnswer.the-variants.{Yes, No, Refused}
+use Rattle.membership.specs.declared.Asked.{Asked}
 
 -- what Has gives besides the record: the refusal's number, 0 where there is none, and yes or no, no where it is refused
 pub record HasGiven : Type 0 where

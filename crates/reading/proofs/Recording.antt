@@ -16,8 +16,8 @@ use Rattle.family.specs.File.{nodeOf, fits, readRecords}
 use Rattle.store.specs.Words.{itemLimit}
 use Rattle.records.specs.declared.field.Last.{Last}
 use Rattle.records.specs.declared.field.Part.{Part}
-use Rattle.record_reading.specs.declared.read.Record.{Record}
-use Rattle.record_reading.specs.declared.read.Record.the-variants.{Taken, Bad}
+use Rattle.record_reading.specs.declared.Record.{Record}
+use Rattle.record_reading.specs.declared.Record.the-variants.{Taken, Bad}
 use Rattle.record_reading.specs.Reading.{RecordOf}
 use Rattle.reading.specs.Records.{Reading, whole, none-such, RecordsOf}
 use Rattle.local_table.specs.Local.{Local, Taking, fit, unfit, TakeOf}

@@ -7,7 +7,7 @@ ghost use Rattle.reading.specs.Inner.{TableOf, ContentOf};
 use crate::order::Order;
 use crate::order::in_order;
 use crate::read::read_records;
-use record_reading::read::four;
+use record_reading::four;
 use words::zero;
 
 // What a file holds: {} or {{}} by its handle, so many parts in the local table, or no family.

@@ -5,9 +5,9 @@ ghost use lib.ListN.{length};
 ghost use Rattle.family.specs.Book.{start};
 ghost use Rattle.reading.specs.Records.{RecordsOf};
 ghost use Rattle.local_table.specs.Local.{Local};
-use local_table::local::take_part;
-use record_reading::read::Record;
-use record_reading::read::read_record;
+use local_table::take_part;
+use record_reading::Record;
+use record_reading::read_record;
 use records::field::Last;
 
 // Takes so many records, each from the rest of the bytes; false where one is none, or bytes are left over.

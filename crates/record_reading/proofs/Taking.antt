@@ -12,10 +12,10 @@ use borrow.Author.Tests.{eq-eqb, ne-eqb, lt-ltb, le-ltb}
 use Rattle.family.specs.Record.{Front, front, Triple, triple, readNumber, readField, bit1, bit2, bit4, readFields, readRecord}
 use Rattle.records.specs.declared.field.Last.{Last}
 use Rattle.records.specs.declared.field.Part.{Part}
-use Rattle.record_reading.specs.declared.read.Field.{Field}
-use Rattle.record_reading.specs.declared.read.Field.the-variants.{Value, Bad}
-use Rattle.record_reading.specs.declared.read.Record.{Record}
-use Rattle.record_reading.specs.declared.read.Record.the-variants.{Taken, Bad as NoRecord}
+use Rattle.record_reading.specs.declared.Field.{Field}
+use Rattle.record_reading.specs.declared.Field.the-variants.{Value, Bad}
+use Rattle.record_reading.specs.declared.Record.{Record}
+use Rattle.record_reading.specs.declared.Record.the-variants.{Taken, Bad as NoRecord}
 use Rattle.record_reading.specs.Reading.{FieldOf, value, bad, FieldsOf, RecordOf}
 
 -- a part lent from a place on

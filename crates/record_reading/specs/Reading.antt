@@ -8,10 +8,10 @@ use lib.ListN.{length, drop}
 use Rattle.family.specs.Record.{front, triple, readField, bit1, bit2, bit4, readFields, readRecord}
 use Rattle.records.specs.declared.field.Last.{Last}
 use Rattle.records.specs.declared.field.Part.{Part}
-use Rattle.record_reading.specs.declared.read.Field.{Field}
-use Rattle.record_reading.specs.declared.read.Field.the-variants.{Value, Bad}
-use Rattle.record_reading.specs.declared.read.Record.{Record}
-use Rattle.record_reading.specs.declared.read.Record.the-variants.{Taken, Bad as NoRecord}
+use Rattle.record_reading.specs.declared.Field.{Field}
+use Rattle.record_reading.specs.declared.Field.the-variants.{Value, Bad}
+use Rattle.record_reading.specs.declared.Record.{Record}
+use Rattle.record_reading.specs.declared.Record.the-variants.{Taken, Bad as NoRecord}
 
 -- a field of n bytes
 pub data FieldOf (n : ℕ) (stands : Bool) (other : ℕ) (bytes : List ℕ) : Field → Type 0 where

@@ -10,8 +10,8 @@ use crate::output::record;
 use crate::output::text;
 use crate::output::word;
 use crate::sums::cleared;
-use audit::audit::Audited;
-use audit::audit::audit;
+use audit::Audited;
+use audit::audit;
 
 // Writes what Audit gave, and whether the whole cache groups are 0.
 fn given(audited: Audited, zero: bool) {

@@ -16,9 +16,9 @@ use crate::turn::Manner;
 use crate::turn::State;
 use crate::turn::turn;
 use crate::turn::with_record;
-use fresh::fresh::FreshAnswer;
-use fresh::fresh::Freshened;
-use fresh::fresh::fresh;
+use fresh::FreshAnswer;
+use fresh::Freshened;
+use fresh::fresh;
 use store::record::Store;
 
 // What is lent to a list, how many items it has, and how many calls. One with more than 16 items always lends its whole cache.

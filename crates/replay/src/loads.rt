@@ -13,7 +13,7 @@ use crate::saves::free_until;
 use crate::sums::MARK;
 use crate::sums::kept;
 use crate::sums::of_words;
-use loading::load::load;
+use loading::load;
 use store::record::PlaceAnswer;
 use store::record::Placed;
 

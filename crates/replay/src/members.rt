@@ -11,10 +11,10 @@ use crate::output::word;
 use crate::path::member;
 use crate::path::none;
 use crate::path::toggled;
-use combination::combination::Combination;
-use membership::has::Asked;
-use membership::has::HasAnswer;
-use membership::has::has;
+use combination::Combination;
+use membership::Asked;
+use membership::HasAnswer;
+use membership::has;
 
 // A combination: empty, a single item, a member of p, or a member with an item put in or taken out.
 pub fn combination(drawn: Drawn, items: u32, nodes: &[u32], p: u32) -> Combination {

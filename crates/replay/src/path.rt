@@ -1,6 +1,6 @@
 // Combinations to ask for.
 use crate::draw::step;
-use combination::combination::Combination;
+use combination::Combination;
 
 // The empty combination.
 pub fn none() -> Combination {

@@ -13,9 +13,9 @@ use crate::output::word;
 use crate::sums::MARK;
 use crate::sums::kept;
 use crate::sums::of_bytes;
-use saving::save::SaveAnswer;
-use saving::save::Saved;
-use saving::save::save;
+use saving::SaveAnswer;
+use saving::Saved;
+use saving::save;
 use store::record::Refusal;
 
 // How much is lent to a Save.

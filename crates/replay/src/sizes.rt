@@ -9,9 +9,9 @@ use crate::output::sum_line;
 use crate::output::text;
 use crate::output::word;
 use crate::sums::of_sizes;
-use counting::size::Measured;
-use counting::size::SizeAnswer;
-use counting::size::size;
+use counting::Measured;
+use counting::SizeAnswer;
+use counting::size;
 
 // Writes what Size gave.
 fn given(measured: Measured) {

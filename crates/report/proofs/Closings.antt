@@ -26,16 +26,16 @@ use Rattle.store.proofs.Decoding.{sound-holds}
 use Rattle.store.proofs.Calls.{refusal-some}
 use Rattle.store.proofs.Tested.{tests-passed}
 use Rattle.operations.specs.Promise.{OperationCall}
-use Rattle.counting.specs.declared.size.SizeAnswer.the-variants.{Members, Refused as NoSize}
-use Rattle.counting.specs.declared.size.Measured.{Measured}
+use Rattle.counting.specs.declared.SizeAnswer.the-variants.{Members, Refused as NoSize}
+use Rattle.counting.specs.declared.Measured.{Measured}
 use Rattle.counting.specs.Sizes.{most, SizeGiven, sizeGivenBy, sizeRefusal, sizeAnswer, SizeCall}
 use Rattle.family.specs.Combination.{itemsOf}
-use Rattle.line.specs.declared.line.Side.{Side}
-use Rattle.line.specs.declared.line.Stage.{Stage}
-use Rattle.report.specs.declared.sums.Handles.{Handles}
-use Rattle.log.specs.declared.log.Ending.{Ending}
-use Rattle.log.specs.declared.log.Ending.the-variants.{Going}
-use Rattle.log.specs.declared.log.Tally.{Tally}
+use Rattle.line.specs.declared.Side.{Side}
+use Rattle.line.specs.declared.Stage.{Stage}
+use Rattle.report.specs.declared.Handles.{Handles}
+use Rattle.log.specs.declared.Ending.{Ending}
+use Rattle.log.specs.declared.Ending.the-variants.{Going}
+use Rattle.log.specs.declared.Tally.{Tally}
 use Rattle.line.specs.Line.{progressOf}
 use Rattle.adding.specs.Adding.{Added, placed, After}
 use Rattle.text.specs.Text.{refusedWord, reportFull, lineText, sumsText, Wrote}

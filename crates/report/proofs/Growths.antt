@@ -15,10 +15,10 @@ use Rattle.family.proofs.Falling.{insert-falling}
 use Rattle.family.proofs.Diagrams.{within-self}
 use Rattle.family.proofs.Laws.{union-within}
 use Rattle.counting.specs.Sizes.{most}
-use Rattle.line.specs.declared.line.Side.{Side}
-use Rattle.line.specs.declared.line.Side.the-variants.{Passed, Returned}
-use Rattle.log.specs.declared.log.Ending.{Ending}
-use Rattle.log.specs.declared.log.Ending.the-variants.{Going, Refused, Full}
+use Rattle.line.specs.declared.Side.{Side}
+use Rattle.line.specs.declared.Side.the-variants.{Passed, Returned}
+use Rattle.log.specs.declared.Ending.{Ending}
+use Rattle.log.specs.declared.Ending.the-variants.{Going, Refused, Full}
 use Rattle.line.specs.Line.{Progress, blank, letter, space, number, whole, malformed, first, gap, opened, isDigit, grown, closed, advance, State, begin, step, lineOf}
 use Rattle.adding.specs.Adding.{Added, added}
 use Rattle.log.specs.Log.{Lot, Taken, withPassed, withReturned, takeLine, Log, opening, counted, readOn, whileGoing, logByte, feed, capped}

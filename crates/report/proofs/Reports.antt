@@ -9,9 +9,9 @@ use lib.Dec.{eqb, leb}
 use borrow.Author.Tests.{eq-eqb, ne-eqb}
 use Rattle.words.proofs.Cases.{by-test, by-eq}
 use Rattle.family.specs.Combination.{insert, isFree}
-use Rattle.line.specs.declared.line.Side.{Side}
-use Rattle.log.specs.declared.log.Ending.{Ending}
-use Rattle.log.specs.declared.log.Ending.the-variants.{Going, Refused, Full}
+use Rattle.line.specs.declared.Side.{Side}
+use Rattle.log.specs.declared.Ending.{Ending}
+use Rattle.log.specs.declared.Ending.the-variants.{Going, Refused, Full}
 use Rattle.line.specs.Line.{Progress, blank, letter, space, number, whole, malformed, first, gap, opened, isDigit, grown, closed, advance, State, begin, step, lineOf}
 use Rattle.text.specs.Text.{lineText, refusedWord, fullWord}
 use Rattle.log.specs.Log.{Lot, Taken, takeLine, Log, opening, counted, readOn, whileGoing, logByte, feed, capped, closing, lastOf, endOf, outputOf}

@@ -8,8 +8,8 @@ use Rattle.family.specs.Book.{at}
 use Rattle.store.specs.declared.record.Store.{Store}
 use Rattle.store.specs.Words.{bookOf}
 use Rattle.store.specs.Sound.{Sound}
-use Rattle.report.specs.declared.sums.Handles.{Handles}
-use Rattle.log.specs.declared.log.Tally.{Tally}
+use Rattle.report.specs.declared.Handles.{Handles}
+use Rattle.log.specs.declared.Tally.{Tally}
 use Rattle.text.specs.Text.{sumsText}
 use Rattle.log.specs.Log.{Log, capped, closing, lastOf, Keeps}
 

@@ -30,8 +30,8 @@ use Rattle.store.proofs.Tested.{tests-handle, tests-scratch, tests-passed}
 use Rattle.trail.specs.declared.trail.Trail.{Trail}
 use Rattle.trail.specs.declared.walk.Walked.{Walked}
 use Rattle.trail.specs.declared.walk.Walked.the-variants.{Went, Broken as NoWay}
-use Rattle.saving.specs.declared.save.SaveAnswer.the-variants.{Length, Refused}
-use Rattle.saving.specs.declared.save.Saved.{Saved}
+use Rattle.saving.specs.declared.SaveAnswer.the-variants.{Length, Refused}
+use Rattle.saving.specs.declared.Saved.{Saved}
 use Rattle.saving.specs.Promise.{saveGivenBy, saveRefusal, saveAnswer, saveOutput, SaveCall}
 use Rattle.trail.specs.Trail.{TrailFits, Trailed, WalkOf}
 use Rattle.writing.specs.Writing.{Writing, startAt, WritesOf}

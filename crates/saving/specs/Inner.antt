@@ -12,8 +12,8 @@ use Rattle.store.specs.declared.record.Store.{Store}
 use Rattle.store.specs.declared.record.Refusal.the-variants.{Output}
 use Rattle.store.specs.Inner.{Holds}
 use Rattle.trail.specs.declared.trail.Trail.{Trail}
-use Rattle.saving.specs.declared.save.SaveAnswer.the-variants.{Length, Refused}
-use Rattle.saving.specs.declared.save.Saved.{Saved}
+use Rattle.saving.specs.declared.SaveAnswer.the-variants.{Length, Refused}
+use Rattle.saving.specs.declared.Saved.{Saved}
 use Rattle.trail.specs.Trail.{Trailed}
 
 -- the file of {} or {{}}

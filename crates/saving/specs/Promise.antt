@@ -15,9 +15,9 @@ use Rattle.store.specs.Refusals.{refusalNumber}
 use Rattle.store.specs.Scratch.{scratchTests}
 use Rattle.store.specs.Words.{bookOf}
 use Rattle.store.specs.Sound.{Sound}
-use Rattle.saving.specs.declared.save.SaveAnswer.{SaveAnswer}
-use Rattle.saving.specs.declared.save.SaveAnswer.the-variants.{Length, Refused}
-use Rattle.saving.specs.declared.save.Saved.{Saved}
+use Rattle.saving.specs.declared.SaveAnswer.{SaveAnswer}
+use Rattle.saving.specs.declared.SaveAnswer.the-variants.{Length, Refused}
+use Rattle.saving.specs.declared.Saved.{Saved}
 
 -- what Save gives besides the record and the bytes: the refusal's number, 0 where there is none, and the length, 0 where it is refused
 pub record SaveGiven : Type 0 where

@@ -4,7 +4,7 @@ ghost use Prim.Native.Nat.{_+_, _*_, _≤_, _<_};
 ghost use lib.ListN.{length};
 ghost use Rattle.table.specs.Entered.{used};
 ghost use Rattle.soundness.specs.Tests.{Decides, OwnAt};
-use own_slots::own::own_slot;
+use own_slots::own_slot;
 
 // Whether the search for the words of node k + 2 among the nodes before it stops at the slot that holds k + 2.
 pub fn is_entered(nodes: &[u32], lookup: &[u32], k: u32) -> bool

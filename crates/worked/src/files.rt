@@ -4,9 +4,9 @@ use crate::output::number;
 use crate::output::refused;
 use crate::output::text;
 use crate::output::word;
-use loading::load::load;
-use saving::save::SaveAnswer;
-use saving::save::save;
+use loading::load;
+use saving::SaveAnswer;
+use saving::save;
 use store::record::Store;
 
 // Writes a byte in hexadecimal.

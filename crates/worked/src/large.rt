@@ -4,9 +4,9 @@ use crate::line::line;
 use crate::output::text;
 use crate::output::word;
 use crate::questions::size_given;
-use family_calls::calls::union;
-use fresh::fresh::fresh;
-use item_calls::calls::change;
+use family_calls::union;
+use fresh::fresh;
+use item_calls::change;
 use store::record::PlaceAnswer;
 use store::record::Store;
 

@@ -3,11 +3,11 @@ use crate::output::number;
 use crate::output::refused;
 use crate::output::text;
 use crate::output::word;
-use combination::combination::Combination;
-use counting::size::SizeAnswer;
-use counting::size::size;
-use membership::has::HasAnswer;
-use membership::has::has;
+use combination::Combination;
+use counting::SizeAnswer;
+use counting::size;
+use membership::HasAnswer;
+use membership::has;
 use store::record::Store;
 
 // Asks whether a combination of items up to 32 is in p, and writes the line.

@@ -8,9 +8,9 @@ use crate::output::refused;
 use crate::output::text;
 use crate::output::word;
 use crate::questions::has_line;
-use fresh::fresh::FreshAnswer;
-use fresh::fresh::Freshened;
-use fresh::fresh::fresh;
+use fresh::FreshAnswer;
+use fresh::Freshened;
+use fresh::fresh;
 use store::record::Store;
 use table::start::start_slot;
 

@@ -23,9 +23,9 @@ use Rattle.store.proofs.Held.{at-0, at-1, at-node, handle-of, within}
 use Rattle.records.specs.declared.field.Part.{Part}
 use Rattle.records.specs.Widths.{widths}
 use Rattle.records.proofs.Laying.{widths-length}
-use Rattle.writing.specs.declared.write.Cursor.{Cursor}
-use Rattle.writing.specs.declared.write.Turn.{Turn}
-use Rattle.writing.specs.declared.write.Turn.the-variants.{Next, Broken}
+use Rattle.writing.specs.declared.Cursor.{Cursor}
+use Rattle.writing.specs.declared.Turn.{Turn}
+use Rattle.writing.specs.declared.Turn.the-variants.{Next, Broken}
 use Rattle.writing.specs.Writing.{localIn, CursorFits, Writing, Turned, turned, TurnOf}
 use Rattle.trail.proofs.Trails.{handle-in, handle-at, handle-apart, handle-two, local-two}
 

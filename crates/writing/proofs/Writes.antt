@@ -11,9 +11,9 @@ use Rattle.family.specs.Family.{Family}
 use Rattle.family.specs.File.{triplesOf, recordsBytes}
 use Rattle.store.specs.Words.{itemLimit}
 use Rattle.store.specs.Inner.{Holds}
-use Rattle.writing.specs.declared.write.Cursor.{Cursor}
-use Rattle.writing.specs.declared.write.Turn.{Turn}
-use Rattle.writing.specs.declared.write.Turn.the-variants.{Next, Broken}
+use Rattle.writing.specs.declared.Cursor.{Cursor}
+use Rattle.writing.specs.declared.Turn.{Turn}
+use Rattle.writing.specs.declared.Turn.the-variants.{Next, Broken}
 use Rattle.writing.specs.Writing.{CursorFits, Writing, Turned, turned, TurnOf, startAt, WritesOf}
 
 turned-to : {B D : List Family} {k : ℕ} {links whole before out : List ℕ} {r : Turn} (c : Cursor) → r ≡ Next c → Turned B D k links whole before out r → Writing B D k c links whole before out

@@ -10,9 +10,9 @@ use Rattle.family.specs.Book.{at, number, Held, place, Book}
 use Rattle.family.specs.File.{triplesOf, recordsBytes}
 use Rattle.store.specs.Words.{itemLimit}
 use Rattle.store.specs.Inner.{Holds}
-use Rattle.writing.specs.declared.write.Cursor.{Cursor}
-use Rattle.writing.specs.declared.write.Turn.{Turn}
-use Rattle.writing.specs.declared.write.Turn.the-variants.{Next}
+use Rattle.writing.specs.declared.Cursor.{Cursor}
+use Rattle.writing.specs.declared.Turn.{Turn}
+use Rattle.writing.specs.declared.Turn.the-variants.{Next}
 use Rattle.trail.specs.Trail.{two}
 
 -- the local number of a handle

@@ -2,7 +2,7 @@
 -- Why: that call is handed the record that C gave, and C is given what that call gave.
 use mathlib.Core.Path.{_≡_, subst}
 use Rattle.store.specs.declared.record.Store.{Store}
-use Rattle.c_records.specs.declared.given.CStore.{CStore}
+use Rattle.c_records.specs.declared.CStore.{CStore}
 use Rattle.c_records.specs.Shown.{storeOf}
 use Rattle.zdd_c.specs.Export.{Exported}
 

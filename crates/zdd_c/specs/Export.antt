@@ -1,9 +1,9 @@
 -- What an exported function promises: C is given exactly what the call behind it gave, with that call's whole promise.
 use mathlib.Core.Path.{_≡_}
 use Rattle.store.specs.declared.record.Store.{Store}
-use Rattle.fresh.specs.declared.fresh.Freshened.{Freshened}
-use Rattle.c_records.specs.declared.given.CStore.{CStore}
-use Rattle.c_records.specs.declared.given.CFreshened.{CFreshened}
+use Rattle.fresh.specs.declared.Freshened.{Freshened}
+use Rattle.c_records.specs.declared.CStore.{CStore}
+use Rattle.c_records.specs.declared.CFreshened.{CFreshened}
 use Rattle.c_records.specs.Shown.{storeOf, freshenedOf}
 
 -- The promise of an export: the call behind it gave a result that keeps that call's whole promise, and C is given what `shown` sets out for that result.

@@ -4,16 +4,16 @@ ghost use Rattle.membership.specs.Membership.{HasCall};
 ghost use Rattle.counting.specs.Sizes.{SizeCall};
 ghost use Rattle.c_records.specs.Shown.{measuredOf, askedOf};
 ghost use Rattle.zdd_c.specs.Export.{Exported};
-use c_records::given::CAsked;
-use c_records::given::CCombination;
-use c_records::given::CMeasured;
-use c_records::given::CStore;
-use c_records::given::asked;
-use c_records::given::measured;
-use c_records::given::taken;
-use combination::combination::Combination;
-use counting::size::size;
-use membership::has::has;
+use c_records::CAsked;
+use c_records::CCombination;
+use c_records::CMeasured;
+use c_records::CStore;
+use c_records::asked;
+use c_records::measured;
+use c_records::taken;
+use combination::Combination;
+use counting::size;
+use membership::has;
 
 // The number of members of p; the scratch then holds the size of every node held.
 #[no_mangle]

@@ -2,11 +2,11 @@
 ghost use Rattle.audit.specs.Promise.{AuditCall};
 ghost use Rattle.c_records.specs.Shown.{auditedOf};
 ghost use Rattle.zdd_c.specs.Export.{Exported};
-use audit::audit::audit;
-use c_records::given::CAudited;
-use c_records::given::CStore;
-use c_records::given::audited;
-use c_records::given::taken;
+use audit::audit;
+use c_records::CAudited;
+use c_records::CStore;
+use c_records::audited;
+use c_records::taken;
 
 // Zeroes the whole cache groups and says whether the store is then sound.
 #[no_mangle]

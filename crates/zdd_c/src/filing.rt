@@ -3,14 +3,14 @@ ghost use Rattle.loading.specs.Promise.{LoadCall};
 ghost use Rattle.saving.specs.Promise.{SaveCall};
 ghost use Rattle.c_records.specs.Shown.{placedOf, savedOf};
 ghost use Rattle.zdd_c.specs.Export.{Exported};
-use c_records::given::CPlaced;
-use c_records::given::CSaved;
-use c_records::given::CStore;
-use c_records::given::placed;
-use c_records::given::saved;
-use c_records::given::taken;
-use loading::load::load;
-use saving::save::save;
+use c_records::CPlaced;
+use c_records::CSaved;
+use c_records::CStore;
+use c_records::placed;
+use c_records::saved;
+use c_records::taken;
+use loading::load;
+use saving::save;
 
 // Writes the file of p to the front of the output, and gives its length.
 #[no_mangle]

@@ -2,11 +2,11 @@
 ghost use mathlib.Core.Path.{_≡_};
 ghost use Rattle.fresh.specs.Fresh.{FreshCall};
 ghost use Rattle.zdd_c.specs.Export.{ExportedFresh};
-use c_records::given::CFreshened;
-use c_records::given::freshened;
-use fresh::fresh::base;
-use fresh::fresh::empty;
-use fresh::fresh::fresh;
+use c_records::CFreshened;
+use c_records::freshened;
+use fresh::base;
+use fresh::empty;
+use fresh::fresh;
 
 // Makes an empty store of the lent words.
 #[no_mangle]

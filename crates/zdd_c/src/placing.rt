@@ -2,16 +2,16 @@
 ghost use Rattle.operations.specs.Promise.{OperationCall};
 ghost use Rattle.c_records.specs.Shown.{placedOf};
 ghost use Rattle.zdd_c.specs.Export.{Exported};
-use c_records::given::CPlaced;
-use c_records::given::CStore;
-use c_records::given::placed;
-use c_records::given::taken;
-use family_calls::calls::diff;
-use family_calls::calls::intsec;
-use family_calls::calls::union;
-use item_calls::calls::change;
-use item_calls::calls::subset0;
-use item_calls::calls::subset1;
+use c_records::CPlaced;
+use c_records::CStore;
+use c_records::placed;
+use c_records::taken;
+use family_calls::diff;
+use family_calls::intsec;
+use family_calls::union;
+use item_calls::change;
+use item_calls::subset0;
+use item_calls::subset1;
 
 // The members of p with the item, the item taken out.
 #[no_mangle]

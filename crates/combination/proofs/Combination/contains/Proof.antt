@@ -1,0 +1,52 @@
+-- `contains` tells whether the record's combination holds the item: the bit that it tests is the one that the definition reads.
+-- An item outside 1 to 512 is in no combination of a record.
+use Prim.Native.Nat.{suc, _-_, _<_}
+use mathlib.Core.Path.{_≡_, sym, ap, _∙_}
+use native.Mathlib.Omega.{arith}
+use borrow.Author.Needs.{needs}
+use Rattle.family.specs.Combination.{holds, bitAt, itemsOf}
+use Rattle.family.proofs.Words.{holds-items, holds-outside, holds-none}
+use Rattle.combination.proofs.Combination.contains.Statement.{statement}
+use Rattle.combination.proofs.Combination.contains.Tie as tie
+
+returns : tie.Need-returns
+returns c = rw (c .if1 .taken) (sym (holds-none (c .before .args .t1 .words)))
+
+returns-2 : tie.Need-returns-2
+returns-2 c = sym (holds-outside (c .before .before .args .item) (c .before .before .args .t1 .words) (c .if2 .taken))
+
+sub-place : tie.Need-sub-place
+sub-place c = search needs
+
+cast-at : tie.Need-cast-at
+cast-at c = search needs
+
+mul-word : tie.Need-mul-word
+mul-word c = search needs
+
+element-copy-out-word : tie.Need-element-copy-out-word
+element-copy-out-word c = search needs
+
+shr-result : tie.Need-shr-result
+shr-result c = search needs
+
+returns-3 : tie.Need-returns-3
+unfolding bitAt
+returns-3 c =
+    let s = c .before .before .before .args in
+    let one : suc (s .item - 1) ≡ s .item = omega arith in
+    let low : s .item - 1 < 512 = omega arith in
+    sym (holds-items (s .item - 1) (s .t1 .words) low) ∙ ap (λ v. holds v (itemsOf (s .t1 .words))) one
+
+pub contains-spec : {M : Type 1} → statement M
+contains-spec =
+    tie.close
+    (tie.spec
+    returns
+    returns-2
+    sub-place
+    cast-at
+    mul-word
+    element-copy-out-word
+    shr-result
+    returns-3)
