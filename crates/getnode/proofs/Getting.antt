@@ -16,12 +16,12 @@ use Rattle.store.specs.declared.record.Refusal.the-variants.{Full, Damaged}
 use Rattle.store.specs.declared.record.PlaceAnswer.{PlaceAnswer}
 use Rattle.store.specs.declared.record.PlaceAnswer.the-variants.{Handle, Refused}
 use Rattle.store.specs.declared.record.Placed.{Placed}
-use Rattle.getnode.specs.declared.Made.{Made}
-use Rattle.getnode.specs.declared.Made.the-variants.{Found, New, Full as NoRoom, Damaged as Bad}
-use Rattle.getnode.specs.declared.Making.{Making}
+use Rattle.unique.specs.declared.Made.{Made}
+use Rattle.unique.specs.declared.Made.the-variants.{Found, New, Full as NoRoom, Damaged as Bad}
+use Rattle.unique.specs.declared.Making.{Making}
 use Rattle.store.specs.Words.{itemLimit}
 use Rattle.store.specs.Inner.{Roomy, Holds, Handed, Answer, gave, full, Kept, NodeIt}
-use Rattle.getnode.specs.Making.{MadeOf, found, new, MadeIt}
+use Rattle.unique.specs.Making.{MadeOf, found, new, MadeIt}
 use Rattle.store.proofs.Held.{at-0, within, positive-one, inside, held}
 use Rattle.store.proofs.Growing.{kept-self}
 

@@ -1,3 +1,2 @@
 -- The laws of `getnode`.
-pub mod Nodes
 pub mod Getting

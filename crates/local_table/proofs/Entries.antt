@@ -17,7 +17,7 @@ use Rattle.store.proofs.Held.{held}
 use Rattle.store.proofs.Put.{put-length, put-above}
 use Rattle.store.proofs.Extending.{holds-kept}
 use Rattle.store.proofs.Probing.{Present, Absent, probe-cases}
-use Rattle.getnode.proofs.Nodes.{new-handed}
+use Rattle.unique.proofs.Nodes.{new-handed}
 use Rattle.local_table.specs.Local.{slots, Local, Entering, new, old, EnterOf}
 use Rattle.local_table.proofs.Slots.{slots-length, slots-read, slots-in, slots-node, take-node}
 

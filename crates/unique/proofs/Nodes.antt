@@ -11,12 +11,12 @@ use Rattle.family.specs.Book.{at}
 use Rattle.table.specs.Probe.{probeOf}
 use Rattle.table.specs.Entered.{entered, startAt}
 use Rattle.store.specs.declared.record.Store.{Store}
-use Rattle.getnode.specs.declared.Made.{Made}
-use Rattle.getnode.specs.declared.Made.the-variants.{Found, New, Full, Damaged}
-use Rattle.getnode.specs.declared.Making.{Making}
+use Rattle.unique.specs.declared.Made.{Made}
+use Rattle.unique.specs.declared.Made.the-variants.{Found, New, Full, Damaged}
+use Rattle.unique.specs.declared.Making.{Making}
 use Rattle.store.specs.Words.{itemLimit}
 use Rattle.store.specs.Inner.{Roomy, Holds, Handed, Kept, putNode}
-use Rattle.getnode.specs.Making.{MadeOf, found, new, full, MadeIt}
+use Rattle.unique.specs.Making.{MadeOf, found, new, full, MadeIt}
 use Rattle.store.proofs.Extending.{holds-kept, next-is, extended}
 use Rattle.store.proofs.Put.{put-length, put-below, put-above, put-has, put-entered}
 use Rattle.store.proofs.Probing.{Present, Absent, probe-cases}

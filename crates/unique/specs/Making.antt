@@ -6,9 +6,9 @@ use lib.ListN.{length}
 use Rattle.family.specs.Family.{Family, node, Within}
 use Rattle.family.specs.Book.{at, number}
 use Rattle.store.specs.declared.record.Store.{Store}
-use Rattle.getnode.specs.declared.Made.{Made}
-use Rattle.getnode.specs.declared.Made.the-variants.{Found, New, Full as NoRoom}
-use Rattle.getnode.specs.declared.Making.{Making}
+use Rattle.unique.specs.declared.Made.{Made}
+use Rattle.unique.specs.declared.Made.the-variants.{Found, New, Full as NoRoom}
+use Rattle.unique.specs.declared.Making.{Making}
 use Rattle.store.specs.Words.{itemLimit}
 use Rattle.store.specs.Inner.{Holds, Handed, Kept}
 

@@ -1,11 +1,11 @@
 -- `make` finds the node or enters it at the slot that the probe found; each way out is one law of the nodes.
 -- Where the words hold a book no test fails, so it is never damaged.
 use mathlib.Core.Path.{_≡_, refl, sym, _∙_}
-use Rattle.getnode.specs.Making.{MadeIt}
-use Rattle.getnode.proofs.Nodes.{made-damaged, not-past, not-one, not-above, made-full, made-found, made-new}
+use Rattle.unique.specs.Making.{MadeIt}
+use Rattle.unique.proofs.Nodes.{made-damaged, not-past, not-one, not-above, made-full, made-found, made-new}
 use borrow.Author.Needs.{needs}
-use Rattle.getnode.proofs.make.Statement.{statement}
-use Rattle.getnode.proofs.make.Tie as tie
+use Rattle.unique.proofs.make.Statement.{statement}
+use Rattle.unique.proofs.make.Tie as tie
 
 abbrev start·Then1 : tie.Then1 → tie.Start
 start·Then1 c = c .before .before .before .before .before .before

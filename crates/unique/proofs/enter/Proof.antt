@@ -5,8 +5,8 @@ use native.Mathlib.Omega.{arith}
 use lib.ListN.{length-set}
 use Rattle.store.specs.Inner.{putNode}
 use borrow.Author.Needs.{needs}
-use Rattle.getnode.proofs.enter.Statement.{statement}
-use Rattle.getnode.proofs.enter.Tie as tie
+use Rattle.unique.proofs.enter.Statement.{statement}
+use Rattle.unique.proofs.enter.Tie as tie
 
 mul-base : tie.Need-mul-base
 mul-base c = search needs

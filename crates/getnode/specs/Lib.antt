@@ -1,2 +1,0 @@
--- What the contracts of `getnode` cite.
-pub mod Making

@@ -1,0 +1,2 @@
+-- The laws of `unique`.
+pub mod Nodes

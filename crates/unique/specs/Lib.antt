@@ -1,0 +1,2 @@
+-- What the contracts of `unique` cite.
+pub mod Making
