@@ -23,9 +23,10 @@ use Rattle.store.proofs.Calls.{sound-fits}
 use Rattle.store.proofs.Tested.{tests-handle, tests-scratch, tests-passed}
 use Rattle.counting.specs.declared.SizeAnswer.the-variants.{Members, Refused}
 use Rattle.counting.specs.declared.Measured.{Measured}
-use Rattle.counting.specs.Sizes.{most, sizeGivenBy, sizeRefusal, sizeAnswer, sizesOf, sizeScratch, SizeCall}
-use Rattle.counting.specs.Inner.{sizeAt, Filled, Exceeding}
-use Rattle.counting.proofs.Summing.{size-known, filled-is}
+use Rattle.node_sizes.specs.NodeSizes.{most, sizesOf}
+use Rattle.counting.specs.Sizes.{sizeGivenBy, sizeRefusal, sizeAnswer, sizeScratch, SizeCall}
+use Rattle.node_sizes.specs.Inner.{sizeAt, Filled, Exceeding}
+use Rattle.node_sizes.proofs.Summing.{size-known, filled-is}
 
 module _ (s : Store) (nodes lookup : List ℕ) (p : ℕ) where
   -- the book of a sound store

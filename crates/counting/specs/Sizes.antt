@@ -1,10 +1,10 @@
 -- The promise of Size: document 01, 'Calls' and 'Numbers and trade words'.
-use Prim.Native.Nat.{ℕ, _+_, _-_, min}
+use Prim.Native.Nat.{ℕ, _-_}
 use mathlib.Core.Path.{_≡_}
-use mathlib.Core.Bool.{Bool, false, cond, _||_}
-use mathlib.Core.List.{List, [], _++_, map}
+use mathlib.Core.Bool.{false, cond}
+use mathlib.Core.List.{List, [], _++_}
 use lib.Dec.{eqb, ltb}
-use lib.ListN.{length, getD, drop}
+use lib.ListN.{length, drop}
 use Rattle.family.specs.Family.{Family, size}
 use Rattle.family.specs.Book.{at}
 use Rattle.store.specs.declared.record.Store.{Store}
@@ -17,10 +17,7 @@ use Rattle.store.specs.Sound.{Sound}
 use Rattle.counting.specs.declared.SizeAnswer.{SizeAnswer}
 use Rattle.counting.specs.declared.SizeAnswer.the-variants.{Members, Refused}
 use Rattle.counting.specs.declared.Measured.{Measured}
-
--- the largest number of 64 bits
-abbrev pub most : ℕ
-most = 18446744073709551615
+use Rattle.node_sizes.specs.NodeSizes.{most, sizesOf}
 
 -- what Size gives besides the record: the refusal's number, 0 where there is none, and the size, 0 where it is refused
 pub record SizeGiven : Type 0 where
@@ -38,10 +35,6 @@ sizeRefusal B p words = cond (eqb (scratchTests B p words) 0) (cond (ltb most (s
 -- "Size gives the number of members", for the book that the store holds
 unfoldable pub sizeAnswer : List Family → ℕ → ℕ → SizeGiven
 sizeAnswer B p words = record { refusal = sizeRefusal B p words; size = cond (eqb (sizeRefusal B p words) 0) (size (at B p)) 0 }
-
--- "word j then holds the size of node j + 2, or 18,446,744,073,709,551,615 if that is smaller"
-unfoldable pub sizesOf : List Family → List ℕ
-sizesOf B = map (λ F. min (size F) most) (drop 2 B)
 
 -- the scratch after Size: "After 6, Size has filled its scratch as on success"; after 4 and 7 it stays
 unfoldable pub sizeScratch : List Family → ℕ → List ℕ → List ℕ

@@ -18,7 +18,8 @@ use Rattle.store.specs.Words.{itemLimit}
 use Rattle.store.specs.Placing.{tooLarge}
 use Rattle.store.specs.Scratch.{scratchTests}
 use Rattle.operations.specs.Promise.{isItem, operationRefusal}
-use Rattle.counting.specs.Sizes.{most, sizeRefusal, sizeAnswer}
+use Rattle.node_sizes.specs.NodeSizes.{most}
+use Rattle.counting.specs.Sizes.{sizeRefusal, sizeAnswer}
 use Rattle.membership.specs.Membership.{hasAnswer}
 use Rattle.saving.specs.Promise.{saveRefusal, saveAnswer, saveOutput}
 use Rattle.loading.specs.Promise.{noFile, loadRefusal, found, loadFamily}

@@ -26,7 +26,7 @@ use Rattle.store.specs.Sound.{Sound}
 use Rattle.fresh.specs.Fresh.{FreshCall, FreshLeft, freshLeaves, freshOf}
 use Rattle.store.proofs.Decoding.{sound-holds}
 use Rattle.store.proofs.Sounds.{fresh-sound}
-use Rattle.counting.specs.Sizes.{most}
+use Rattle.node_sizes.specs.NodeSizes.{most}
 use Rattle.line.specs.declared.Side.{Side}
 use Rattle.line.specs.declared.Side.the-variants.{Passed, Returned}
 use Rattle.line.specs.declared.Stage.{Stage}

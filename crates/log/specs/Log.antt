@@ -10,7 +10,7 @@ use Rattle.family.specs.Book.{start, at}
 use Rattle.store.specs.Capacity.{capacityOf}
 use Rattle.store.specs.Words.{bookOf}
 use Rattle.store.specs.Sound.{Sound}
-use Rattle.counting.specs.Sizes.{most}
+use Rattle.node_sizes.specs.NodeSizes.{most}
 use Rattle.line.specs.declared.Side.{Side}
 use Rattle.line.specs.declared.Side.the-variants.{Passed, Returned}
 use Rattle.log.specs.declared.Ending.{Ending}

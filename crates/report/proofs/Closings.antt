@@ -28,7 +28,8 @@ use Rattle.store.proofs.Tested.{tests-passed}
 use Rattle.operations.specs.Promise.{OperationCall}
 use Rattle.counting.specs.declared.SizeAnswer.the-variants.{Members, Refused as NoSize}
 use Rattle.counting.specs.declared.Measured.{Measured}
-use Rattle.counting.specs.Sizes.{most, SizeGiven, sizeGivenBy, sizeRefusal, sizeAnswer, SizeCall}
+use Rattle.node_sizes.specs.NodeSizes.{most}
+use Rattle.counting.specs.Sizes.{SizeGiven, sizeGivenBy, sizeRefusal, sizeAnswer, SizeCall}
 use Rattle.family.specs.Combination.{itemsOf}
 use Rattle.line.specs.declared.Side.{Side}
 use Rattle.line.specs.declared.Stage.{Stage}

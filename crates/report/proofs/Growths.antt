@@ -14,7 +14,7 @@ use Rattle.family.specs.Combination.{largest, Falling, Combined, holds, insert,
 use Rattle.family.proofs.Falling.{insert-falling}
 use Rattle.family.proofs.Diagrams.{within-self}
 use Rattle.family.proofs.Laws.{union-within}
-use Rattle.counting.specs.Sizes.{most}
+use Rattle.node_sizes.specs.NodeSizes.{most}
 use Rattle.line.specs.declared.Side.{Side}
 use Rattle.line.specs.declared.Side.the-variants.{Passed, Returned}
 use Rattle.log.specs.declared.Ending.{Ending}

@@ -3,11 +3,11 @@
 use Prim.Native.Nat.{ℕ, _+_, _*_, _-_, _≤_, _<_}
 use mathlib.Core.Path.{_≡_, refl, sym, ap, _∙_}
 use native.Mathlib.Omega.{arith}
-use Rattle.counting.specs.Inner.{Filled}
-use Rattle.counting.proofs.Summing.{filled-none, filled-step, filled-end}
+use Rattle.node_sizes.specs.Inner.{Filled}
+use Rattle.node_sizes.proofs.Summing.{filled-none, filled-step, filled-end}
 use borrow.Author.Needs.{needs}
-use Rattle.counting.proofs.fill_sizes.Statement.{statement}
-use Rattle.counting.proofs.fill_sizes.Tie as tie
+use Rattle.node_sizes.proofs.fill_sizes.Statement.{statement}
+use Rattle.node_sizes.proofs.fill_sizes.Tie as tie
 
 abbrev Inv-loop : tie.InvT-loop
 Inv-loop nodes sizes₀ count j₀ sizes j = (j ≤ count) × Filled nodes count j sizes₀ sizes

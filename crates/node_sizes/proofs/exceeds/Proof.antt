@@ -4,9 +4,9 @@ use borrow.Author.Needs.{needs}
 use Prim.Native.Nat.{ℕ, _+_, _*_, _-_, _≤_, _<_}
 use mathlib.Core.Path.{_≡_, refl, sym, ap, _∙_}
 use native.Mathlib.Omega.{arith}
-use Rattle.counting.proofs.Brims.{Down, down-start, down-leaf, down-none, down-small, down-some, down-outside, down-step}
-use Rattle.counting.proofs.exceeds.Statement.{statement}
-use Rattle.counting.proofs.exceeds.Tie as tie
+use Rattle.node_sizes.proofs.Brims.{Down, down-start, down-leaf, down-none, down-small, down-some, down-outside, down-step}
+use Rattle.node_sizes.proofs.exceeds.Statement.{statement}
+use Rattle.node_sizes.proofs.exceeds.Tie as tie
 
 abbrev Inv-loop : tie.InvT-loop
 Inv-loop nodes sizes count p at₀ left₀ at left = Down nodes sizes count p at left

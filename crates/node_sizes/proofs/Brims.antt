@@ -14,9 +14,9 @@ use Rattle.words.proofs.Cases.{by-lt}
 use Rattle.store.specs.Words.{itemLimit}
 use Rattle.store.specs.Inner.{Entry, Holds}
 use Rattle.store.proofs.Held.{at-0, at-1, at-node, within}
-use Rattle.counting.specs.Sizes.{most}
-use Rattle.counting.specs.Inner.{sizeAt, Exceeding}
-use Rattle.counting.proofs.Summing.{size-known}
+use Rattle.node_sizes.specs.NodeSizes.{most}
+use Rattle.node_sizes.specs.Inner.{sizeAt, Exceeding}
+use Rattle.node_sizes.proofs.Summing.{size-known}
 
 -- a family with a member has a size
 some-size : (F : Family) → Ordered F → T (inhabited F) → 1 ≤ size F

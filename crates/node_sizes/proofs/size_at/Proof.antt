@@ -1,10 +1,10 @@
 -- `size_at` reads the word of a handle.
 -- The definition's two cases, and a word that is not there.
 use native.Mathlib.Omega.{arith}
-use Rattle.counting.proofs.Summing.{at-leaf, at-word, at-none}
+use Rattle.node_sizes.proofs.Summing.{at-leaf, at-word, at-none}
 use borrow.Author.Needs.{needs}
-use Rattle.counting.proofs.size_at.Statement.{statement}
-use Rattle.counting.proofs.size_at.Tie as tie
+use Rattle.node_sizes.proofs.size_at.Statement.{statement}
+use Rattle.node_sizes.proofs.size_at.Tie as tie
 
 returns : tie.Need-returns
 returns c = at-leaf ((c .before) .args .sizes .now) ((c .before) .args .handle) (c .if1 .taken)

@@ -8,7 +8,7 @@ use lib.ListN.{length, getD}
 use Rattle.family.specs.Family.{Family, size}
 use Rattle.family.specs.Book.{at}
 use Rattle.store.specs.Inner.{Holds}
-use Rattle.counting.specs.Sizes.{most}
+use Rattle.node_sizes.specs.NodeSizes.{most}
 
 -- the size of a handle by its word
 unfoldable pub sizeAt : List ℕ → ℕ → ℕ

@@ -12,8 +12,8 @@ use Rattle.family.specs.Book.{at}
 use Rattle.words.proofs.Cases.{by-lt, by-eq}
 use Rattle.store.specs.Inner.{Entry, Holds}
 use Rattle.store.proofs.Held.{at-0, at-1}
-use Rattle.counting.specs.Sizes.{most, sizesOf}
-use Rattle.counting.specs.Inner.{sizeAt, SizesTo, Filled}
+use Rattle.node_sizes.specs.NodeSizes.{most, sizesOf}
+use Rattle.node_sizes.specs.Inner.{sizeAt, SizesTo, Filled}
 
 -- the three ways out of `size_at`
 module _ (sizes : List ℕ) (h : ℕ) where

@@ -1,0 +1,3 @@
+-- The laws of `node_sizes`.
+pub mod Summing
+pub mod Brims

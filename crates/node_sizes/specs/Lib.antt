@@ -1,0 +1,3 @@
+-- What the contracts of `node_sizes` cite.
+pub mod NodeSizes
+pub mod Inner
