@@ -1,5 +1,4 @@
 // Size: the number of members.
-ghost use Rattle.node_sizes.specs.NodeSizes.{most};
 ghost use Rattle.counting.specs.Sizes.{SizeCall};
 use node_sizes::exceeds;
 use node_sizes::fill_sizes;
