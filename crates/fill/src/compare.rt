@@ -1,6 +1,6 @@
 // Copies of lent words, and tests against them.
 use crate::output::told;
-use store::record::Store;
+use harness::lent::all_are;
 
 // Copies words; stops at the end of the shorter.
 pub fn copy(from: &[u32], to: &mut [u32]) {
@@ -29,38 +29,13 @@ fn same(a: &[u32], b: &[u32]) -> bool {
     true
 }
 
-// Whether all words are the same number.
-fn all_are(words: &[u32], value: u32) -> bool {
-    let mut at: usize = 0;
-    while at < words.len() {
-        if words[at] != value {
-            return false;
-        }
-        at = at + 1;
-    }
-    true
-}
-
-// Whether a record is the one before.
-fn same_record(a: Store, b: Store) -> bool {
-    if a.capacity != b.capacity {
-        return false;
-    }
-    a.count == b.count
-}
-
-// Tests the record that came back.
-pub fn tell_record(before: Store, after: Store) {
-    told(b"  record as before: ", same_record(before, after));
-}
-
 // Tests the node words and the lookup.
 pub fn tell_words(nodes: &[u32], lookup: &[u32], node_copy: &[u32], lookup_copy: &[u32]) {
     told(b"  node words as before: ", same(nodes, node_copy));
     told(b"  lookup as before: ", same(lookup, lookup_copy));
 }
 
-// Tests the cache after a refusal with 5: the whole groups are 0, and the words past them are those from before Fresh.
+// Tests the cache: whether the whole groups are 0, and the words past them those from before Fresh.
 pub fn tell_cache(cache: &[u32]) {
     let groups = cache.len() / 4 * 4;
     told(b"  whole cache groups 0: ", all_are(&cache[0..groups], 0));

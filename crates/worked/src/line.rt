@@ -1,57 +1,42 @@
-// The line of one of the six operations: the call, and what it gave.
-use crate::output::refused;
-use crate::output::text;
-use crate::output::word;
-use family_calls::diff;
-use family_calls::intsec;
-use family_calls::union;
-use item_calls::change;
-use item_calls::subset0;
-use item_calls::subset1;
+// The lines of the six operations: the call, and what it gave.
+use harness::operation::Operation;
+use harness::operation::name;
+use harness::operation::of;
+use harness::operation::run;
+use harness::output::refusal;
+use harness::output::text;
+use harness::output::word;
 use store::record::PlaceAnswer;
 use store::record::Placed;
+use store::record::Refusal;
 use store::record::Store;
 
-// The six operations.
-pub enum Operation {
-    Subset1,
-    Subset0,
-    Change,
-    Union,
-    Intsec,
-    Diff,
-}
-
-// Writes the name of an operation.
-fn name(op: Operation) {
-    match op {
-        Operation::Subset1 => text(b"Subset1"),
-        Operation::Subset0 => text(b"Subset0"),
-        Operation::Change => text(b"Change"),
-        Operation::Union => text(b"Union"),
-        Operation::Intsec => text(b"Intsec"),
-        Operation::Diff => text(b"Diff"),
+// The operations in the order of document 01: the worked store's, and from 11 on the first and the last item and the numbers beside them.
+fn numbered(k: u32) -> Operation {
+    match k {
+        0 => of(3, 1, 1),
+        1 => of(3, 1, 2),
+        2 => of(4, 2, 3),
+        3 => of(4, 3, 2),
+        4 => of(6, 4, 2),
+        5 => of(5, 4, 1),
+        6 => of(1, 4, 2),
+        7 => of(2, 4, 2),
+        8 => of(3, 4, 1),
+        9 => of(3, 1, 3),
+        10 => of(3, 5, 1),
+        11 => of(3, 1, 1),
+        12 => of(3, 1, 512),
+        13 => of(3, 1, 0),
+        _ => of(3, 1, 513),
     }
 }
 
-// Runs an operation.
-fn run(
-    op: Operation,
-    store: Store,
-    nodes: &mut [u32],
-    lookup: &mut [u32],
-    cache: &mut [u32],
-    p: u32,
-    q: u32,
-) -> Placed {
-    match op {
-        Operation::Subset1 => subset1(store, nodes, lookup, cache, p, q),
-        Operation::Subset0 => subset0(store, nodes, lookup, cache, p, q),
-        Operation::Change => change(store, nodes, lookup, cache, p, q),
-        Operation::Union => union(store, nodes, lookup, cache, p, q),
-        Operation::Intsec => intsec(store, nodes, lookup, cache, p, q),
-        Operation::Diff => diff(store, nodes, lookup, cache, p, q),
-    }
+// Ends a line with a refusal.
+pub fn refused(given: Refusal) {
+    text(b" refused with ");
+    refusal(given);
+    text(b"\n");
 }
 
 // Writes the three words of a node.
@@ -87,23 +72,34 @@ pub fn given(placed: Placed, nodes: &[u32]) {
     }
 }
 
-// Runs an operation and writes its line.
-pub fn line(
-    op: Operation,
-    p: u32,
-    q: u32,
+// Writes an operation and its operands.
+fn call_text(call: Operation) {
+    name(call.op);
+    text(b"(");
+    word(call.p);
+    text(b", ");
+    word(call.q);
+    text(b")");
+}
+
+// Runs the operations from one number to the one before another, and writes their lines.
+pub fn lines(
+    from: u32,
+    to: u32,
     store: Store,
     nodes: &mut [u32],
     lookup: &mut [u32],
     cache: &mut [u32],
 ) -> Store {
-    let placed = run(op, store, nodes, lookup, cache, p, q);
-    name(op);
-    text(b"(");
-    word(p);
-    text(b", ");
-    word(q);
-    text(b")");
-    given(placed, nodes);
-    placed.store
+    let mut last = store;
+    let mut k = from;
+    while k < to {
+        let call = numbered(k);
+        let placed = run(call, last, nodes, lookup, cache);
+        call_text(call);
+        given(placed, nodes);
+        last = placed.store;
+        k = k + 1;
+    }
+    last
 }

@@ -2,11 +2,10 @@
 mod files;
 mod large;
 mod line;
-mod output;
 mod questions;
 mod small;
 
 fn main() {
-    small::lines();
-    large::lines();
+    small::small_lines();
+    large::large_lines();
 }

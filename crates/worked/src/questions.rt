@@ -1,31 +1,42 @@
 // Size and Has.
-use crate::output::number;
-use crate::output::refused;
-use crate::output::text;
-use crate::output::word;
+use crate::line::refused;
 use combination::Combination;
 use counting::SizeAnswer;
 use counting::size;
+use harness::output::decimal;
+use harness::output::text;
+use harness::output::word;
+use membership::Asked;
 use membership::HasAnswer;
 use membership::has;
 use store::record::Store;
 
-// Asks whether a combination of items up to 32 is in p, and writes the line.
-pub fn has_line(store: Store, nodes: &[u32], lookup: &[u32], p: u32, shown: &[u8], first: u32) {
+// The combination of items up to 32 whose bits are these.
+fn low_items(bits: u32) -> Combination {
     let mut words = [0u32; 16];
-    words[0] = first;
-    let asked = has(store, nodes, lookup, p, Combination { words: words });
-    text(b"Has(");
-    word(p);
-    text(b", ");
-    text(shown);
-    text(b")");
+    words[0] = bits;
+    Combination { words: words }
+}
+
+// Ends the line with what Has gave.
+fn asked_text(asked: Asked) {
     let answer = asked.answer;
     match answer {
         HasAnswer::Yes => text(b" = yes\n"),
         HasAnswer::No => text(b" = no\n"),
         HasAnswer::Refused(refusal) => refused(refusal),
     }
+}
+
+// Asks whether a combination of items up to 32 is in p, and writes the line.
+pub fn has_line(store: Store, nodes: &[u32], lookup: &[u32], p: u32, shown: &[u8], bits: u32) {
+    let asked = has(store, nodes, lookup, p, low_items(bits));
+    text(b"Has(");
+    word(p);
+    text(b", ");
+    text(shown);
+    text(b")");
+    asked_text(asked);
 }
 
 // Measures p and ends the line.
@@ -36,7 +47,7 @@ pub fn size_given(store: Store, nodes: &[u32], lookup: &[u32], p: u32) {
     match answer {
         SizeAnswer::Members(members) => {
             text(b" = ");
-            number(members);
+            decimal(members);
             text(b"\n");
         }
         SizeAnswer::Refused(refusal) => refused(refusal),

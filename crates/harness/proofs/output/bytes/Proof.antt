@@ -1,28 +1,27 @@
--- `all_are` is safe and ends: the measure is the number of words that are left.
+-- `bytes` is safe and ends: the measure is the number of bytes that are left.
 -- Nothing has to hold from turn to turn.
 use Prim.Native.Nat.{_-_}
-use lib.ListN.{length}
 use borrow.Author.Needs.{needs}
-use Rattle.fill.proofs.compare.all_are.Statement.{statement}
-use Rattle.fill.proofs.compare.all_are.Tie as tie
+use Rattle.harness.proofs.output.bytes.Statement.{statement}
+use Rattle.harness.proofs.output.bytes.Tie as tie
 
 abbrev Inv-loop : tie.InvT-loop
-Inv-loop words value at₀ at = Unit
+Inv-loop file count at₀ at = Unit
 
 abbrev μ-loop : tie.MeasureT-loop
-μ-loop words value at₀ at = length words - at
+μ-loop file count at₀ at = count - at
 
 loop-holds : tie.Need-loop-holds Inv-loop μ-loop
 loop-holds c = search needs
 
-mul-if1 : tie.Need-mul-if1 Inv-loop μ-loop
-mul-if1 c = search needs
-
-shared-slice-read-if1 : tie.Need-shared-slice-read-if1 Inv-loop μ-loop
-shared-slice-read-if1 c = search needs
-
 returns : tie.Need-returns Inv-loop μ-loop
 returns c = search needs
+
+shared-slice-read-byte : tie.Need-shared-slice-read-byte Inv-loop μ-loop
+shared-slice-read-byte c = search needs
+
+byte-requires : tie.Need-byte-requires Inv-loop μ-loop
+byte-requires c κs = search needs
 
 add-at : tie.Need-add-at Inv-loop μ-loop
 add-at c = search needs
@@ -36,16 +35,16 @@ loop-again c = search needs
 returns-2 : tie.Need-returns-2 Inv-loop μ-loop
 returns-2 c = search needs
 
-pub all-are-spec : {M : Type 1} → statement M
-all-are-spec =
+pub bytes-spec : {M : Type 1} → statement M
+bytes-spec =
     tie.close
     (tie.spec
     Inv-loop
     μ-loop
     loop-holds
-    mul-if1
-    shared-slice-read-if1
     returns
+    shared-slice-read-byte
+    byte-requires
     add-at
     loop-less
     loop-again

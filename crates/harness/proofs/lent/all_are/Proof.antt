@@ -3,8 +3,8 @@
 use Prim.Native.Nat.{_-_}
 use lib.ListN.{length}
 use borrow.Author.Needs.{needs}
-use Rattle.replay.proofs.sums.all_are.Statement.{statement}
-use Rattle.replay.proofs.sums.all_are.Tie as tie
+use Rattle.harness.proofs.lent.all_are.Statement.{statement}
+use Rattle.harness.proofs.lent.all_are.Tie as tie
 
 abbrev Inv-loop : tie.InvT-loop
 Inv-loop words value at₀ at = Unit
