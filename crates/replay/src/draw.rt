@@ -1,12 +1,5 @@
 // What is drawn for a call.
-ghost use Prim.Native.Nat.{_≤_};
-
-// One step of the 32-bit xorshift with shifts 13, 17 and 5.
-pub fn step(x: u32) -> u32 {
-    let a = x ^ (x << 13);
-    let b = a ^ (a >> 17);
-    b ^ (b << 5)
-}
+use call_lines::sums::step;
 
 // The five numbers drawn for a call.
 pub struct Drawn {
@@ -47,16 +40,6 @@ pub fn size_below(x: u32, n: usize) -> usize {
         return 0;
     }
     x as usize % n
-}
-
-// The smaller number.
-pub fn at_most(n: usize, most: usize) -> usize
-    ensures { λ r. ⌜ r ≤ most ⌝ }
-{
-    if most < n {
-        return most;
-    }
-    n
 }
 
 // A handle: often one of the newest eight, else any that is held; seldom one that is too large.

@@ -4,15 +4,9 @@ mod craft;
 mod draw;
 mod lend;
 mod lists;
-mod loads;
 mod members;
-mod output;
 mod path;
-mod placing;
-mod saves;
-mod sizes;
 mod subsets;
-mod sums;
 mod turn;
 
 fn main() {

@@ -1,5 +1,5 @@
 // Combinations to ask for.
-use crate::draw::step;
+use call_lines::sums::step;
 use combination::Combination;
 
 // The empty combination.

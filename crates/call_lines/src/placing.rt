@@ -1,66 +1,22 @@
 // The lines of the six operations.
-use crate::draw::Drawn;
-use crate::draw::at_most;
-use crate::draw::handle;
-use crate::draw::item;
-use crate::lend::Lent;
+use crate::lending::Lent;
 use crate::output::answer;
 use crate::output::lent_two;
 use crate::output::record;
 use crate::output::refused;
 use crate::output::sum_line;
-use crate::output::text;
 use crate::output::word;
 use crate::sums::cleared;
 use crate::sums::of_words;
-use family_calls::diff;
-use family_calls::intsec;
-use family_calls::union;
-use item_calls::change;
-use item_calls::subset0;
-use item_calls::subset1;
+use harness::lent::at_most;
+use harness::operation::Operation;
+use harness::operation::name;
+use harness::operation::run;
+use harness::output::text;
 use store::record::PlaceAnswer;
 use store::record::Placed;
 use store::record::Refusal;
 use store::record::Store;
-
-// An operation by its number, 1 to 6, and its two operands.
-pub struct Operation {
-    pub op: u32,
-    pub p: u32,
-    pub q: u32,
-}
-
-// Writes the name of an operation.
-fn name(op: u32) {
-    match op {
-        1 => text(b"Subset1"),
-        2 => text(b"Subset0"),
-        3 => text(b"Change"),
-        4 => text(b"Union"),
-        5 => text(b"Intsec"),
-        _ => text(b"Diff"),
-    }
-}
-
-// Runs an operation.
-fn run(
-    call: Operation,
-    store: Store,
-    nodes: &mut [u32],
-    lookup: &mut [u32],
-    cache: &mut [u32],
-) -> Placed {
-    let op = call.op;
-    match op {
-        1 => subset1(store, nodes, lookup, cache, call.p, call.q),
-        2 => subset0(store, nodes, lookup, cache, call.p, call.q),
-        3 => change(store, nodes, lookup, cache, call.p, call.q),
-        4 => union(store, nodes, lookup, cache, call.p, call.q),
-        5 => intsec(store, nodes, lookup, cache, call.p, call.q),
-        _ => diff(store, nodes, lookup, cache, call.p, call.q),
-    }
-}
 
 // Writes a refusal, and of the lent cache words: after 5 whether the whole groups are 0, else whether all are as before.
 fn refused_with(refusal: Refusal, cache: &[u32], before: u32) {
@@ -122,23 +78,6 @@ pub fn line(
     given(placed, &cache[0..part], before);
     sum_line(words(nodes, lookup));
     placed
-}
-
-// The operation that is drawn.
-pub fn drawn_operation(op: u32, drawn: Drawn, items: u32, count: u32) -> Operation {
-    let p = handle(drawn.a, count);
-    if op < 4 {
-        return Operation {
-            op: op,
-            p: p,
-            q: item(drawn.b, items),
-        };
-    }
-    Operation {
-        op: op,
-        p: p,
-        q: handle(drawn.b, count),
-    }
 }
 
 // The record for the next call: the one given back with a handle, else the one before.

@@ -3,8 +3,8 @@
 use Prim.Native.Nat.{_-_}
 use lib.ListN.{length}
 use borrow.Author.Needs.{needs}
-use Rattle.replay.proofs.sums.of_bytes.Statement.{statement}
-use Rattle.replay.proofs.sums.of_bytes.Tie as tie
+use Rattle.call_lines.proofs.sums.of_bytes.Statement.{statement}
+use Rattle.call_lines.proofs.sums.of_bytes.Tie as tie
 
 abbrev Inv-loop : tie.InvT-loop
 Inv-loop bytes sum₀ at₀ sum at = Unit

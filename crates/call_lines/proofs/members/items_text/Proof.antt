@@ -2,8 +2,8 @@
 -- The item stays below 514.
 use Prim.Native.Nat.{_-_, _≤_}
 use borrow.Author.Needs.{needs}
-use Rattle.replay.proofs.members.items_text.Statement.{statement}
-use Rattle.replay.proofs.members.items_text.Tie as tie
+use Rattle.call_lines.proofs.members.items_text.Statement.{statement}
+use Rattle.call_lines.proofs.members.items_text.Tie as tie
 
 abbrev Inv-loop : tie.InvT-loop
 Inv-loop combination item₀ item = item ≤ 513

@@ -1,5 +1,12 @@
 // Sums and tests of lent words.
-use crate::draw::step;
+use harness::lent::all_are;
+
+// One step of the 32-bit xorshift with shifts 13, 17 and 5.
+pub fn step(x: u32) -> u32 {
+    let a = x ^ (x << 13);
+    let b = a ^ (a >> 17);
+    b ^ (b << 5)
+}
 
 // The sum with one word more.
 fn add(sum: u32, word: u32) -> u32 {
@@ -48,18 +55,6 @@ pub fn of_sizes(sizes: &[u64]) -> u32 {
         at = at + 1;
     }
     sum
-}
-
-// Whether all words are the same number.
-fn all_are(words: &[u32], value: u32) -> bool {
-    let mut at: usize = 0;
-    while at < words.len() {
-        if words[at] != value {
-            return false;
-        }
-        at = at + 1;
-    }
-    true
 }
 
 // Whether the whole cache groups are 0.

@@ -3,8 +3,8 @@
 use Prim.Native.Nat.{_-_}
 use lib.ListN.{length}
 use borrow.Author.Needs.{needs}
-use Rattle.replay.proofs.lists.all_words.Statement.{statement}
-use Rattle.replay.proofs.lists.all_words.Tie as tie
+use Rattle.call_lines.proofs.freshening.all_words.Statement.{statement}
+use Rattle.call_lines.proofs.freshening.all_words.Tie as tie
 
 abbrev Inv-loop : tie.InvT-loop
 Inv-loop words at₀ at = Unit

@@ -1,18 +1,18 @@
 // The lines of Save.
-use crate::draw::at_most;
-use crate::lend::Lent;
+use crate::lending::Lent;
 use crate::output::answer;
-use crate::output::byte;
 use crate::output::length;
 use crate::output::lent_three;
 use crate::output::record;
 use crate::output::refused;
 use crate::output::sum_line;
-use crate::output::text;
 use crate::output::word;
 use crate::sums::MARK;
 use crate::sums::kept;
 use crate::sums::of_bytes;
+use harness::lent::at_most;
+use harness::output::bytes;
+use harness::output::text;
 use saving::SaveAnswer;
 use saving::Saved;
 use saving::save;
@@ -22,18 +22,6 @@ use store::record::Refusal;
 pub struct Room {
     pub words: usize,
     pub bytes: usize,
-}
-
-// Writes the first bytes.
-pub fn bytes(file: &[u8], count: usize) {
-    let mut at: usize = 0;
-    while at < count {
-        if file.len() <= at {
-            return;
-        }
-        byte(file[at]);
-        at = at + 1;
-    }
 }
 
 // From where on the scratch must be as before: after 10, 4 and 7 all of it, else what is past the needed words.

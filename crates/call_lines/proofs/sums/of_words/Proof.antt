@@ -3,8 +3,8 @@
 use Prim.Native.Nat.{_-_}
 use lib.ListN.{length}
 use borrow.Author.Needs.{needs}
-use Rattle.replay.proofs.sums.of_words.Statement.{statement}
-use Rattle.replay.proofs.sums.of_words.Tie as tie
+use Rattle.call_lines.proofs.sums.of_words.Statement.{statement}
+use Rattle.call_lines.proofs.sums.of_words.Tie as tie
 
 abbrev Inv-loop : tie.InvT-loop
 Inv-loop start words sum₀ at₀ sum at = Unit

@@ -1,16 +1,14 @@
 // Pieces of a line on standard output.
+use harness::output::decimal;
+use harness::output::refusal;
+use harness::output::text;
 use store::record::Refusal;
 use store::record::Store;
-
-// Writes some bytes.
-pub fn text(bytes: &[u8]) {
-    io::write_all(1, bytes);
-}
 
 // Writes a space and a number in base ten.
 pub fn number(n: u64) {
     text(b" ");
-    io::print_decimal(1, n);
+    decimal(n);
 }
 
 // Writes a space and a 32-bit number.
@@ -38,12 +36,6 @@ pub fn lent_three(first: usize, second: usize, third: usize) {
     length(second);
     length(third);
     text(b":");
-}
-
-// Writes a byte as two hexadecimal digits.
-pub fn byte(b: u8) {
-    text(b" ");
-    io::print_hex(1, b as u64, 2);
 }
 
 // Writes a sum of words.
@@ -75,24 +67,9 @@ pub fn record(store: Store) {
     word(store.capacity);
 }
 
-// The number of a refusal.
-fn number_of(refusal: Refusal) -> u32 {
-    match refusal {
-        Refusal::Tiny => 1,
-        Refusal::ShortLookup => 2,
-        Refusal::Item => 3,
-        Refusal::Handle => 4,
-        Refusal::Full => 5,
-        Refusal::Large => 6,
-        Refusal::Scratch => 7,
-        Refusal::Output => 8,
-        Refusal::NoFile => 9,
-        Refusal::Damaged => 10,
-    }
-}
-
 // Writes a refusal.
-pub fn refused(refusal: Refusal) {
+pub fn refused(given: Refusal) {
     text(b" refused");
-    word(number_of(refusal));
+    text(b" ");
+    refusal(given);
 }

@@ -1,18 +1,17 @@
 // The line of Load.
-use crate::draw::at_most;
-use crate::draw::size_below;
-use crate::lend::Lent;
+use crate::lending::Lent;
 use crate::output::answer;
 use crate::output::length;
 use crate::output::lent_three;
 use crate::output::sum;
-use crate::output::text;
 use crate::placing::given;
 use crate::placing::words;
 use crate::saves::free_until;
 use crate::sums::MARK;
 use crate::sums::kept;
 use crate::sums::of_words;
+use harness::lent::at_most;
+use harness::output::text;
 use loading::load;
 use store::record::PlaceAnswer;
 use store::record::Placed;
@@ -21,24 +20,6 @@ use store::record::Placed;
 pub struct Reading {
     pub bytes: usize,
     pub words: usize,
-}
-
-// How many bytes are read: mostly the last file's, seldom none, one less, one more, or any number.
-pub fn taken(x: u32, last: usize, all: usize) -> usize {
-    let way = x % 16;
-    if way == 0 {
-        return 0;
-    }
-    if way == 1 {
-        return std::num::wrapping_sub_usize(last, 1);
-    }
-    if way == 2 {
-        return std::num::wrapping_add_usize(last, 1);
-    }
-    if way == 3 {
-        return size_below(x / 16, std::num::wrapping_add_usize(all, 1));
-    }
-    last
 }
 
 // Whether the scratch words that Load may not touch are as before.

@@ -1,17 +1,17 @@
 // The line of Size.
-use crate::draw::at_most;
-use crate::lend::Lent;
+use crate::lending::Lent;
 use crate::output::lent_two;
 use crate::output::number;
 use crate::output::record;
 use crate::output::refused;
 use crate::output::sum_line;
-use crate::output::text;
 use crate::output::word;
 use crate::sums::of_sizes;
 use counting::Measured;
 use counting::SizeAnswer;
 use counting::size;
+use harness::lent::at_most;
+use harness::output::text;
 
 // Writes what Size gave.
 fn given(measured: Measured) {
