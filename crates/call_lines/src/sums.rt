@@ -1,12 +1,6 @@
 // Sums and tests of lent words.
+use drawing::draw::step;
 use harness::lent::all_are;
-
-// One step of the 32-bit xorshift with shifts 13, 17 and 5.
-pub fn step(x: u32) -> u32 {
-    let a = x ^ (x << 13);
-    let b = a ^ (a >> 17);
-    b ^ (b << 5)
-}
 
 // The sum with one word more.
 fn add(sum: u32, word: u32) -> u32 {

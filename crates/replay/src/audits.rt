@@ -1,10 +1,10 @@
 // Audits of a store as it is and with one word changed.
-use crate::draw::Drawn;
-use crate::draw::size_below;
 use call_lines::audits::audit_text;
 use call_lines::lending::Lent;
 use call_lines::output::length;
 use call_lines::output::word;
+use drawing::draw::Drawn;
+use drawing::draw::size_below;
 use harness::output::text;
 
 // Writes which word is changed, and to what.

@@ -1,7 +1,7 @@
 // The record handed in, and how much of the words is lent.
 ghost use Prim.Native.Nat.{_≤_};
-use crate::draw::size_below;
 use call_lines::lending::Lent;
+use drawing::draw::size_below;
 use harness::lent::at_most;
 use store::record::Store;
 

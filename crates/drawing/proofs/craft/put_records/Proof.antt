@@ -4,8 +4,8 @@ use mathlib.Core.Path.{_≡_}
 use Prim.Native.Nat.{_-_}
 use lib.ListN.{length}
 use borrow.Author.Needs.{needs}
-use Rattle.replay.proofs.craft.put_records.Statement.{statement}
-use Rattle.replay.proofs.craft.put_records.Tie as tie
+use Rattle.drawing.proofs.craft.put_records.Statement.{statement}
+use Rattle.drawing.proofs.craft.put_records.Tie as tie
 
 abbrev Inv-loop : tie.InvT-loop
 Inv-loop file₀ parts draw crafted₀ local₀ end file crafted local = length file ≡ length file₀

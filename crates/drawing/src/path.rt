@@ -1,5 +1,5 @@
 // Combinations to ask for.
-use call_lines::sums::step;
+use crate::draw::step;
 use combination::Combination;
 
 // The empty combination.

@@ -1,5 +1,11 @@
 // What is drawn for a call.
-use call_lines::sums::step;
+
+// One step of the 32-bit xorshift with shifts 13, 17 and 5.
+pub fn step(x: u32) -> u32 {
+    let a = x ^ (x << 13);
+    let b = a ^ (a >> 17);
+    b ^ (b << 5)
+}
 
 // The five numbers drawn for a call.
 pub struct Drawn {

@@ -1,8 +1,8 @@
 -- `member` is safe and ends: the measure is the number of steps that are left.
 -- Nothing has to hold from turn to turn.
 use borrow.Author.Needs.{needs}
-use Rattle.replay.proofs.path.member.Statement.{statement}
-use Rattle.replay.proofs.path.member.Tie as tie
+use Rattle.drawing.proofs.path.member.Statement.{statement}
+use Rattle.drawing.proofs.path.member.Tie as tie
 
 abbrev Inv-loop : tie.InvT-loop
 Inv-loop nodes p draw path₀ left₀ path left = Unit

@@ -1,7 +1,7 @@
 // Drawn files: a few records, mostly near to those of a true file.
 use crate::draw::Drawn;
 use crate::draw::below;
-use call_lines::sums::step;
+use crate::draw::step;
 
 // Where the next byte goes, the record before, and the draw.
 struct Crafted {
