@@ -1,3 +1,2 @@
 -- The laws of `families`.
-pub mod Orders
 pub mod Forks

@@ -6,7 +6,7 @@ ghost use Rattle.store.specs.Words.{itemLimit, topAt};
 ghost use Rattle.store.specs.Cache.{named};
 ghost use Rattle.store.specs.Inner.{Roomy, Ran};
 ghost use Rattle.families.specs.Fork.{ForkOf};
-ghost use Rattle.recursion.specs.Inner.{OrderedAs, Proper, ShortcutOf};
+ghost use Rattle.recursion.specs.Inner.{Proper};
 use cache::Call;
 use cache::Recalled;
 use cache::recall;
@@ -17,55 +17,13 @@ use store::record::PlaceAnswer;
 use store::record::Placed;
 use store::record::Refusal;
 use store::record::Store;
+use terminal::families::ordered;
+use terminal::families::shortcut;
 
 pub fn larger(a: u32, b: u32) -> u32
     ensures { λ r. ⌜ r ≡ max a b ⌝ }
 {
     if a < b { b } else { a }
-}
-
-// The operands of Union and Intsec in rising order: one group of the cache serves both orders.
-fn ordered(call: Call) -> Call
-    requires { ⌜ (4 ≤ call .op) × (call .op ≤ 6) ⌝ }
-    ensures { λ r. ⌜ OrderedAs call r ⌝ }
-{
-    if call.op == 6 {
-        return call;
-    }
-    if call.p <= call.q {
-        return call;
-    }
-    Call {
-        op: call.op,
-        p: call.q,
-        q: call.p,
-    }
-}
-
-// Document 001's terminal cases: the result where a family is {} or both are the same.
-fn shortcut(call: Call) -> Recalled
-    requires { ⌜ (4 ≤ call .op) × (call .op ≤ 6) ⌝ }
-    ensures { λ r. ⌜ ShortcutOf call r ⌝ }
-{
-    if call.p == call.q {
-        if call.op == 6 {
-            return Recalled::Hit(0);
-        }
-        return Recalled::Hit(call.p);
-    }
-    if call.p == 0 {
-        if call.op == 4 {
-            return Recalled::Hit(call.q);
-        }
-        return Recalled::Hit(0);
-    }
-    if call.q == 0 {
-        if call.op == 5 {
-            return Recalled::Hit(0);
-        }
-        return Recalled::Hit(call.p);
-    }
-    Recalled::Miss
 }
 
 // The two calls on the sides, each with its larger top, which is below the level; or words that no sound store has.

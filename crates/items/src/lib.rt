@@ -4,11 +4,9 @@ ghost use Prim.Native.Nat.{_+_, _<_, _≤_};
 ghost use Rattle.store.specs.Words.{itemLimit, topAt};
 ghost use Rattle.store.specs.Cache.{named};
 ghost use Rattle.store.specs.Inner.{Roomy, Ran};
-ghost use Rattle.cache.specs.Inner.{RanPlain};
 use cache::Call;
 use cache::Recalled;
 use cache::recall;
-use getnode::get_node;
 use recursion::join;
 use store::node::Sides;
 use store::node::sides_at;
@@ -16,48 +14,8 @@ use store::record::PlaceAnswer;
 use store::record::Placed;
 use store::record::Refusal;
 use store::record::Store;
-
-// An item above the top of p: no member holds it.
-fn above_top(call: Call, store: Store, nodes: &mut [u32], lookup: &mut [u32]) -> Placed
-    requires { ⌜ Roomy store (now nodes) (now lookup) ⌝ }
-    requires { ⌜ (1 ≤ call .op) × (call .op ≤ 3) × (call .p ≤ store .count + 1) × (1 ≤ call .q) × (call .q ≤ itemLimit) ⌝ }
-    requires { ⌜ topAt (now nodes) (call .p) < call .q ⌝ }
-    ensures { λ r. ⌜ RanPlain (λ B. named (call .op) B (call .p) (call .q)) store (now (nodes .entry)) (now (lookup .entry)) r (now (nodes .exit)) (now (lookup .exit)) ⌝ }
-{
-    if call.op == 1 {
-        return store.placed(0);
-    }
-    if call.op == 2 {
-        return store.placed(call.p);
-    }
-    get_node(store, nodes, lookup, call.q, 0, call.p)
-}
-
-// The top of p itself: its two sides are at hand.
-fn at_top(call: Call, store: Store, nodes: &mut [u32], lookup: &mut [u32]) -> Placed
-    requires { ⌜ Roomy store (now nodes) (now lookup) ⌝ }
-    requires { ⌜ (1 ≤ call .op) × (call .op ≤ 3) × (call .p ≤ store .count + 1) × (1 ≤ call .q) × (call .q ≤ itemLimit) ⌝ }
-    requires { ⌜ topAt (now nodes) (call .p) ≡ call .q ⌝ }
-    ensures { λ r. ⌜ RanPlain (λ B. named (call .op) B (call .p) (call .q)) store (now (nodes .entry)) (now (lookup .entry)) r (now (nodes .exit)) (now (lookup .exit)) ⌝ }
-{
-    match sides_at(nodes, store.count, call.p, call.q) {
-        Sides::Broken => store.refused(Refusal::Damaged),
-        Sides::Two {
-            zero,
-            one,
-            ztop: _,
-            otop: _,
-        } => {
-            if call.op == 1 {
-                return store.placed(one);
-            }
-            if call.op == 2 {
-                return store.placed(zero);
-            }
-            get_node(store, nodes, lookup, call.q, one, zero)
-        }
-    }
-}
+use terminal::items::above_top;
+use terminal::items::at_top;
 
 // The operation on a family whose top is the level: above and at the top at once, else the cache, then the two sides.
 pub fn restrict(

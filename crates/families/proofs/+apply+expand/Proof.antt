@@ -19,8 +19,8 @@ use Rattle.families.proofs.expand.Kinds as expand-kinds
 use Rattle.families.proofs.+apply+expand.Lts-expand as expand-lts
 use Rattle.cache.proofs.recall.Reads as recall-reads
 use Rattle.families.proofs.fork_at.Reads as fork-at-reads
-use Rattle.families.proofs.ordered.Reads as ordered-reads
-use Rattle.families.proofs.shortcut.Reads as shortcut-reads
+use Rattle.terminal.proofs.families.ordered.Reads as ordered-reads
+use Rattle.terminal.proofs.families.shortcut.Reads as shortcut-reads
 use Rattle.recursion.proofs.join.Reads as join-reads
 use Rattle.store.proofs.record.Store.placed.Reads as placed-reads
 use Rattle.store.proofs.record.Store.refused.Reads as refused-reads

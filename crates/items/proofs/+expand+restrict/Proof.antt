@@ -19,8 +19,8 @@ use Rattle.items.proofs.restrict.Reads as restrict
 use Rattle.items.proofs.restrict.Kinds as restrict-kinds
 use Rattle.items.proofs.+expand+restrict.Lts-restrict as restrict-lts
 use Rattle.cache.proofs.recall.Reads as recall-reads
-use Rattle.items.proofs.above_top.Reads as above-top-reads
-use Rattle.items.proofs.at_top.Reads as at-top-reads
+use Rattle.terminal.proofs.items.above_top.Reads as above-top-reads
+use Rattle.terminal.proofs.items.at_top.Reads as at-top-reads
 use Rattle.recursion.proofs.join.Reads as join-reads
 use Rattle.store.proofs.node.sides_at.Reads as sides-at-reads
 use Rattle.store.proofs.record.Store.placed.Reads as placed-reads

@@ -1,9 +1,9 @@
 -- `shortcut` answers document 001's terminal cases; each is a law of the operation.
 -- Where none applies it says nothing.
 use Rattle.recursion.specs.Inner.{known, unknown}
-use Rattle.families.proofs.Orders.{same-none, same-same, empty-second, empty-none, none-second, first-second}
-use Rattle.families.proofs.shortcut.Statement.{statement}
-use Rattle.families.proofs.shortcut.Tie as tie
+use Rattle.terminal.proofs.Orders.{same-none, same-same, empty-second, empty-none, none-second, first-second}
+use Rattle.terminal.proofs.families.shortcut.Statement.{statement}
+use Rattle.terminal.proofs.families.shortcut.Tie as tie
 
 abbrev start·Then2 : tie.Then2 → tie.Start
 start·Then2 c = c .before .before .before .before

@@ -1,9 +1,9 @@
 -- `above_top` gives what the operation is where no member holds the item.
 -- Each way out is one law of restricting.
-use Rattle.items.proofs.Restricting.{above-none, above-same, above-node}
+use Rattle.terminal.proofs.Restricting.{above-none, above-same, above-node}
 use borrow.Author.Needs.{needs}
-use Rattle.items.proofs.above_top.Statement.{statement}
-use Rattle.items.proofs.above_top.Tie as tie
+use Rattle.terminal.proofs.items.above_top.Statement.{statement}
+use Rattle.terminal.proofs.items.above_top.Tie as tie
 
 abbrev start·After-placed : tie.After-placed → tie.Start
 start·After-placed c = c .before .before .before .before .before

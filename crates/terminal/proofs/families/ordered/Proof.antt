@@ -1,8 +1,8 @@
 -- `ordered` keeps the operands or swaps them; Union and Intsec name the same family either way.
 -- Diff is left as it is.
-use Rattle.families.proofs.Orders.{as-asked, as-swapped}
-use Rattle.families.proofs.ordered.Statement.{statement}
-use Rattle.families.proofs.ordered.Tie as tie
+use Rattle.terminal.proofs.Orders.{as-asked, as-swapped}
+use Rattle.terminal.proofs.families.ordered.Statement.{statement}
+use Rattle.terminal.proofs.families.ordered.Tie as tie
 
 abbrev start·Then2 : tie.Then2 → tie.Start
 start·Then2 c = c .before .before .before .before

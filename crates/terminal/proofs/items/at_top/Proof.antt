@@ -2,10 +2,10 @@
 -- Each way out is one law of restricting; where a split fails, the words hold no book.
 use Rattle.store.proofs.Sides.{sides-two, sides-broken}
 use Rattle.cache.proofs.Plain.{plain-broken}
-use Rattle.items.proofs.Restricting.{at-one, at-zero, at-node}
+use Rattle.terminal.proofs.Restricting.{at-one, at-zero, at-node}
 use borrow.Author.Needs.{needs}
-use Rattle.items.proofs.at_top.Statement.{statement}
-use Rattle.items.proofs.at_top.Tie as tie
+use Rattle.terminal.proofs.items.at_top.Statement.{statement}
+use Rattle.terminal.proofs.items.at_top.Tie as tie
 
 abbrev start·After-placed : tie.After-placed → tie.Start
 start·After-placed c = c .before .before .before .before .before .before .before .before .before .before

@@ -1,2 +1,0 @@
--- The laws of `items`.
-pub mod Restricting

@@ -1,0 +1,3 @@
+-- The laws of the terminal cases.
+pub mod Orders
+pub mod Restricting

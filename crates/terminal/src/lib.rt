@@ -1,0 +1,3 @@
+// The terminal cases of document 001: what needs no recursion.
+pub mod families;
+pub mod items;
