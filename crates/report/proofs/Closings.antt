@@ -7,6 +7,8 @@ use mathlib.Core.List.{List, [], _∷_, _++_}
 use native.Mathlib.Omega.{arith}
 use lib.Dec.{eqb, ltb}
 use lib.ListN.{length, take}
+use types.Run.{OneOf, miss}
+use denote.Enum.Declared.{tagOf}
 use borrow.Author.Tests.{lt-ltb, le-ltb}
 use Rattle.words.proofs.Cases.{by-test, by-lt}
 use Rattle.family.specs.Family.{Family, size}
@@ -33,6 +35,7 @@ use Rattle.counting.specs.Sizes.{SizeGiven, sizeGivenBy, sizeRefusal, sizeAnswe
 use Rattle.family.specs.Combination.{itemsOf}
 use Rattle.line.specs.declared.Side.{Side}
 use Rattle.line.specs.declared.Stage.{Stage}
+use Rattle.line.proofs.Stage.{the-type as the-stage}
 use Rattle.report.specs.declared.Handles.{Handles}
 use Rattle.log.specs.declared.Ending.{Ending}
 use Rattle.log.specs.declared.Ending.the-variants.{Going}
@@ -187,6 +190,18 @@ module _ {s : Store} {nodes lookup cache : List ℕ} (p q : ℕ) {m : Placed} {n
 next-line : {capacity : ℕ} {t : Tally} {nodes lookup cache : List ℕ} {g : Log} → Keeps capacity t nodes lookup cache g → (n : ℕ) → n ≡ capped (suc (t .lines)) → n ≡ capped (suc (g .lines))
 next-line K n e = omega (arith, K .lines-is)
 
+-- the stages where a line is begun, all but the first
+abbrev begun : List ℕ
+begun = 1 ∷ 2 ∷ 3 ∷ 4 ∷ 5 ∷ []
+
+begun-line : (capacity : ℕ) (g : Log) (st : Stage) (d : Side) (c : List ℕ) (k : ℕ) → OneOf begun (tagOf the-stage st) → lastOf capacity g (progressOf st d c k) ≡ lineText (capped (suc (g .lines))) refusedWord
+begun-line capacity g Stage.Blank d c k b = absurd (miss begun 0 tt b)
+begun-line capacity g Stage.Letter d c k b = refl
+begun-line capacity g Stage.Space d c k b = refl
+begun-line capacity g Stage.Number d c k b = refl
+begun-line capacity g Stage.Whole d c k b = refl
+begun-line capacity g Stage.Malformed d c k b = refl
+
 -- the end of a log that goes on: nothing is begun, or a line is
 module _ {t : Tally} {nodes lookup cache : List ℕ} where
   at-progress : {capacity : ℕ} {g : Log} → Keeps capacity t nodes lookup cache g → {st : Stage} → t .reading .stage ≡ st → g .line .progress ≡ progressOf st (t .reading .side) (itemsOf (t .reading .items .words)) (t .reading .item)
@@ -202,15 +217,14 @@ module _ {t : Tally} {nodes lookup cache : List ℕ} where
             ∙ sym (ap (λ p. lastOf capacity g p) (at-progress K e));
       }
 
-  pub going-line : {words r : ℕ} {out out′ : List ℕ} (st : Stage) (n : ℕ) → t .reading .stage ≡ st
-      → ((capacity : ℕ) (g : Log) (d : Side) (c : List ℕ) (k : ℕ) → lastOf capacity g (progressOf st d c k) ≡ lineText (capped (suc (g .lines))) refusedWord)
+  pub going-line : {words r : ℕ} {out out′ : List ℕ} (n : ℕ) → OneOf begun (tagOf the-stage (t .reading .stage))
       → n ≡ capped (suc (t .lines)) → Wrote out 0 (lineText n refusedWord) r out′ → EndIt t nodes lookup cache words r out′
-  going-line st n e f en W =
+  going-line n b en W =
       record {
         inside = W .inside;
         written = λ capacity g K w.
             W .is ∙ ap (λ k. lineText k refusedWord) (next-line K n en)
-            ∙ sym (ap (λ p. lastOf capacity g p) (at-progress K e) ∙ f capacity g (t .reading .side) (itemsOf (t .reading .items .words)) (t .reading .item));
+            ∙ sym (ap (λ p. lastOf capacity g p) (at-progress K refl) ∙ begun-line capacity g (t .reading .stage) (t .reading .side) (itemsOf (t .reading .items .words)) (t .reading .item) b);
       }
 
   -- the end of any log

@@ -114,11 +114,7 @@ fn close_going(
             sizes,
             out,
         ),
-        Stage::Letter => put_line(out, bumped(t.lines), b" refused\n"),
-        Stage::Space => put_line(out, bumped(t.lines), b" refused\n"),
-        Stage::Number => put_line(out, bumped(t.lines), b" refused\n"),
-        Stage::Whole => put_line(out, bumped(t.lines), b" refused\n"),
-        Stage::Malformed => put_line(out, bumped(t.lines), b" refused\n"),
+        _ => put_line(out, bumped(t.lines), b" refused\n"),
     }
 }
 
