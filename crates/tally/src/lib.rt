@@ -1,10 +1,10 @@
 // A log, taken in pieces of any size: its lines are counted, and each is added to its family.
+ghost use mathlib.Core.Path.{_≡_};
 ghost use mathlib.Core.List.{[], _∷_};
 ghost use Rattle.family.specs.Combination.{itemsOf};
 ghost use Rattle.log.specs.Log.{TakeCall};
-ghost use Rattle.log.specs.Steps.{LineIt, NextIt};
+ghost use Rattle.log.specs.Steps.{familyOf, LineEnd, LineIt, NextIt};
 use adding::add;
-use combination::Combination;
 use line::Reading;
 use line::Side;
 use line::Stage;
@@ -13,43 +13,32 @@ use log::Tally;
 use log::bumped;
 use log::tally_of;
 use store::record::PlaceAnswer;
+use store::record::Placed;
 
-// Adds a combination to the passed family.
-fn take_passed(
-    t: Tally,
-    nodes: &mut [u32],
-    lookup: &mut [u32],
-    cache: &mut [u32],
-    items: Combination,
-) -> Tally
-    ensures { λ r. ⌜ LineIt t (now (nodes .entry)) (now (lookup .entry)) (now (cache .entry)) Side.Passed (itemsOf (items .words)) r (now (nodes .exit)) (now (lookup .exit)) (now (cache .exit)) ⌝ }
+// The family that a line of this side goes to.
+fn family_of(t: Tally, side: Side) -> u32
+    ensures { λ r. ⌜ r ≡ familyOf side t ⌝ }
 {
-    let placed = add(t.store, nodes, lookup, cache, t.passed, items);
-    let store = placed.store;
-    let answer = placed.answer;
-    let PlaceAnswer::Handle(p) = answer else {
-        return tally_of(store, t.passed, t.returned, t.lines, Ending::Full);
-    };
-    tally_of(store, p, t.returned, bumped(t.lines), Ending::Going)
+    match side {
+        Side::Passed => t.passed,
+        Side::Returned => t.returned,
+    }
 }
 
-// Adds a combination to the returned family.
-fn take_returned(
-    t: Tally,
-    nodes: &mut [u32],
-    lookup: &mut [u32],
-    cache: &mut [u32],
-    items: Combination,
-) -> Tally
-    ensures { λ r. ⌜ LineIt t (now (nodes .entry)) (now (lookup .entry)) (now (cache .entry)) Side.Returned (itemsOf (items .words)) r (now (nodes .exit)) (now (lookup .exit)) (now (cache .exit)) ⌝ }
+// The tally behind a line of this side, by what adding it gave.
+fn line_end(t: Tally, side: Side, placed: Placed) -> Tally
+    ensures { λ r. ⌜ LineEnd t side placed r ⌝ }
 {
-    let placed = add(t.store, nodes, lookup, cache, t.returned, items);
     let store = placed.store;
     let answer = placed.answer;
     let PlaceAnswer::Handle(p) = answer else {
         return tally_of(store, t.passed, t.returned, t.lines, Ending::Full);
     };
-    tally_of(store, t.passed, p, bumped(t.lines), Ending::Going)
+    let lines = bumped(t.lines);
+    match side {
+        Side::Passed => tally_of(store, p, t.returned, lines, Ending::Going),
+        Side::Returned => tally_of(store, t.passed, p, lines, Ending::Going),
+    }
 }
 
 // Takes a whole line.
@@ -63,11 +52,9 @@ fn take_line(
     ensures { λ r. ⌜ LineIt t (now (nodes .entry)) (now (lookup .entry)) (now (cache .entry)) (line .side) (itemsOf (line .items .words)) r (now (nodes .exit)) (now (lookup .exit)) (now (cache .exit)) ⌝ }
 {
     let side = line.side;
-    let items = line.items;
-    match side {
-        Side::Passed => take_passed(t, nodes, lookup, cache, items),
-        Side::Returned => take_returned(t, nodes, lookup, cache, items),
-    }
+    let family = family_of(t, side);
+    let placed = add(t.store, nodes, lookup, cache, family, line.items);
+    line_end(t, side, placed)
 }
 
 // Takes one byte of a log that goes on.
@@ -80,10 +67,7 @@ fn take_next(t: Tally, nodes: &mut [u32], lookup: &mut [u32], cache: &mut [u32],
     match stage {
         Stage::Whole => take_line(t, nodes, lookup, cache, next),
         Stage::Malformed => t.read_on(next, Ending::Refused),
-        Stage::Blank => t.read_on(next, Ending::Going),
-        Stage::Letter => t.read_on(next, Ending::Going),
-        Stage::Space => t.read_on(next, Ending::Going),
-        Stage::Number => t.read_on(next, Ending::Going),
+        _ => t.read_on(next, Ending::Going),
     }
 }
 
