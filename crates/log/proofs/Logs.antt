@@ -37,10 +37,11 @@ use Rattle.line.specs.declared.Reading.{Reading}
 use Rattle.log.specs.declared.Ending.{Ending}
 use Rattle.log.specs.declared.Ending.the-variants.{Going, Refused, Full}
 use Rattle.log.specs.declared.Tally.{Tally}
+use Rattle.log.proofs.Ending.{the-type as the-ending}
 use Rattle.line.specs.Line.{Progress, State, begin, step, progressOf, stateOf}
 use Rattle.adding.specs.Adding.{Added, next, made, added, After, AddCall}
 use Rattle.log.specs.Log.{Lot, Taken, withPassed, withReturned, takeLine, Log, opening, counted, readOn, whileGoing, logByte, feed, capped, Keeps, OpenCall, TakeCall}
-use Rattle.log.specs.Steps.{TallyIs, familyOf, LineEnd, LineIt, NextIt}
+use Rattle.log.specs.Steps.{TallyIs, familyOf, LineEnd, LineIt}
 use Rattle.adding.proofs.Makings.{Gives, gives, refused-full, next-grown, made-grown}
 
 -- opening
@@ -245,7 +246,10 @@ pub line-added : {t : Tally} {nodes lookup cache : List ℕ} {f : ℕ} {c : List
     → AddCall (t .store) nodes lookup cache f c m nodes′ lookup′ cache′ → LineEnd t d m r → LineIt t nodes lookup cache d c r nodes′ lookup′ cache′
 line-added d e C E = E .is _ _ _ _ _ _ _ (rw e at C)
 
--- one byte more of the line
+-- one byte more of the line, whatever the ending was
+pub record NextIt (t : Tally) (nodes lookup cache : List ℕ) (b : ℕ) (r : Tally) (nodes′ lookup′ cache′ : List ℕ) : Type 0 where
+  pub keeps : (capacity : ℕ) (g : Log) → Keeps capacity t nodes lookup cache g → Keeps capacity r nodes′ lookup′ cache′ (readOn capacity g (step (g .line) b) (step (g .line) b .progress))
+
 module _ {t : Tally} {nodes lookup cache : List ℕ} (b : ℕ) (next : Reading) (e : stateOf next ≡ step (stateOf (t .reading)) b) where
   read-is : {capacity : ℕ} {g : Log} → Keeps capacity t nodes lookup cache g → stateOf next ≡ step (g .line) b
   read-is K = e ∙ ap (λ s. step s b) (K .line-is)
@@ -286,6 +290,11 @@ pub next-going : {t : Tally} {nodes lookup cache : List ℕ} (b : ℕ) (next : R
     → (r .store ≡ t .store) × (r .passed ≡ t .passed) × (r .returned ≡ t .returned) × (r .lines ≡ t .lines) × (r .reading ≡ next) × (r .ending ≡ Going) → NextIt t nodes lookup cache b r nodes lookup cache
 next-going b next e k f = next-read b next e refl Going f (going-on (next .stage) k)
 
+stopped : (x : Ending) → OneOf (1 ∷ 2 ∷ []) (tagOf the-ending x) → (u w : Log) → whileGoing x u w ≡ w
+stopped Ending.Going k u w = absurd (miss (1 ∷ 2 ∷ []) 0 tt k)
+stopped Ending.Refused k u w = refl
+stopped Ending.Full k u w = refl
+
 -- one byte, by whether the log goes on
 module _ {t : Tally} {nodes lookup cache : List ℕ} {b : ℕ} where
   pub byte-going : {r : Tally} {nodes′ lookup′ cache′ : List ℕ} → t .ending ≡ Going → NextIt t nodes lookup cache b r nodes′ lookup′ cache′ → TakeCall t nodes lookup cache (b ∷ []) r nodes′ lookup′ cache′
@@ -297,13 +306,13 @@ module _ {t : Tally} {nodes lookup cache : List ℕ} {b : ℕ} where
       }
 
   -- a log that ended, either way
-  pub byte-ended : (x : Ending) → t .ending ≡ x → ((u w : Log) → whileGoing x u w ≡ w) → TakeCall t nodes lookup cache (b ∷ []) t nodes lookup cache
+  pub byte-ended : OneOf (1 ∷ 2 ∷ []) (tagOf the-ending (t .ending)) → TakeCall t nodes lookup cache (b ∷ []) t nodes lookup cache
   unfolding logByte
-  byte-ended x e f =
+  byte-ended k =
       record {
         keeps = λ capacity g K.
             subst (λ y. Keeps capacity t nodes lookup cache y)
-            (sym (f (readOn capacity g (step (g .line) b) (step (g .line) b .progress)) g) ∙ ap (λ y. whileGoing y (readOn capacity g (step (g .line) b) (step (g .line) b .progress)) g) (sym e ∙ K .ending-is)) K;
+            (sym (stopped (t .ending) k (readOn capacity g (step (g .line) b) (step (g .line) b .progress)) g) ∙ ap (λ y. whileGoing y (readOn capacity g (step (g .line) b) (step (g .line) b .progress)) g) (K .ending-is)) K;
       }
 
 -- a piece, byte by byte

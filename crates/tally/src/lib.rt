@@ -1,11 +1,9 @@
 // A log, taken in pieces of any size: its lines are counted, and each is added to its family.
 ghost use mathlib.Core.Path.{_≡_};
 ghost use mathlib.Core.List.{[], _∷_};
-ghost use Rattle.family.specs.Combination.{itemsOf};
 ghost use Rattle.log.specs.Log.{TakeCall};
-ghost use Rattle.log.specs.Steps.{familyOf, LineEnd, LineIt, NextIt};
+ghost use Rattle.log.specs.Steps.{familyOf, LineEnd};
 use adding::add;
-use line::Reading;
 use line::Side;
 use line::Stage;
 use log::Ending;
@@ -41,45 +39,26 @@ fn line_end(t: Tally, side: Side, placed: Placed) -> Tally
     }
 }
 
-// Takes a whole line.
-fn take_line(
-    t: Tally,
-    nodes: &mut [u32],
-    lookup: &mut [u32],
-    cache: &mut [u32],
-    line: Reading,
-) -> Tally
-    ensures { λ r. ⌜ LineIt t (now (nodes .entry)) (now (lookup .entry)) (now (cache .entry)) (line .side) (itemsOf (line .items .words)) r (now (nodes .exit)) (now (lookup .exit)) (now (cache .exit)) ⌝ }
-{
-    let side = line.side;
-    let family = family_of(t, side);
-    let placed = add(t.store, nodes, lookup, cache, family, line.items);
-    line_end(t, side, placed)
-}
-
-// Takes one byte of a log that goes on.
-fn take_next(t: Tally, nodes: &mut [u32], lookup: &mut [u32], cache: &mut [u32], b: u8) -> Tally
-    ensures { λ r. ⌜ NextIt t (now (nodes .entry)) (now (lookup .entry)) (now (cache .entry)) b r (now (nodes .exit)) (now (lookup .exit)) (now (cache .exit)) ⌝ }
-{
-    let reading = t.reading;
-    let next = reading.take(b);
-    let stage = next.stage;
-    match stage {
-        Stage::Whole => take_line(t, nodes, lookup, cache, next),
-        Stage::Malformed => t.read_on(next, Ending::Refused),
-        _ => t.read_on(next, Ending::Going),
-    }
-}
-
 // Takes one byte; a log that ended takes no more.
 fn take_byte(t: Tally, nodes: &mut [u32], lookup: &mut [u32], cache: &mut [u32], b: u8) -> Tally
     ensures { λ r. ⌜ TakeCall t (now (nodes .entry)) (now (lookup .entry)) (now (cache .entry)) (b ∷ []) r (now (nodes .exit)) (now (lookup .exit)) (now (cache .exit)) ⌝ }
 {
     let ending = t.ending;
-    match ending {
-        Ending::Going => take_next(t, nodes, lookup, cache, b),
-        Ending::Refused => t,
-        Ending::Full => t,
+    let Ending::Going = ending else {
+        return t;
+    };
+    let reading = t.reading;
+    let next = reading.take(b);
+    let side = next.side;
+    let stage = next.stage;
+    match stage {
+        Stage::Whole => {
+            let family = family_of(t, side);
+            let placed = add(t.store, nodes, lookup, cache, family, next.items);
+            line_end(t, side, placed)
+        }
+        Stage::Malformed => t.read_on(next, Ending::Refused),
+        _ => t.read_on(next, Ending::Going),
     }
 }
 
