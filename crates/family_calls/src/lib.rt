@@ -4,8 +4,10 @@ ghost use Rattle.operations.specs.Promise.{OperationCall};
 use cache::Call;
 use families::apply;
 use families::larger;
+use operations::tested;
 use rollback::finish;
 use store::node::top_of;
+use store::record::PlaceAnswer;
 use store::record::Placed;
 use store::record::Refusal;
 use store::record::Store;
@@ -23,14 +25,9 @@ fn of_families(
     requires { ⌜ (4 ≤ op) × (op ≤ 6) ⌝ }
     ensures { λ r. ⌜ OperationCall op p q store (now (nodes .entry)) (now (lookup .entry)) (now (cache .entry)) r (now (nodes .exit)) (now (lookup .exit)) (now (cache .exit)) ⌝ }
 {
-    if !store.fits(nodes.len(), lookup.len()) {
-        return store.refused(Refusal::Damaged);
-    }
-    if !store.holds(p) {
-        return store.refused(Refusal::Handle);
-    }
-    if !store.holds(q) {
-        return store.refused(Refusal::Handle);
+    let answer = tested(op, store, nodes.len(), lookup.len(), p, q);
+    if let PlaceAnswer::Refused(refusal) = answer {
+        return store.refused(refusal);
     }
     let count = store.count;
     let level = larger(top_of(nodes, count, p), top_of(nodes, count, q));

@@ -3,8 +3,10 @@ ghost use Prim.Native.Nat.{_≤_};
 ghost use Rattle.operations.specs.Promise.{OperationCall};
 use cache::Call;
 use items::restrict;
+use operations::tested;
 use rollback::finish;
 use store::node::top_of;
+use store::record::PlaceAnswer;
 use store::record::Placed;
 use store::record::Refusal;
 use store::record::Store;
@@ -22,17 +24,9 @@ fn of_item(
     requires { ⌜ (1 ≤ op) × (op ≤ 3) ⌝ }
     ensures { λ r. ⌜ OperationCall op p item store (now (nodes .entry)) (now (lookup .entry)) (now (cache .entry)) r (now (nodes .exit)) (now (lookup .exit)) (now (cache .exit)) ⌝ }
 {
-    if !store.fits(nodes.len(), lookup.len()) {
-        return store.refused(Refusal::Damaged);
-    }
-    if !store.holds(p) {
-        return store.refused(Refusal::Handle);
-    }
-    if item < 1 {
-        return store.refused(Refusal::Item);
-    }
-    if 512 < item {
-        return store.refused(Refusal::Item);
+    let answer = tested(op, store, nodes.len(), lookup.len(), p, item);
+    if let PlaceAnswer::Refused(refusal) = answer {
+        return store.refused(refusal);
     }
     let count = store.count;
     let level = top_of(nodes, count, p);

@@ -8,6 +8,8 @@ use native.Mathlib.Omega.{arith}
 use lib.Dec.{ltb, leb}
 use lib.ListN.{length, getD, take}
 use lib.Seq.{take-suc, take-all}
+use types.Run.{OneOf, miss}
+use denote.Enum.Declared.{tagOf}
 use borrow.Author.Tests.{le-ltb, lt-leb}
 use Rattle.family.specs.Family.{Family, empty}
 use Rattle.family.specs.Operation.{union}
@@ -30,14 +32,16 @@ use Rattle.node_sizes.specs.NodeSizes.{most}
 use Rattle.line.specs.declared.Side.{Side}
 use Rattle.line.specs.declared.Side.the-variants.{Passed, Returned}
 use Rattle.line.specs.declared.Stage.{Stage}
+use Rattle.line.proofs.Stage.{the-type as the-stage}
 use Rattle.line.specs.declared.Reading.{Reading}
 use Rattle.log.specs.declared.Ending.{Ending}
 use Rattle.log.specs.declared.Ending.the-variants.{Going, Refused, Full}
 use Rattle.log.specs.declared.Tally.{Tally}
+use Rattle.log.proofs.Ending.{the-type as the-ending}
 use Rattle.line.specs.Line.{Progress, State, begin, step, progressOf, stateOf}
 use Rattle.adding.specs.Adding.{Added, next, made, added, After, AddCall}
 use Rattle.log.specs.Log.{Lot, Taken, withPassed, withReturned, takeLine, Log, opening, counted, readOn, whileGoing, logByte, feed, capped, Keeps, OpenCall, TakeCall}
-use Rattle.log.specs.Steps.{TallyIs, LineIt, NextIt}
+use Rattle.log.specs.Steps.{TallyIs, familyOf, LineEnd, LineIt}
 use Rattle.adding.proofs.Makings.{Gives, gives, refused-full, next-grown, made-grown}
 
 -- opening
@@ -186,7 +190,7 @@ module _ (g : Log) (a : Added) where
   returned-more e = rw e
 
 module _ {t : Tally} {nodes lookup cache c : List ℕ} {m : Placed} {nodes′ lookup′ cache′ : List ℕ} {r : Tally} where
-  pub take-passed-full : AddCall (t .store) nodes lookup cache (t .passed) c m nodes′ lookup′ cache′ → (x : Refusal) → m .answer ≡ NoHandle x → TallyIs (m .store) (t .passed) (t .returned) (t .lines) Full r
+  take-passed-full : AddCall (t .store) nodes lookup cache (t .passed) c m nodes′ lookup′ cache′ → (x : Refusal) → m .answer ≡ NoHandle x → TallyIs (m .store) (t .passed) (t .returned) (t .lines) Full r
       → LineIt t nodes lookup cache Passed c r nodes′ lookup′ cache′
   take-passed-full C x e T =
       record {
@@ -195,7 +199,7 @@ module _ {t : Tally} {nodes lookup cache c : List ℕ} {m : Placed} {nodes′ lo
             subst (λ y. Keeps capacity r nodes′ lookup′ cache′ y) (passed-full g (added capacity (g .lot .book) (g .lot .passed) c) (refused-full A x e)) (full-keeps K A (added-grown capacity (g .lot .book) (g .lot .passed) c) T);
       }
 
-  pub take-returned-full : AddCall (t .store) nodes lookup cache (t .returned) c m nodes′ lookup′ cache′ → (x : Refusal) → m .answer ≡ NoHandle x → TallyIs (m .store) (t .passed) (t .returned) (t .lines) Full r
+  take-returned-full : AddCall (t .store) nodes lookup cache (t .returned) c m nodes′ lookup′ cache′ → (x : Refusal) → m .answer ≡ NoHandle x → TallyIs (m .store) (t .passed) (t .returned) (t .lines) Full r
       → LineIt t nodes lookup cache Returned c r nodes′ lookup′ cache′
   take-returned-full C x e T =
       record {
@@ -204,7 +208,7 @@ module _ {t : Tally} {nodes lookup cache c : List ℕ} {m : Placed} {nodes′ lo
             subst (λ y. Keeps capacity r nodes′ lookup′ cache′ y) (returned-full g (added capacity (g .lot .book) (g .lot .returned) c) (refused-full A x e)) (full-keeps K A (added-grown capacity (g .lot .book) (g .lot .returned) c) T);
       }
 
-  pub take-passed-more : AddCall (t .store) nodes lookup cache (t .passed) c m nodes′ lookup′ cache′ → {h n : ℕ} → m .answer ≡ Handle h → n ≡ capped (suc (t .lines)) → TallyIs (m .store) h (t .returned) n Going r
+  take-passed-more : AddCall (t .store) nodes lookup cache (t .passed) c m nodes′ lookup′ cache′ → {h n : ℕ} → m .answer ≡ Handle h → n ≡ capped (suc (t .lines)) → TallyIs (m .store) h (t .returned) n Going r
       → LineIt t nodes lookup cache Passed c r nodes′ lookup′ cache′
   take-passed-more C {h} e en T =
       record {
@@ -215,7 +219,7 @@ module _ {t : Tally} {nodes lookup cache c : List ℕ} {m : Placed} {nodes′ lo
             (more-keeps K A w (given-stays K A w h e) (same K A w (t .returned) (g .lot .returned) (K .returned-held) (K .returned-is)) en T);
       }
 
-  pub take-returned-more : AddCall (t .store) nodes lookup cache (t .returned) c m nodes′ lookup′ cache′ → {h n : ℕ} → m .answer ≡ Handle h → n ≡ capped (suc (t .lines)) → TallyIs (m .store) (t .passed) h n Going r
+  take-returned-more : AddCall (t .store) nodes lookup cache (t .returned) c m nodes′ lookup′ cache′ → {h n : ℕ} → m .answer ≡ Handle h → n ≡ capped (suc (t .lines)) → TallyIs (m .store) (t .passed) h n Going r
       → LineIt t nodes lookup cache Returned c r nodes′ lookup′ cache′
   take-returned-more C {h} e en T =
       record {
@@ -226,7 +230,26 @@ module _ {t : Tally} {nodes lookup cache c : List ℕ} {m : Placed} {nodes′ lo
             (more-keeps K A w (same K A w (t .passed) (g .lot .passed) (K .passed-held) (K .passed-is)) (given-stays K A w h e) en T);
       }
 
--- one byte more of the line
+-- the tally behind a line, by what adding it gave
+module _ {t : Tally} {m : Placed} {r : Tally} where
+  pub end-full : (d : Side) (x : Refusal) → m .answer ≡ NoHandle x → TallyIs (m .store) (t .passed) (t .returned) (t .lines) Full r → LineEnd t d m r
+  end-full Passed x e T = record { is = λ nodes lookup cache c nodes′ lookup′ cache′ C. take-passed-full C x e T }
+  end-full Returned x e T = record { is = λ nodes lookup cache c nodes′ lookup′ cache′ C. take-returned-full C x e T }
+
+  pub end-passed : {d : Side} {h n : ℕ} → d ≡ Passed → m .answer ≡ Handle h → n ≡ capped (suc (t .lines)) → TallyIs (m .store) h (t .returned) n Going r → LineEnd t d m r
+  end-passed ed e en T = rw ed record { is = λ nodes lookup cache c nodes′ lookup′ cache′ C. take-passed-more C e en T }
+
+  pub end-returned : {d : Side} {h n : ℕ} → d ≡ Returned → m .answer ≡ Handle h → n ≡ capped (suc (t .lines)) → TallyIs (m .store) (t .passed) h n Going r → LineEnd t d m r
+  end-returned ed e en T = rw ed record { is = λ nodes lookup cache c nodes′ lookup′ cache′ C. take-returned-more C e en T }
+
+pub line-added : {t : Tally} {nodes lookup cache : List ℕ} {f : ℕ} {c : List ℕ} {m : Placed} {r : Tally} {nodes′ lookup′ cache′ : List ℕ} (d : Side) → f ≡ familyOf d t
+    → AddCall (t .store) nodes lookup cache f c m nodes′ lookup′ cache′ → LineEnd t d m r → LineIt t nodes lookup cache d c r nodes′ lookup′ cache′
+line-added d e C E = E .is _ _ _ _ _ _ _ (rw e at C)
+
+-- one byte more of the line, whatever the ending was
+pub record NextIt (t : Tally) (nodes lookup cache : List ℕ) (b : ℕ) (r : Tally) (nodes′ lookup′ cache′ : List ℕ) : Type 0 where
+  pub keeps : (capacity : ℕ) (g : Log) → Keeps capacity t nodes lookup cache g → Keeps capacity r nodes′ lookup′ cache′ (readOn capacity g (step (g .line) b) (step (g .line) b .progress))
+
 module _ {t : Tally} {nodes lookup cache : List ℕ} (b : ℕ) (next : Reading) (e : stateOf next ≡ step (stateOf (t .reading)) b) where
   read-is : {capacity : ℕ} {g : Log} → Keeps capacity t nodes lookup cache g → stateOf next ≡ step (g .line) b
   read-is K = e ∙ ap (λ s. step s b) (K .line-is)
@@ -250,6 +273,28 @@ next-read {t} {nodes} {lookup} {cache} b next e {st} d {r} end f h =
           (read-keeps K r (f .0) (f .1) (f .2) (f .3) (ap stateOf (f .4) ∙ read-is b next e K) (f .5));
     }
 
+-- the stages at which a line goes on: blank, letter, space, number
+abbrev going : List ℕ
+going = 0 ∷ 1 ∷ 2 ∷ 3 ∷ []
+
+going-on : (st : Stage) → OneOf going (tagOf the-stage st) → (capacity : ℕ) (g : Log) (s : State) (d : Side) (c : List ℕ) (n : ℕ)
+    → readOn capacity g s (progressOf st d c n) ≡ record { lot = g .lot; lines = g .lines; line = s; ending = Going }
+going-on Stage.Blank k capacity g s d c n = refl
+going-on Stage.Letter k capacity g s d c n = refl
+going-on Stage.Space k capacity g s d c n = refl
+going-on Stage.Number k capacity g s d c n = refl
+going-on Stage.Whole k capacity g s d c n = absurd (miss going 4 tt k)
+going-on Stage.Malformed k capacity g s d c n = absurd (miss going 5 tt k)
+
+pub next-going : {t : Tally} {nodes lookup cache : List ℕ} (b : ℕ) (next : Reading) → stateOf next ≡ step (stateOf (t .reading)) b → OneOf going (tagOf the-stage (next .stage)) → {r : Tally}
+    → (r .store ≡ t .store) × (r .passed ≡ t .passed) × (r .returned ≡ t .returned) × (r .lines ≡ t .lines) × (r .reading ≡ next) × (r .ending ≡ Going) → NextIt t nodes lookup cache b r nodes lookup cache
+next-going b next e k f = next-read b next e refl Going f (going-on (next .stage) k)
+
+stopped : (x : Ending) → OneOf (1 ∷ 2 ∷ []) (tagOf the-ending x) → (u w : Log) → whileGoing x u w ≡ w
+stopped Ending.Going k u w = absurd (miss (1 ∷ 2 ∷ []) 0 tt k)
+stopped Ending.Refused k u w = refl
+stopped Ending.Full k u w = refl
+
 -- one byte, by whether the log goes on
 module _ {t : Tally} {nodes lookup cache : List ℕ} {b : ℕ} where
   pub byte-going : {r : Tally} {nodes′ lookup′ cache′ : List ℕ} → t .ending ≡ Going → NextIt t nodes lookup cache b r nodes′ lookup′ cache′ → TakeCall t nodes lookup cache (b ∷ []) r nodes′ lookup′ cache′
@@ -261,13 +306,13 @@ module _ {t : Tally} {nodes lookup cache : List ℕ} {b : ℕ} where
       }
 
   -- a log that ended, either way
-  pub byte-ended : (x : Ending) → t .ending ≡ x → ((u w : Log) → whileGoing x u w ≡ w) → TakeCall t nodes lookup cache (b ∷ []) t nodes lookup cache
+  pub byte-ended : OneOf (1 ∷ 2 ∷ []) (tagOf the-ending (t .ending)) → TakeCall t nodes lookup cache (b ∷ []) t nodes lookup cache
   unfolding logByte
-  byte-ended x e f =
+  byte-ended k =
       record {
         keeps = λ capacity g K.
             subst (λ y. Keeps capacity t nodes lookup cache y)
-            (sym (f (readOn capacity g (step (g .line) b) (step (g .line) b .progress)) g) ∙ ap (λ y. whileGoing y (readOn capacity g (step (g .line) b) (step (g .line) b .progress)) g) (sym e ∙ K .ending-is)) K;
+            (sym (stopped (t .ending) k (readOn capacity g (step (g .line) b) (step (g .line) b .progress)) g) ∙ ap (λ y. whileGoing y (readOn capacity g (step (g .line) b) (step (g .line) b .progress)) g) (K .ending-is)) K;
       }
 
 -- a piece, byte by byte
@@ -301,8 +346,3 @@ module _ {t₀ : Tally} {nodes₀ lookup₀ cache₀ piece nodes lookup cache : 
 
   pub taking-end : length piece ≤ i → TakeCall t₀ nodes₀ lookup₀ cache₀ piece t nodes lookup cache
   taking-end l = rw (take-all i piece l) at (I .taken)
-
--- the side that a line told
-pub line-side : {t : Tally} {nodes lookup cache : List ℕ} {x d : Side} {c : List ℕ} {r : Tally} {nodes′ lookup′ cache′ : List ℕ} → x ≡ d → LineIt t nodes lookup cache d c r nodes′ lookup′ cache′
-    → LineIt t nodes lookup cache x c r nodes′ lookup′ cache′
-line-side e L = rw e L

@@ -3,11 +3,14 @@ use Prim.Native.Nat.{ℕ}
 use mathlib.Core.Path.{_≡_}
 use mathlib.Core.List.{List}
 use Rattle.store.specs.declared.record.Store.{Store}
+use Rattle.store.specs.declared.record.Placed.{Placed}
 use Rattle.line.specs.declared.Side.{Side}
+use Rattle.line.specs.declared.Side.the-variants.{Passed, Returned}
 use Rattle.log.specs.declared.Ending.{Ending}
 use Rattle.log.specs.declared.Tally.{Tally}
-use Rattle.line.specs.Line.{begin, step, stateOf}
-use Rattle.log.specs.Log.{Log, takeLine, counted, readOn, Keeps}
+use Rattle.adding.specs.Adding.{AddCall}
+use Rattle.line.specs.Line.{begin, stateOf}
+use Rattle.log.specs.Log.{Log, takeLine, counted, Keeps}
 
 -- a tally by its fields, behind the end of a line
 pub record TallyIs (s : Store) (passed returned lines : ℕ) (e : Ending) (t : Tally) : Type 0 where
@@ -22,6 +25,11 @@ pub record TallyIs (s : Store) (passed returned lines : ℕ) (e : Ending) (t : T
 pub record LineIt (t : Tally) (nodes lookup cache : List ℕ) (d : Side) (c : List ℕ) (r : Tally) (nodes′ lookup′ cache′ : List ℕ) : Type 0 where
   pub keeps : (capacity : ℕ) (g : Log) → Keeps capacity t nodes lookup cache g → Keeps capacity r nodes′ lookup′ cache′ (counted g (takeLine capacity (g .lot) d c))
 
--- one byte more of the line, whatever the ending was
-pub record NextIt (t : Tally) (nodes lookup cache : List ℕ) (b : ℕ) (r : Tally) (nodes′ lookup′ cache′ : List ℕ) : Type 0 where
-  pub keeps : (capacity : ℕ) (g : Log) → Keeps capacity t nodes lookup cache g → Keeps capacity r nodes′ lookup′ cache′ (readOn capacity g (step (g .line) b) (step (g .line) b .progress))
+-- the family that a line of a side goes to
+abbrev pub familyOf : Side → Tally → ℕ
+familyOf Passed t = t .passed
+familyOf Returned t = t .returned
+
+-- the tally behind a line of a side, by what adding it gave
+pub record LineEnd (t : Tally) (d : Side) (m : Placed) (r : Tally) : Type 0 where
+  pub is : (nodes lookup cache c nodes′ lookup′ cache′ : List ℕ) → AddCall (t .store) nodes lookup cache (familyOf d t) c m nodes′ lookup′ cache′ → LineIt t nodes lookup cache d c r nodes′ lookup′ cache′

@@ -7,6 +7,8 @@ use mathlib.Core.List.{List, [], _∷_, _++_}
 use native.Mathlib.Omega.{arith}
 use lib.Dec.{eqb, ltb}
 use lib.ListN.{length, take}
+use types.Run.{OneOf, miss}
+use denote.Enum.Declared.{tagOf}
 use borrow.Author.Tests.{lt-ltb, le-ltb}
 use Rattle.words.proofs.Cases.{by-test, by-lt}
 use Rattle.family.specs.Family.{Family, size}
@@ -33,15 +35,17 @@ use Rattle.counting.specs.Sizes.{SizeGiven, sizeGivenBy, sizeRefusal, sizeAnswe
 use Rattle.family.specs.Combination.{itemsOf}
 use Rattle.line.specs.declared.Side.{Side}
 use Rattle.line.specs.declared.Stage.{Stage}
+use Rattle.line.proofs.Stage.{the-type as the-stage}
 use Rattle.report.specs.declared.Handles.{Handles}
 use Rattle.log.specs.declared.Ending.{Ending}
 use Rattle.log.specs.declared.Ending.the-variants.{Going}
+use Rattle.log.proofs.Ending.{the-type as the-ending}
 use Rattle.log.specs.declared.Tally.{Tally}
 use Rattle.line.specs.Line.{progressOf}
 use Rattle.adding.specs.Adding.{Added, placed, After}
 use Rattle.text.specs.Text.{refusedWord, reportFull, lineText, sumsText, Wrote}
 use Rattle.log.specs.Log.{Lot, Log, capped, closing, lastOf, endOf, outputOf, Keeps, CloseCall}
-use Rattle.report.specs.Ends.{SizeIt, AllHeld, SizesIt, SumsIt, EndIt}
+use Rattle.report.specs.Ends.{SizeIt, AllHeld, SizesIt, SumsIt, endText, EndIs}
 use Rattle.adding.proofs.Placings.{combine-after}
 use Rattle.adding.proofs.Makings.{gives, refused-full, placed-grown}
 use Rattle.log.proofs.Logs.{Stays, stays}
@@ -187,43 +191,56 @@ module _ {s : Store} {nodes lookup cache : List ℕ} (p q : ℕ) {m : Placed} {n
 next-line : {capacity : ℕ} {t : Tally} {nodes lookup cache : List ℕ} {g : Log} → Keeps capacity t nodes lookup cache g → (n : ℕ) → n ≡ capped (suc (t .lines)) → n ≡ capped (suc (g .lines))
 next-line K n e = omega (arith, K .lines-is)
 
--- the end of a log that goes on: nothing is begun, or a line is
-module _ {t : Tally} {nodes lookup cache : List ℕ} where
-  at-progress : {capacity : ℕ} {g : Log} → Keeps capacity t nodes lookup cache g → {st : Stage} → t .reading .stage ≡ st → g .line .progress ≡ progressOf st (t .reading .side) (itemsOf (t .reading .items .words)) (t .reading .item)
-  at-progress K e = sym (ap (λ s. s .progress) (K .line-is)) ∙ ap (λ x. progressOf x (t .reading .side) (itemsOf (t .reading .items .words)) (t .reading .item)) e
+-- how a log ends with its last byte
+ended-text : (capacity : ℕ) (g : Log) (x : Ending) → OneOf (1 ∷ 2 ∷ []) (tagOf the-ending x) → endOf capacity g x ≡ endText capacity g x
+ended-text capacity g Ending.Going b = absurd (miss (1 ∷ 2 ∷ []) 0 tt b)
+ended-text capacity g Ending.Refused b = refl
+ended-text capacity g Ending.Full b = refl
 
-  pub going-sums : {words r : ℕ} {out′ : List ℕ} → t .reading .stage ≡ Stage.Blank → SumsIt (t .store) nodes lookup cache (t .passed) (t .returned) words r out′ → EndIt t nodes lookup cache words r out′
-  going-sums e C =
+begun-text : (capacity : ℕ) (g : Log) (st : Stage) (d : Side) (c : List ℕ) (k : ℕ) → OneOf (1 ∷ 2 ∷ 3 ∷ 4 ∷ 5 ∷ []) (tagOf the-stage st) → lastOf capacity g (progressOf st d c k) ≡ endText capacity g Ending.Refused
+begun-text capacity g Stage.Blank d c k b = absurd (miss (1 ∷ 2 ∷ 3 ∷ 4 ∷ 5 ∷ []) 0 tt b)
+begun-text capacity g Stage.Letter d c k b = refl
+begun-text capacity g Stage.Space d c k b = refl
+begun-text capacity g Stage.Number d c k b = refl
+begun-text capacity g Stage.Whole d c k b = refl
+begun-text capacity g Stage.Malformed d c k b = refl
+
+module _ {t : Tally} where
+  pub end-told : OneOf (1 ∷ 2 ∷ []) (tagOf the-ending (t .ending)) → EndIs t (t .ending)
+  unfolding outputOf
+  end-told b = record { is = λ capacity nodes lookup cache g K. ap (λ x. endOf capacity g x) (sym (K .ending-is)) ∙ ended-text capacity g (t .ending) b }
+
+  module _ (e : t .ending ≡ Going) where
+    at-progress : {capacity : ℕ} {nodes lookup cache : List ℕ} {g : Log} → Keeps capacity t nodes lookup cache g → {st : Stage} → t .reading .stage ≡ st
+        → outputOf capacity g ≡ lastOf capacity g (progressOf st (t .reading .side) (itemsOf (t .reading .items .words)) (t .reading .item))
+    unfolding outputOf
+    at-progress {capacity} {g = g} K d =
+        ap (λ x. endOf capacity g x) (sym (K .ending-is) ∙ e)
+        ∙ ap (λ p. lastOf capacity g p) (sym (ap (λ s. s .progress) (K .line-is)) ∙ ap (λ x. progressOf x (t .reading .side) (itemsOf (t .reading .items .words)) (t .reading .item)) d)
+
+    pub end-blank : t .reading .stage ≡ Stage.Blank → EndIs t Going
+    end-blank d = record { is = λ capacity nodes lookup cache g K. at-progress K d }
+
+    pub end-begun : OneOf (1 ∷ 2 ∷ 3 ∷ 4 ∷ 5 ∷ []) (tagOf the-stage (t .reading .stage)) → EndIs t Ending.Refused
+    end-begun b =
+        record { is = λ capacity nodes lookup cache g K. at-progress K refl ∙ begun-text capacity g (t .reading .stage) (t .reading .side) (itemsOf (t .reading .items .words)) (t .reading .item) b }
+
+-- the end of a log: the sums, or one line alone
+module _ {t : Tally} {nodes lookup cache sizes : List ℕ} {x : Ending} (E : EndIs t x) where
+  pub close-with-sums : {r : ℕ} {out′ : List ℕ} → x ≡ Going → SumsIt (t .store) nodes lookup cache (t .passed) (t .returned) (length sizes) r out′ → CloseCall t nodes lookup cache sizes r out′
+  close-with-sums e C =
       record {
         inside = C .inside;
         written = λ capacity g K w.
             C .written (K .sound) (K .passed-held) (K .returned-held) (omega (arith, K .capacity-is))
             ∙ (λ i. closing (K .capacity-is i) (record { book = K .book-is i; passed = K .passed-is i; returned = K .returned-is i }))
-            ∙ sym (ap (λ p. lastOf capacity g p) (at-progress K e));
+            ∙ sym (E .is capacity nodes lookup cache g K ∙ ap (λ y. endText capacity g y) e);
       }
 
-  pub going-line : {words r : ℕ} {out out′ : List ℕ} (st : Stage) (n : ℕ) → t .reading .stage ≡ st
-      → ((capacity : ℕ) (g : Log) (d : Side) (c : List ℕ) (k : ℕ) → lastOf capacity g (progressOf st d c k) ≡ lineText (capped (suc (g .lines))) refusedWord)
-      → n ≡ capped (suc (t .lines)) → Wrote out 0 (lineText n refusedWord) r out′ → EndIt t nodes lookup cache words r out′
-  going-line st n e f en W =
-      record {
-        inside = W .inside;
-        written = λ capacity g K w.
-            W .is ∙ ap (λ k. lineText k refusedWord) (next-line K n en)
-            ∙ sym (ap (λ p. lastOf capacity g p) (at-progress K e) ∙ f capacity g (t .reading .side) (itemsOf (t .reading .items .words)) (t .reading .item));
-      }
-
-  -- the end of any log
-  pub close-going : {sizes : List ℕ} {r : ℕ} {out′ : List ℕ} → t .ending ≡ Going → EndIt t nodes lookup cache (length sizes) r out′ → CloseCall t nodes lookup cache sizes r out′
-  unfolding outputOf
-  close-going e C =
-      record { inside = C .inside; written = λ capacity g K w. C .written capacity g K w ∙ ap (λ x. endOf capacity g x) (sym e ∙ K .ending-is) }
-
-  pub close-ended : {sizes : List ℕ} (word : List ℕ) {r : ℕ} {out out′ : List ℕ} (x : Ending) (n : ℕ) → t .ending ≡ x → ((capacity : ℕ) (g : Log) → endOf capacity g x ≡ lineText (capped (suc (g .lines))) word)
+  pub close-with-line : (word : List ℕ) {r : ℕ} {out out′ : List ℕ} (y : Ending) (n : ℕ) → x ≡ y → ((capacity : ℕ) (g : Log) → endText capacity g y ≡ lineText (capped (suc (g .lines))) word)
       → n ≡ capped (suc (t .lines)) → Wrote out 0 (lineText n word) r out′ → CloseCall t nodes lookup cache sizes r out′
-  unfolding outputOf
-  close-ended word x n e f en W =
+  close-with-line word y n e f en W =
       record {
         inside = W .inside;
-        written = λ capacity g K w. W .is ∙ ap (λ k. lineText k word) (next-line K n en) ∙ sym (f capacity g) ∙ ap (λ y. endOf capacity g y) (sym e ∙ K .ending-is);
+        written = λ capacity g K w. W .is ∙ ap (λ k. lineText k word) (next-line K n en) ∙ sym (E .is capacity nodes lookup cache g K ∙ ap (λ z. endText capacity g z) e ∙ f capacity g);
       }

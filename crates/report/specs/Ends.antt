@@ -1,5 +1,5 @@
 -- What the functions below `close` promise each other. A reader of the promises can pass this page over.
-use Prim.Native.Nat.{ℕ, _+_, _≤_}
+use Prim.Native.Nat.{ℕ, suc, _+_, _≤_}
 use mathlib.Core.Path.{_≡_}
 use mathlib.Core.List.{List, []}
 use lib.ListN.{length, take}
@@ -9,9 +9,11 @@ use Rattle.store.specs.declared.record.Store.{Store}
 use Rattle.store.specs.Words.{bookOf}
 use Rattle.store.specs.Sound.{Sound}
 use Rattle.report.specs.declared.Handles.{Handles}
+use Rattle.log.specs.declared.Ending.{Ending}
+use Rattle.log.specs.declared.Ending.the-variants.{Going, Refused, Full}
 use Rattle.log.specs.declared.Tally.{Tally}
-use Rattle.text.specs.Text.{sumsText}
-use Rattle.log.specs.Log.{Log, capped, closing, lastOf, Keeps}
+use Rattle.text.specs.Text.{refusedWord, fullWord, lineText, sumsText}
+use Rattle.log.specs.Log.{Log, capped, closing, outputOf, Keeps}
 
 -- the size of a handle that is held, with enough scratch
 pub record SizeIt (s : Store) (nodes lookup : List ℕ) (p words r : ℕ) : Type 0 where
@@ -37,7 +39,11 @@ pub record SumsIt (s : Store) (nodes lookup cache : List ℕ) (passed returned w
   pub written : Sound s nodes lookup cache → passed ≤ s .count + 1 → returned ≤ s .count + 1 → s .capacity ≤ words
       → take r out′ ≡ closing (s .capacity) (record { book = bookOf nodes (s .count); passed = at (bookOf nodes (s .count)) passed; returned = at (bookOf nodes (s .count)) returned })
 
--- the end of a log that goes on
-pub record EndIt (t : Tally) (nodes lookup cache : List ℕ) (words r : ℕ) (out′ : List ℕ) : Type 0 where
-  pub inside : r ≤ length out′
-  pub written : (capacity : ℕ) (g : Log) → Keeps capacity t nodes lookup cache g → capacity ≤ words → take r out′ ≡ lastOf capacity g (g .line .progress)
+-- what is printed of a log, by how it ends with its last byte
+abbrev pub endText : ℕ → Log → Ending → List ℕ
+endText capacity g Going = closing capacity (g .lot)
+endText capacity g Refused = lineText (capped (suc (g .lines))) refusedWord
+endText capacity g Full = lineText (capped (suc (g .lines))) fullWord
+
+pub record EndIs (t : Tally) (e : Ending) : Type 0 where
+  pub is : (capacity : ℕ) (nodes lookup cache : List ℕ) (g : Log) → Keeps capacity t nodes lookup cache g → outputOf capacity g ≡ endText capacity g e

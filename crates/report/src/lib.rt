@@ -2,7 +2,7 @@
 ghost use Prim.Native.Nat.{_≤_};
 ghost use lib.ListN.{length};
 ghost use Rattle.log.specs.Log.{CloseCall};
-ghost use Rattle.report.specs.Ends.{SizeIt, SizesIt, SumsIt, EndIt};
+ghost use Rattle.report.specs.Ends.{SizeIt, SizesIt, SumsIt, EndIs};
 use counting::SizeAnswer;
 use counting::size;
 use family_calls::diff;
@@ -89,36 +89,19 @@ fn close_sums(
     put_sizes(second.store, nodes, lookup, handles, sizes, out)
 }
 
-// The end of a log that went on to its last byte: a line that was begun is malformed.
-fn close_going(
-    t: Tally,
-    nodes: &mut [u32],
-    lookup: &mut [u32],
-    cache: &mut [u32],
-    sizes: &mut [u64],
-    out: &mut [u8],
-) -> usize
-    requires { ⌜ 128 ≤ length (now out) ⌝ }
-    ensures { λ r. ⌜ EndIt t (now (nodes .entry)) (now (lookup .entry)) (now (cache .entry)) (length (now (sizes .entry))) r (now (out .exit)) ⌝ }
+// How a log ends with its last byte: a line that was begun is malformed.
+fn ending_of(t: Tally) -> Ending
+    ensures { λ r. ⌜ EndIs t r ⌝ }
 {
+    let ending = t.ending;
+    let Ending::Going = ending else {
+        return ending;
+    };
     let reading = t.reading;
     let stage = reading.stage;
     match stage {
-        Stage::Blank => close_sums(
-            t.store,
-            nodes,
-            lookup,
-            cache,
-            t.passed,
-            t.returned,
-            sizes,
-            out,
-        ),
-        Stage::Letter => put_line(out, bumped(t.lines), b" refused\n"),
-        Stage::Space => put_line(out, bumped(t.lines), b" refused\n"),
-        Stage::Number => put_line(out, bumped(t.lines), b" refused\n"),
-        Stage::Whole => put_line(out, bumped(t.lines), b" refused\n"),
-        Stage::Malformed => put_line(out, bumped(t.lines), b" refused\n"),
+        Stage::Blank => Ending::Going,
+        _ => Ending::Refused,
     }
 }
 
@@ -133,9 +116,18 @@ pub fn close(
 ) -> usize
     ensures { λ r. ⌜ CloseCall t (now (nodes .entry)) (now (lookup .entry)) (now (cache .entry)) (now (sizes .entry)) r (now (out .exit)) ⌝ }
 {
-    let ending = t.ending;
+    let ending = ending_of(t);
     match ending {
-        Ending::Going => close_going(t, nodes, lookup, cache, sizes, out),
+        Ending::Going => close_sums(
+            t.store,
+            nodes,
+            lookup,
+            cache,
+            t.passed,
+            t.returned,
+            sizes,
+            out,
+        ),
         Ending::Refused => put_line(out, bumped(t.lines), b" refused\n"),
         Ending::Full => put_line(out, bumped(t.lines), b" full\n"),
     }

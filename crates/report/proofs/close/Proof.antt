@@ -1,18 +1,20 @@
--- What a log comes to: the end of one that goes on, or the number of the line that ended it.
--- The tally's ending is the log's.
+-- What a log comes to: the closing sums, or the number of the line that ended it.
+-- `ending_of` tells which of them the log's output is.
 use borrow.Author.Needs.{needs}
 use Rattle.text.specs.Text.{refusedWord, fullWord}
 use mathlib.Core.Path.{refl}
-use Rattle.report.proofs.Closings.{close-going, close-ended}
-use borrow.Author.Needs.{needs}
+use Rattle.report.proofs.Closings.{close-with-sums, close-with-line}
 use Rattle.report.proofs.close.Statement.{statement}
 use Rattle.report.proofs.close.Tie as tie
+
+ending-of-requires : tie.Need-ending-of-requires
+ending-of-requires c κs = search needs
 
 enum-told : tie.Need-enum-told
 enum-told c = search needs
 
-close-going-requires : tie.Need-close-going-requires
-close-going-requires c κs = search needs
+close-sums-requires : tie.Need-close-sums-requires
+close-sums-requires c κs = search needs
 
 enum-told-2 : tie.Need-enum-told-2
 enum-told-2 c = search needs
@@ -53,30 +55,31 @@ same-length-4 c = search needs
 abbrev enum-told·After-slice-known8 : tie.After-slice-known8 → tie.After-enum-told
 enum-told·After-slice-known8 c = c .before .before .before .before .before .before .before .before .before .before .before .before .before .before
 
-abbrev close-going·After-slice-known8 : tie.After-slice-known8 → tie.After-close-going
-close-going·After-slice-known8 c = c .before .before .before .before .before .before .before .before
-
-abbrev enum-told2·After-put-line : tie.After-put-line → tie.After-enum-told2
-enum-told2·After-put-line c = c .before .before .before .before
-
-abbrev enum-told3·After-put-line2 : tie.After-put-line2 → tie.After-enum-told3
-enum-told3·After-put-line2 c = c .before .before .before .before
+abbrev close-sums·After-slice-known8 : tie.After-slice-known8 → tie.After-close-sums
+close-sums·After-slice-known8 c = c .before .before .before .before .before .before .before .before
 
 returns : tie.Need-returns
-returns c = close-going ((enum-told·After-slice-known8 c) .enum-told .given .1) ((close-going·After-slice-known8 c) .close-going .ensures)
+returns c = close-with-sums (((enum-told·After-slice-known8 c) .before .before) .ending-of .ensures) ((enum-told·After-slice-known8 c) .enum-told .given .1) ((close-sums·After-slice-known8 c) .close-sums .ensures)
+
+abbrev ending-of·After-put-line : tie.After-put-line → tie.After-ending-of
+ending-of·After-put-line c = c .before .before .before .before .before .before
 
 returns-2 : tie.Need-returns-2
-returns-2 c = close-ended refusedWord _ _ ((enum-told2·After-put-line c) .enum-told2 .given .1) (λ capacity g. refl) ((c .before .before) .bumped .ensures) (c .put-line .ensures)
+returns-2 c = close-with-line ((ending-of·After-put-line c) .ending-of .ensures) refusedWord _ _ ((c .before .before .before .before) .enum-told2 .given .1) (λ capacity g. refl) ((c .before .before) .bumped .ensures) (c .put-line .ensures)
+
+abbrev ending-of·After-put-line2 : tie.After-put-line2 → tie.After-ending-of
+ending-of·After-put-line2 c = c .before .before .before .before .before .before
 
 returns-3 : tie.Need-returns-3
-returns-3 c = close-ended fullWord _ _ ((enum-told3·After-put-line2 c) .enum-told3 .given .1) (λ capacity g. refl) ((c .before .before) .bumped2 .ensures) (c .put-line2 .ensures)
+returns-3 c = close-with-line ((ending-of·After-put-line2 c) .ending-of .ensures) fullWord _ _ ((c .before .before .before .before) .enum-told3 .given .1) (λ capacity g. refl) ((c .before .before) .bumped2 .ensures) (c .put-line2 .ensures)
 
 pub close-spec : {M : Type 1} → statement M
 close-spec =
     tie.close
     (tie.spec
+    ending-of-requires
     enum-told
-    close-going-requires
+    close-sums-requires
     enum-told-2
     bumped-requires
     slice-aggregate-put-line
