@@ -1,2 +1,2 @@
 -- The laws of `gate`.
-pub mod Onward
+pub mod Reported

@@ -1,2 +1,2 @@
 -- What the contracts of `gate` cite.
-pub mod Following
+pub mod Reporting

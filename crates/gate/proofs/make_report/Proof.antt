@@ -4,7 +4,7 @@ use borrow.Author.Needs.{needs}
 use mathlib.Core.Path.{refl}
 use Prim.Native.Nat.{ℕ}
 use lib.ListN.{length-replicate}
-use Rattle.gate.proofs.Onward.{none-reported, reported}
+use Rattle.gate.proofs.Reported.{none-reported, reported}
 use borrow.Author.Needs.{needs}
 use Rattle.gate.proofs.make_report.Statement.{statement}
 use Rattle.gate.proofs.make_report.Tie as tie

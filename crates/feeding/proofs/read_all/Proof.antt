@@ -4,9 +4,9 @@ use borrow.Author.Needs.{needs}
 use Prim.Native.Nat.{_<_}
 use mathlib.Core.Path.{_∙_}
 use native.Mathlib.Omega.{arith}
-use Rattle.gate.proofs.Onward.{Onward, onward-start, onward-again}
-use Rattle.gate.proofs.read_all.Statement.{statement}
-use Rattle.gate.proofs.read_all.Tie as tie
+use Rattle.feeding.proofs.Onward.{Onward, onward-start, onward-again}
+use Rattle.feeding.proofs.read_all.Statement.{statement}
+use Rattle.feeding.proofs.read_all.Tie as tie
 
 abbrev Inv-loop : tie.InvT-loop
 Inv-loop fd most nodes₀ lookup₀ cache₀ turn₀ turns₀ nodes lookup cache turn turns = Onward (turn₀ .tally) nodes₀ lookup₀ cache₀ nodes lookup cache (turn .tally)

@@ -5,8 +5,8 @@ use native.Mathlib.Omega.{arith}
 use mathlib.Core.Path.{sym}
 use lib.Seq.{length-take-le}
 use borrow.Author.Needs.{needs}
-use Rattle.gate.proofs.read_some.Statement.{statement}
-use Rattle.gate.proofs.read_some.Tie as tie
+use Rattle.feeding.proofs.read_some.Statement.{statement}
+use Rattle.feeding.proofs.read_some.Tie as tie
 
 slice-relend-prefix-read : tie.Need-slice-relend-prefix-read
 slice-relend-prefix-read c = search needs

@@ -1,17 +1,12 @@
 -- Pieces taken one after the other are one run of bytes.
 -- Feeding two runs is feeding the one behind the other.
-use Prim.Native.Nat.{ℕ, _+_, _≤_}
-use mathlib.Core.Path.{_≡_, refl, sym, ap, subst, _∙_}
-use mathlib.Core.Bool.{true, false}
+use Prim.Native.Nat.{ℕ}
+use mathlib.Core.Path.{_≡_, refl, sym, subst, _∙_}
 use mathlib.Core.List.{List, [], _++_, foldl-append}
-use native.Mathlib.Omega.{arith}
-use lib.ListN.{length, take}
-use Rattle.store.specs.Capacity.{capacityOf}
+use lib.ListN.{length}
 use Rattle.log.specs.declared.Tally.{Tally}
-use Rattle.log.specs.Log.{Log, opening, logByte, feed, Keeps, OpenCall, TakeCall, CloseCall}
-use Rattle.report.proofs.Reports.{log-report}
-use Rattle.gate.specs.declared.Report.{Report}
-use Rattle.gate.specs.Following.{Follows, Reported}
+use Rattle.log.specs.Log.{logByte, feed, Keeps, TakeCall}
+use Rattle.feeding.specs.Following.{Follows}
 
 pub follows-none : (t : Tally) (nodes lookup cache : List ℕ) → Follows t nodes lookup cache t nodes lookup cache
 follows-none t nodes lookup cache = record { keeps = λ capacity g K. ([], K) }
@@ -43,22 +38,3 @@ onward-start t nodes lookup cache = record { long = refl; long-lookup = refl; lo
 pub onward-again : {t₀ t t′ : Tally} {nodes₀ lookup₀ cache₀ nodes lookup cache nodes′ lookup′ cache′ : List ℕ} → Onward t₀ nodes₀ lookup₀ cache₀ nodes lookup cache t → Follows t nodes lookup cache t′ nodes′ lookup′ cache′
     → length nodes′ ≡ length nodes → length lookup′ ≡ length lookup → length cache′ ≡ length cache → Onward t₀ nodes₀ lookup₀ cache₀ nodes′ lookup′ cache′ t′
 onward-again I F a b c = record { long = a ∙ I .long; long-lookup = b ∙ I .long-lookup; long-cache = c ∙ I .long-cache; follows = follows-more (I .follows) F }
-
--- the report of what was read
-pub none-reported : (out : List ℕ) → Reported (record { made = false; length = 0 }) out
-none-reported out = record { inside = omega arith; is = λ e. absurd (let z : _≡_ {A = ℕ} 0 1 = cc in omega arith) }
-
-pub reported : {nodes₀ lookup₀ : List ℕ} {t : Tally} {nodes lookup cache : List ℕ} → length nodes₀ ≡ 1500 → length lookup₀ ≡ 1001 → OpenCall nodes₀ lookup₀ t nodes lookup cache
-    → {t₁ : Tally} {nodes₁ lookup₁ cache₁ : List ℕ} → Follows t nodes lookup cache t₁ nodes₁ lookup₁ cache₁ → {sizes : List ℕ} {n : ℕ} {out′ : List ℕ} → length sizes ≡ 500
-    → CloseCall t₁ nodes₁ lookup₁ cache₁ sizes n out′ → Reported (record { made = true; length = n }) out′
-reported {nodes₀} {t = t} {nodes} {lookup} {cache} en el O {t₁} {nodes₁} {lookup₁} {cache₁} F {sizes} {n} {out′} es C =
-    record { inside = C .inside; is = λ e. (q .0, C .written 500 (feed 500 opening (q .0)) (q .1) (omega arith) ∙ log-report 500 (q .0)) }
-  where
-    cap : capacityOf (length nodes₀) ≡ 500
-    cap = ap capacityOf en
-
-    K : Keeps 500 t nodes lookup cache opening
-    K = subst (λ x. Keeps x t nodes lookup cache opening) cap (O .keeps (omega arith) (omega (arith, cap)))
-
-    q : (bytes : List ℕ) × Keeps 500 t₁ nodes₁ lookup₁ cache₁ (feed 500 opening bytes)
-    q = F .keeps 500 opening K

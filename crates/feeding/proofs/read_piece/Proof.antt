@@ -1,10 +1,10 @@
 -- A piece that was read is taken; nothing is where the input is at its end or the read failed.
 -- What `take_piece` ensures of the bytes that the buffer holds.
 use borrow.Author.Needs.{needs}
-use Rattle.gate.proofs.Onward.{follows-none, follows-piece}
+use Rattle.feeding.proofs.Onward.{follows-none, follows-piece}
 use borrow.Author.Needs.{needs}
-use Rattle.gate.proofs.read_piece.Statement.{statement}
-use Rattle.gate.proofs.read_piece.Tie as tie
+use Rattle.feeding.proofs.read_piece.Statement.{statement}
+use Rattle.feeding.proofs.read_piece.Tie as tie
 
 large-buffer-requires : tie.Need-large-buffer-requires
 large-buffer-requires c κs = search needs

@@ -1,0 +1,2 @@
+-- The laws of `feeding`.
+pub mod Onward

@@ -1,0 +1,2 @@
+-- What the contracts of `feeding` cite.
+pub mod Following
