@@ -1,5 +1,4 @@
--- What C is handed and given: the record, and the result of each kind of call.
-use Rattle.store.specs.declared.record.Store.{Store}
+-- What C is given for the result of each kind of call.
 use Rattle.store.specs.declared.record.Placed.{Placed}
 use Rattle.fresh.specs.declared.Freshened.{Freshened}
 use Rattle.store.specs.Refusals.{givenBy}
@@ -11,7 +10,6 @@ use Rattle.membership.specs.Membership.{hasGivenBy}
 use Rattle.saving.specs.declared.Saved.{Saved}
 use Rattle.saving.specs.Promise.{saveGivenBy}
 use Rattle.audit.specs.declared.Audited.{Audited}
-use Rattle.c_records.specs.declared.CStore.{CStore}
 use Rattle.c_records.specs.declared.CFreshened.{CFreshened}
 use Rattle.c_records.specs.declared.CPlaced.{CPlaced}
 use Rattle.c_records.specs.declared.CMeasured.{CMeasured}
@@ -19,28 +17,21 @@ use Rattle.c_records.specs.declared.CAsked.{CAsked}
 use Rattle.c_records.specs.declared.CSaved.{CSaved}
 use Rattle.c_records.specs.declared.CAudited.{CAudited}
 
--- "A small record is handed in by value and comes back by value": the record that a call is handed, and the one that C gets back
-abbrev pub storeOf : CStore → Store
-storeOf s = record { capacity = s .capacity; count = s .count }
-
-abbrev pub recordOf : Store → CStore
-recordOf s = record { capacity = s .capacity; count = s .count }
-
--- What C is given for the result of each kind of call: the record, the refusal's number, 0 where there is none, and the value, "0 where the answer has such a field" and is refused. All but the record is what the call's own promise takes from its answer.
+-- The record that the call gave, the refusal's number, 0 where there is none, and the value, "0 where the answer has such a field" and is refused. All but the record is what the call's own promise takes from its answer.
 abbrev pub freshenedOf : Freshened → CFreshened
-freshenedOf b = record { store = recordOf (b .store); refusal = freshNumber (b .answer) }
+freshenedOf b = record { store = b .store; refusal = freshNumber (b .answer) }
 
 abbrev pub placedOf : Placed → CPlaced
-placedOf b = record { store = recordOf (b .store); refusal = givenBy (b .answer) .refusal; handle = givenBy (b .answer) .handle }
+placedOf b = record { store = b .store; refusal = givenBy (b .answer) .refusal; handle = givenBy (b .answer) .handle }
 
 abbrev pub measuredOf : Measured → CMeasured
-measuredOf b = record { store = recordOf (b .store); refusal = sizeGivenBy (b .answer) .refusal; size = sizeGivenBy (b .answer) .size }
+measuredOf b = record { store = b .store; refusal = sizeGivenBy (b .answer) .refusal; size = sizeGivenBy (b .answer) .size }
 
 abbrev pub askedOf : Asked → CAsked
-askedOf b = record { store = recordOf (b .store); refusal = hasGivenBy (b .answer) .refusal; member = hasGivenBy (b .answer) .member }
+askedOf b = record { store = b .store; refusal = hasGivenBy (b .answer) .refusal; member = hasGivenBy (b .answer) .member }
 
 abbrev pub savedOf : Saved → CSaved
-savedOf b = record { store = recordOf (b .store); refusal = saveGivenBy (b .answer) .refusal; length = saveGivenBy (b .answer) .length }
+savedOf b = record { store = b .store; refusal = saveGivenBy (b .answer) .refusal; length = saveGivenBy (b .answer) .length }
 
 abbrev pub auditedOf : Audited → CAudited
-auditedOf b = record { store = recordOf (b .store); sound = b .sound }
+auditedOf b = record { store = b .store; sound = b .sound }

@@ -1,7 +1,7 @@
-// The records and answers as C sees them.
+// The answers as C sees them. The record is the same for C.
 ghost use mathlib.Core.Path.{_≡_};
 ghost use Rattle.store.specs.Refusals.{refusalNumber};
-ghost use Rattle.c_records.specs.Shown.{storeOf, recordOf, freshenedOf, placedOf, measuredOf, askedOf, savedOf, auditedOf};
+ghost use Rattle.c_records.specs.Shown.{freshenedOf, placedOf, measuredOf, askedOf, savedOf, auditedOf};
 use audit::Audited;
 use counting::Measured;
 use counting::SizeAnswer;
@@ -16,30 +16,17 @@ use store::record::Placed;
 use store::record::Refusal;
 use store::record::Store;
 
-// The store record.
-#[repr(C)]
-pub struct CStore {
-    pub capacity: u32,
-    pub count: u32,
-}
-
-// A combination: item i is bit (i - 1) modulo 32 of word (i - 1) / 32.
-#[repr(C)]
-pub struct CCombination {
-    pub words: [u32; 16],
-}
-
 // What Fresh gives back. A refusal is its number, 0 where there is none, here and below.
 #[repr(C)]
 pub struct CFreshened {
-    pub store: CStore,
+    pub store: Store,
     pub refusal: u32,
 }
 
 // What a call that places a family gives back; the handle is 0 where it is refused.
 #[repr(C)]
 pub struct CPlaced {
-    pub store: CStore,
+    pub store: Store,
     pub refusal: u32,
     pub handle: u32,
 }
@@ -47,7 +34,7 @@ pub struct CPlaced {
 // What Size gives back; the size is 0 where it is refused.
 #[repr(C)]
 pub struct CMeasured {
-    pub store: CStore,
+    pub store: Store,
     pub refusal: u32,
     pub size: u64,
 }
@@ -55,7 +42,7 @@ pub struct CMeasured {
 // What Has gives back; no where it is refused.
 #[repr(C)]
 pub struct CAsked {
-    pub store: CStore,
+    pub store: Store,
     pub refusal: u32,
     pub member: bool,
 }
@@ -63,7 +50,7 @@ pub struct CAsked {
 // What Save gives back; the length is 0 where it is refused.
 #[repr(C)]
 pub struct CSaved {
-    pub store: CStore,
+    pub store: Store,
     pub refusal: u32,
     pub length: usize,
 }
@@ -71,28 +58,8 @@ pub struct CSaved {
 // What Audit gives back.
 #[repr(C)]
 pub struct CAudited {
-    pub store: CStore,
+    pub store: Store,
     pub sound: bool,
-}
-
-// The record that a call takes.
-pub fn taken(store: CStore) -> Store
-    ensures { λ r. ⌜ r ≡ storeOf store ⌝ }
-{
-    Store {
-        capacity: store.capacity,
-        count: store.count,
-    }
-}
-
-// The record that a call gave back.
-pub fn given(left: Store) -> CStore
-    ensures { λ r. ⌜ r ≡ recordOf left ⌝ }
-{
-    CStore {
-        capacity: left.capacity,
-        count: left.count,
-    }
 }
 
 // The number of a refusal.
@@ -117,7 +84,7 @@ pub fn number(refusal: Refusal) -> u32
 pub fn freshened(behind: Freshened) -> CFreshened
     ensures { λ r. ⌜ r ≡ freshenedOf behind ⌝ }
 {
-    let store = given(behind.store);
+    let store = behind.store;
     let answer = behind.answer;
     match answer {
         FreshAnswer::Done => CFreshened {
@@ -135,7 +102,7 @@ pub fn freshened(behind: Freshened) -> CFreshened
 pub fn placed(behind: Placed) -> CPlaced
     ensures { λ r. ⌜ r ≡ placedOf behind ⌝ }
 {
-    let store = given(behind.store);
+    let store = behind.store;
     let answer = behind.answer;
     match answer {
         PlaceAnswer::Handle(handle) => CPlaced {
@@ -155,7 +122,7 @@ pub fn placed(behind: Placed) -> CPlaced
 pub fn measured(behind: Measured) -> CMeasured
     ensures { λ r. ⌜ r ≡ measuredOf behind ⌝ }
 {
-    let store = given(behind.store);
+    let store = behind.store;
     let answer = behind.answer;
     match answer {
         SizeAnswer::Members(size) => CMeasured {
@@ -175,7 +142,7 @@ pub fn measured(behind: Measured) -> CMeasured
 pub fn asked(behind: Asked) -> CAsked
     ensures { λ r. ⌜ r ≡ askedOf behind ⌝ }
 {
-    let store = given(behind.store);
+    let store = behind.store;
     let answer = behind.answer;
     match answer {
         HasAnswer::Yes => CAsked {
@@ -200,7 +167,7 @@ pub fn asked(behind: Asked) -> CAsked
 pub fn saved(behind: Saved) -> CSaved
     ensures { λ r. ⌜ r ≡ savedOf behind ⌝ }
 {
-    let store = given(behind.store);
+    let store = behind.store;
     let answer = behind.answer;
     match answer {
         SaveAnswer::Length(length) => CSaved {
@@ -220,8 +187,9 @@ pub fn saved(behind: Saved) -> CSaved
 pub fn audited(behind: Audited) -> CAudited
     ensures { λ r. ⌜ r ≡ auditedOf behind ⌝ }
 {
+    let store = behind.store;
     CAudited {
-        store: given(behind.store),
+        store: store,
         sound: behind.sound,
     }
 }

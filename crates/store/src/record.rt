@@ -19,7 +19,8 @@ pub enum Refusal {
     Damaged,
 }
 
-// The record: how many nodes there is room for, and how many are held.
+// The record, laid out as C has it: how many nodes there is room for, and how many are held.
+#[repr(C)]
 pub struct Store {
     pub capacity: u32,
     pub count: u32,

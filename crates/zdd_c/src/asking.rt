@@ -5,41 +5,38 @@ ghost use Rattle.counting.specs.Sizes.{SizeCall};
 ghost use Rattle.c_records.specs.Shown.{measuredOf, askedOf};
 ghost use Rattle.zdd_c.specs.Export.{Exported};
 use c_records::CAsked;
-use c_records::CCombination;
 use c_records::CMeasured;
-use c_records::CStore;
 use c_records::asked;
 use c_records::measured;
-use c_records::taken;
 use combination::Combination;
 use counting::size;
 use membership::has;
+use store::record::Store;
 
 // The number of members of p; the scratch then holds the size of every node held.
 #[no_mangle]
 pub extern "C" fn zdd_size(
-    store: CStore,
+    store: Store,
     nodes: &[u32],
     lookup: &[u32],
     p: u32,
     sizes: &mut [u64],
 ) -> CMeasured
-    ensures { λ r. ⌜ Exported measuredOf (λ s b. SizeCall s (now (nodes .entry)) (now (lookup .entry)) p (now (sizes .entry)) b (now (sizes .exit))) store r ⌝ }
+    ensures { λ r. ⌜ Exported measuredOf (λ b. SizeCall store (now (nodes .entry)) (now (lookup .entry)) p (now (sizes .entry)) b (now (sizes .exit))) r ⌝ }
 {
-    measured(size(taken(store), nodes, lookup, p, sizes))
+    measured(size(store, nodes, lookup, p, sizes))
 }
 
 // Whether the combination is a member of p.
 #[no_mangle]
 pub extern "C" fn zdd_has(
-    store: CStore,
+    store: Store,
     nodes: &[u32],
     lookup: &[u32],
     p: u32,
-    combination: CCombination,
+    combination: Combination,
 ) -> CAsked
-    ensures { λ r. ⌜ Exported askedOf (λ s b. HasCall s (now (nodes .entry)) (now (lookup .entry)) p (itemsOf (combination .words)) b) store r ⌝ }
+    ensures { λ r. ⌜ Exported askedOf (λ b. HasCall store (now (nodes .entry)) (now (lookup .entry)) p (itemsOf (combination .words)) b) r ⌝ }
 {
-    let words = combination.words;
-    asked(has(taken(store), nodes, lookup, p, Combination { words: words }))
+    asked(has(store, nodes, lookup, p, combination))
 }

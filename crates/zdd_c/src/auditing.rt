@@ -4,19 +4,18 @@ ghost use Rattle.c_records.specs.Shown.{auditedOf};
 ghost use Rattle.zdd_c.specs.Export.{Exported};
 use audit::audit;
 use c_records::CAudited;
-use c_records::CStore;
 use c_records::audited;
-use c_records::taken;
+use store::record::Store;
 
 // Zeroes the whole cache groups and says whether the store is then sound.
 #[no_mangle]
 pub extern "C" fn zdd_audit(
-    store: CStore,
+    store: Store,
     nodes: &[u32],
     lookup: &[u32],
     cache: &mut [u32],
 ) -> CAudited
-    ensures { λ r. ⌜ Exported auditedOf (λ s b. AuditCall s (now (nodes .entry)) (now (lookup .entry)) (now (cache .entry)) b (now (cache .exit))) store r ⌝ }
+    ensures { λ r. ⌜ Exported auditedOf (λ b. AuditCall store (now (nodes .entry)) (now (lookup .entry)) (now (cache .entry)) b (now (cache .exit))) r ⌝ }
 {
-    audited(audit(taken(store), nodes, lookup, cache))
+    audited(audit(store, nodes, lookup, cache))
 }

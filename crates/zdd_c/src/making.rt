@@ -1,7 +1,8 @@
 // Fresh, Empty and Base.
 ghost use mathlib.Core.Path.{_≡_};
 ghost use Rattle.fresh.specs.Fresh.{FreshCall};
-ghost use Rattle.zdd_c.specs.Export.{ExportedFresh};
+ghost use Rattle.c_records.specs.Shown.{freshenedOf};
+ghost use Rattle.zdd_c.specs.Export.{Exported};
 use c_records::CFreshened;
 use c_records::freshened;
 use fresh::base;
@@ -11,7 +12,7 @@ use fresh::fresh;
 // Makes an empty store of the lent words.
 #[no_mangle]
 pub extern "C" fn zdd_fresh(nodes: &mut [u32], lookup: &mut [u32], cache: &mut [u32]) -> CFreshened
-    ensures { λ r. ⌜ ExportedFresh (λ b. FreshCall (now (nodes .entry)) (now (lookup .entry)) (now (cache .entry)) b (now (nodes .exit)) (now (lookup .exit)) (now (cache .exit))) r ⌝ }
+    ensures { λ r. ⌜ Exported freshenedOf (λ b. FreshCall (now (nodes .entry)) (now (lookup .entry)) (now (cache .entry)) b (now (nodes .exit)) (now (lookup .exit)) (now (cache .exit))) r ⌝ }
 {
     freshened(fresh(nodes, lookup, cache))
 }

@@ -4,21 +4,14 @@ use borrow.Author.Needs.{needs}
 use Rattle.zdd_c.proofs.making.zdd_fresh.Statement.{statement}
 use Rattle.zdd_c.proofs.making.zdd_fresh.Tie as tie
 
-abbrev fresh·After-freshened : tie.After-freshened → tie.After-fresh
-fresh·After-freshened c = c .before .before .before .before .before .before .before
-
 returns : tie.Need-returns
 returns c =
-    let f = (fresh·After-freshened c) .fresh in
-    record { behind = f .result; keeps = f .ensures; given-is = c .freshened .ensures }
+    let b = c .before .before .before .before .before .before .before .fresh in
+    record { behind = b .result; keeps = b .ensures; given-is = c .freshened .ensures }
 
 pub zdd-fresh-spec : {M : Type 1} → statement M
 zdd-fresh-spec =
     tie.close
     (tie.spec
-    (λ c κs. search needs)
-    (λ c κs. search needs)
-    (λ c. search needs)
-    (λ c. search needs)
-    (λ c. search needs)
+    (λ c κs. search needs) (λ c κs. search needs) (λ c. search needs) (λ c. search needs) (λ c. search needs)
     returns)

@@ -1,45 +1,17 @@
 -- `zdd_intsec` keeps the promise of `intsec`.
 -- Why: it hands its record and its words to that call, and that call's result on to C.
 use borrow.Author.Needs.{needs}
-use Rattle.zdd_c.proofs.Handing.{hand-on}
 use Rattle.zdd_c.proofs.placing.zdd_intsec.Statement.{statement}
 use Rattle.zdd_c.proofs.placing.zdd_intsec.Tie as tie
 
-taken-requires : tie.Need-taken-requires
-taken-requires c κs = search needs
-
-intsec-requires : tie.Need-intsec-requires
-intsec-requires c κs = search needs
-
-placed-requires : tie.Need-placed-requires
-placed-requires c κs = search needs
-
-same-length : tie.Need-same-length
-same-length c = search needs
-
-same-length-2 : tie.Need-same-length-2
-same-length-2 c = search needs
-
-same-length-3 : tie.Need-same-length-3
-same-length-3 c = search needs
-
-abbrev intsec·After-placed : tie.After-placed → tie.After-intsec
-intsec·After-placed c = c .before .before .before .before .before .before .before
-
-abbrev taken·After-placed : tie.After-placed → tie.After-taken
-taken·After-placed c = c .before .before .before .before .before .before .before .before .before .before .before
-
 returns : tie.Need-returns
-returns c = hand-on ((intsec·After-placed c) .intsec .result) ((taken·After-placed c) .taken .ensures) ((intsec·After-placed c) .intsec .ensures) (c .placed .ensures)
+returns c =
+    let b = c .before .before .before .before .before .before .before .intsec in
+    record { behind = b .result; keeps = b .ensures; given-is = c .placed .ensures }
 
 pub zdd-intsec-spec : {M : Type 1} → statement M
 zdd-intsec-spec =
     tie.close
     (tie.spec
-    taken-requires
-    intsec-requires
-    placed-requires
-    same-length
-    same-length-2
-    same-length-3
+    (λ c κs. search needs) (λ c κs. search needs) (λ c. search needs) (λ c. search needs) (λ c. search needs)
     returns)

@@ -1,2 +1,0 @@
--- The laws of `c_records`.
-pub mod Showing

@@ -1,2 +1,0 @@
--- The ways out of the exports.
-pub mod Handing
