@@ -1,6 +1,5 @@
 // Copies of lent words, and tests against them.
 use crate::output::told;
-use harness::lent::all_are;
 
 // Copies words; stops at the end of the shorter.
 pub fn copy(from: &[u32], to: &mut [u32]) {
@@ -22,6 +21,18 @@ fn same(a: &[u32], b: &[u32]) -> bool {
     let mut at: usize = 0;
     while at < a.len() {
         if a[at] != b[at] {
+            return false;
+        }
+        at = at + 1;
+    }
+    true
+}
+
+// Whether all words are the same number.
+fn all_are(words: &[u32], value: u32) -> bool {
+    let mut at: usize = 0;
+    while at < words.len() {
+        if words[at] != value {
             return false;
         }
         at = at + 1;

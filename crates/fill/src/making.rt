@@ -1,11 +1,38 @@
 // Making many nodes with one call each, and some with unions.
-use harness::operation::Operation;
-use harness::operation::handle_of;
-use harness::operation::of;
-use harness::operation::run;
+use family_calls::union;
+use item_calls::change;
 use store::record::PlaceAnswer;
 use store::record::Placed;
 use store::record::Store;
+
+// A union of two families, or a change of a family by an item.
+pub struct Call {
+    pub union: bool,
+    pub p: u32,
+    pub q: u32,
+}
+
+// Runs a call.
+fn run_call(
+    call: Call,
+    store: Store,
+    nodes: &mut [u32],
+    lookup: &mut [u32],
+    cache: &mut [u32],
+) -> Placed {
+    if call.union {
+        return union(store, nodes, lookup, cache, call.p, call.q);
+    }
+    change(store, nodes, lookup, cache, call.p, call.q)
+}
+
+// The handle given; 0 for a refusal.
+fn handle_of(answer: PlaceAnswer) -> u32 {
+    match answer {
+        PlaceAnswer::Handle(handle) => handle,
+        PlaceAnswer::Refused(_) => 0,
+    }
+}
 
 // The record and the answer last given; the next combination of at most two items, the lower one first and 0 where there is one; the
 // handle of a family of single items, and the item that is next for it.
@@ -44,14 +71,21 @@ pub fn at_first_pair(at: Progress) -> Progress {
     }
 }
 
-// The change that makes the next combination from its lower item's, or from the empty one: one node more.
-fn next_change(at: Progress) -> Operation {
-    of(3, std::num::wrapping_add_u32(at.low, 1), at.high)
-}
-
-// The union with the next single item: as many nodes more as the family has items.
-fn next_union(at: Progress) -> Operation {
-    of(4, at.handle, std::num::wrapping_add_u32(at.item, 1))
+// The next call: the union with the next single item, with as many nodes more as the family has items; or the change that makes the
+// next combination from its lower item's, or from the empty one, with one node more.
+fn next(unions: bool, at: Progress) -> Call {
+    if unions {
+        return Call {
+            union: true,
+            p: at.handle,
+            q: std::num::wrapping_add_u32(at.item, 1),
+        };
+    }
+    Call {
+        union: false,
+        p: std::num::wrapping_add_u32(at.low, 1),
+        q: at.high,
+    }
 }
 
 // Goes on to the next combination: first the 512 of one item, then the pairs.
@@ -95,14 +129,6 @@ fn after_union(at: Progress, placed: Placed) -> Progress {
     }
 }
 
-// The next call.
-fn next(unions: bool, at: Progress) -> Operation {
-    if unions {
-        return next_union(at);
-    }
-    next_change(at)
-}
-
 // Where a call leads.
 fn after(unions: bool, at: Progress, placed: Placed) -> Progress {
     if unions {
@@ -123,7 +149,7 @@ pub fn calls(
     let mut at = from;
     let mut left = number;
     while 0 < left {
-        let placed = run(next(unions, at), at.store, nodes, lookup, cache);
+        let placed = run_call(next(unions, at), at.store, nodes, lookup, cache);
         at = after(unions, at, placed);
         left = left - 1;
     }

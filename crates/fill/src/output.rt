@@ -1,9 +1,17 @@
 // Lines on standard output.
-use harness::output::refusal;
-use harness::output::text;
-use harness::output::word;
+use c_records::number;
 use store::record::PlaceAnswer;
 use store::record::Store;
+
+// Writes some bytes.
+pub fn text(bytes: &[u8]) {
+    io::write_all(1, bytes);
+}
+
+// Writes a number in base ten.
+fn word(n: u32) {
+    io::print_decimal(1, n as u64);
+}
 
 // Writes a record, and ends the line.
 pub fn record(store: Store) {
@@ -20,7 +28,7 @@ pub fn given(answer: PlaceAnswer, store: Store) {
         PlaceAnswer::Handle(handle) => word(handle),
         PlaceAnswer::Refused(why) => {
             text(b"refused ");
-            refusal(why);
+            word(number(why));
         }
     }
     text(b", ");

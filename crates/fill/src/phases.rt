@@ -8,10 +8,10 @@ use crate::making::calls;
 use crate::making::start;
 use crate::output::given;
 use crate::output::record;
+use crate::output::text;
 use crate::output::told;
 use audit::audit;
 use fresh::fresh;
-use harness::output::text;
 use store::record::Store;
 
 // How many calls a phase has, whether they are unions or changes, and whether an audit follows.

@@ -1,11 +1,35 @@
-// Audits of a store as it is and with one word changed.
-use call_lines::audits::audit_text;
-use call_lines::lending::Lent;
-use call_lines::output::length;
-use call_lines::output::word;
-use drawing::draw::Drawn;
-use drawing::draw::size_below;
-use harness::output::text;
+// The lines of Audit.
+use crate::draw::Drawn;
+use crate::draw::at_most;
+use crate::draw::size_below;
+use crate::lend::Lent;
+use crate::output::answer;
+use crate::output::length;
+use crate::output::lent_two;
+use crate::output::record;
+use crate::output::text;
+use crate::output::word;
+use crate::sums::cleared;
+use audit::Audited;
+use audit::audit;
+
+// Writes what Audit gave, and whether the whole cache groups are 0.
+fn given(audited: Audited, zero: bool) {
+    answer(audited.sound);
+    record(audited.store);
+    text(b" cleared");
+    answer(zero);
+    text(b"\n");
+}
+
+// Audits the store and writes the rest of the line.
+fn audit_text(lent: Lent, nodes: &[u32], lookup: &[u32], cache: &mut [u32]) {
+    let slots = at_most(lent.slots, lookup.len());
+    let part = at_most(lent.cache, cache.len());
+    let audited = audit(lent.record, nodes, &lookup[0..slots], &mut cache[0..part]);
+    lent_two(slots, part);
+    given(audited, cleared(&cache[0..part]));
+}
 
 // Writes which word is changed, and to what.
 fn change_text(what: &[u8], at: usize, value: u32) {

@@ -1,9 +1,15 @@
 // The record handed in, and how much of the words is lent.
 ghost use Prim.Native.Nat.{_≤_};
-use call_lines::lending::Lent;
-use drawing::draw::size_below;
-use harness::lent::at_most;
+use crate::draw::at_most;
+use crate::draw::size_below;
 use store::record::Store;
+
+// What a call is handed besides its own arguments.
+pub struct Lent {
+    pub record: Store,
+    pub slots: usize,
+    pub cache: usize,
+}
 
 // The record: seldom one that does not fit the words.
 fn handed(d: u32, store: Store) -> Store {

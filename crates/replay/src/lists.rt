@@ -1,14 +1,24 @@
 // The lists: Fresh, then so many drawn calls.
+use crate::draw::at_most;
+use crate::output::answer;
+use crate::output::length;
+use crate::output::record;
+use crate::output::refused;
+use crate::output::sum_line;
+use crate::output::text;
+use crate::output::word;
+use crate::placing::words;
 use crate::subsets;
+use crate::sums::MARK;
+use crate::sums::cleared;
+use crate::sums::spare;
 use crate::turn::Manner;
 use crate::turn::State;
 use crate::turn::turn;
 use crate::turn::with_record;
-use call_lines::freshening::fresh_line;
-use call_lines::freshening::words_text;
-use call_lines::sums::MARK;
-use call_lines::sums::spare;
-use harness::lent::at_most;
+use fresh::FreshAnswer;
+use fresh::Freshened;
+use fresh::fresh;
 use store::record::Store;
 
 // What is lent to a list, how many items it has, and how many calls. One with more than 16 items always lends its whole cache.
@@ -47,6 +57,46 @@ fn numbered(list: u32) -> Setting {
         10 => of(240, 83, 64, 6, 300),
         _ => of(3002, 2053, 4096, 70, 260),
     }
+}
+
+// Writes some words.
+fn all_words(words: &[u32]) {
+    let mut at: usize = 0;
+    while at < words.len() {
+        word(words[at]);
+        at = at + 1;
+    }
+}
+
+// Writes what Fresh gave.
+fn fresh_given(freshened: Freshened, cache: &[u32]) {
+    let given = freshened.answer;
+    match given {
+        FreshAnswer::Done => {
+            text(b" done cleared");
+            answer(cleared(cache));
+        }
+        FreshAnswer::Refused(refusal) => refused(refusal),
+    }
+    record(freshened.store);
+}
+
+// Writes how many words Fresh is lent.
+fn fresh_text(nodes: usize, lookup: usize, cache: usize) {
+    text(b"Fresh");
+    length(nodes);
+    length(lookup);
+    length(cache);
+    text(b":");
+}
+
+// Fresh, and its line.
+fn fresh_line(nodes: &mut [u32], lookup: &mut [u32], cache: &mut [u32]) -> Freshened {
+    let freshened = fresh(nodes, lookup, cache);
+    fresh_text(nodes.len(), lookup.len(), cache.len());
+    fresh_given(freshened, cache);
+    sum_line(words(nodes, lookup));
+    freshened
 }
 
 // So many drawn calls.
@@ -105,6 +155,17 @@ fn calls(
         cache,
         file,
     )
+}
+
+// Writes all node words and the lookup, and whether the words past the whole cache groups are as before.
+fn words_text(nodes: &[u32], lookup: &[u32], cache: &[u32], before: u32) {
+    text(b"Nodes");
+    all_words(nodes);
+    text(b"\nLookup");
+    all_words(lookup);
+    text(b"\nSpare cache words kept");
+    answer(spare(cache) == before);
+    text(b"\n");
 }
 
 // A list on lent words.

@@ -1,8 +1,18 @@
 // Replays lists of calls that a fixed 32-bit xorshift draws, and writes one line for each call with its answer.
 mod audits;
+mod craft;
+mod draw;
 mod lend;
 mod lists;
+mod loads;
+mod members;
+mod output;
+mod path;
+mod placing;
+mod saves;
+mod sizes;
 mod subsets;
+mod sums;
 mod turn;
 
 fn main() {

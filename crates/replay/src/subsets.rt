@@ -1,13 +1,68 @@
 // All subsets of 1 to 64 items, and families of 2^64 - 1 members and of one more.
-use call_lines::lending::Lent;
-use call_lines::placing;
-use call_lines::sizes;
-use harness::operation::handle_of;
-use harness::subsets::Built;
-use harness::subsets::after;
-use harness::subsets::none;
-use harness::subsets::operation;
+use crate::lend::Lent;
+use crate::placing;
+use crate::placing::Operation;
+use crate::sizes;
+use store::record::PlaceAnswer;
 use store::record::Store;
+
+// A record; the handles of all subsets so far, of all but the empty one, and of what came last.
+struct Built {
+    store: Store,
+    all: u32,
+    less: u32,
+    last: u32,
+}
+
+// The operation of these numbers.
+fn of(op: u32, p: u32, q: u32) -> Operation {
+    Operation { op: op, p: p, q: q }
+}
+
+// The operation of a step: 64 times Change and Union; then 2^64 - 1 members and 2^64, each also with an item more.
+fn operation(step: u32, built: Built) -> Operation {
+    if step < 128 {
+        if step % 2 == 0 {
+            return of(3, built.all, step / 2 + 1);
+        }
+        return of(4, built.all, built.last);
+    }
+    match step {
+        128 => of(6, built.all, 1),
+        129 => of(3, built.less, 65),
+        130 => of(3, built.all, 65),
+        131 => of(3, 1, 65),
+        _ => of(4, built.less, built.last),
+    }
+}
+
+// The handle given; 0 for a refusal.
+fn handle_of(answer: PlaceAnswer) -> u32 {
+    match answer {
+        PlaceAnswer::Handle(handle) => handle,
+        PlaceAnswer::Refused(_) => 0,
+    }
+}
+
+// What a step leaves.
+fn after(step: u32, built: Built, store: Store, handle: u32) -> Built {
+    let mut all = built.all;
+    let mut less = built.less;
+    if step < 128 {
+        if step % 2 == 1 {
+            all = handle;
+        }
+    }
+    if step == 128 {
+        less = handle;
+    }
+    Built {
+        store: store,
+        all: all,
+        less: less,
+        last: handle,
+    }
+}
 
 // What is lent: everything.
 fn everything(store: Store, slots: usize, cache: usize) -> Lent {
@@ -39,7 +94,12 @@ fn stepped(
 
 // Writes the lines; gives the record after them.
 pub fn lines(store: Store, nodes: &mut [u32], lookup: &mut [u32], cache: &mut [u32]) -> Store {
-    let mut built = none(store);
+    let mut built = Built {
+        store: store,
+        all: 1,
+        less: 1,
+        last: 1,
+    };
     let mut step: u32 = 0;
     while step < 133 {
         built = stepped(step, built, nodes, lookup, cache);

@@ -1,31 +1,28 @@
 // One turn of a list: draws a call, runs it and writes its line.
 use crate::audits;
+use crate::craft::craft;
+use crate::craft::put;
+use crate::draw::Drawn;
+use crate::draw::at_most;
+use crate::draw::draw;
+use crate::draw::handle;
+use crate::draw::size_below;
 use crate::lend::lend;
 use crate::lend::scratch;
-use call_lines::loads;
-use call_lines::loads::Reading;
-use call_lines::loads::needed;
-use call_lines::members;
-use call_lines::output::length;
-use call_lines::output::word;
-use call_lines::placing;
-use call_lines::placing::next_record;
-use call_lines::saves;
-use call_lines::saves::Room;
-use call_lines::sizes;
-use drawing::craft::craft;
-use drawing::craft::put;
-use drawing::draw::Drawn;
-use drawing::draw::draw;
-use drawing::draw::handle;
-use drawing::draw::item;
-use drawing::draw::size_below;
-use drawing::members::combination;
-use harness::lent::at_most;
-use harness::operation::Operation;
-use harness::operation::of;
-use harness::output::bytes;
-use harness::output::text;
+use crate::loads;
+use crate::loads::Reading;
+use crate::loads::needed;
+use crate::loads::taken;
+use crate::members;
+use crate::output::length;
+use crate::output::text;
+use crate::output::word;
+use crate::placing;
+use crate::placing::drawn_operation;
+use crate::placing::next_record;
+use crate::saves;
+use crate::saves::Room;
+use crate::sizes;
 use store::record::Store;
 
 // The draw, the record last given back, and the length of the file in the buffer.
@@ -58,15 +55,6 @@ fn with_file(state: State, draw: u32, length: usize) -> State {
         store: store,
         length: length,
     }
-}
-
-// The operation that is drawn.
-fn drawn_operation(op: u32, drawn: Drawn, items: u32, count: u32) -> Operation {
-    let p = handle(drawn.a, count);
-    if op < 4 {
-        return of(op, p, item(drawn.b, items));
-    }
-    of(op, p, handle(drawn.b, count))
 }
 
 // An operation.
@@ -108,8 +96,8 @@ fn has(drawn: Drawn, manner: Manner, state: State, nodes: &[u32], lookup: &[u32]
     let store = state.store;
     let p = handle(drawn.a, store.count);
     let lent = lend(0, drawn.d, true, store, lookup.len(), 0);
-    let asked = combination(drawn, manner.items, nodes, p);
-    members::line(p, asked, lent, nodes, lookup);
+    let combination = members::combination(drawn, manner.items, nodes, p);
+    members::line(p, combination, lent, nodes, lookup);
     state
 }
 
@@ -132,24 +120,6 @@ fn save(drawn: Drawn, state: State, nodes: &[u32], lookup: &[u32], file: &mut [u
     };
     let last = saves::lines(p, room, lent, nodes, lookup, file, state.length);
     with_file(state, state.draw, last)
-}
-
-// How many bytes are read: mostly the last file's, seldom none, one less, one more, or any number.
-fn taken(x: u32, last: usize, all: usize) -> usize {
-    let way = x % 16;
-    if way == 0 {
-        return 0;
-    }
-    if way == 1 {
-        return std::num::wrapping_sub_usize(last, 1);
-    }
-    if way == 2 {
-        return std::num::wrapping_add_usize(last, 1);
-    }
-    if way == 3 {
-        return size_below(x / 16, std::num::wrapping_add_usize(all, 1));
-    }
-    last
 }
 
 // Load.
@@ -205,7 +175,7 @@ fn audit(
 fn crafted(drawn: Drawn, state: State, file: &mut [u8]) -> State {
     let made = craft(file, drawn);
     text(b"Craft");
-    bytes(file, made.length);
+    saves::bytes(file, made.length);
     text(b"\n");
     with_file(state, made.draw, made.length)
 }

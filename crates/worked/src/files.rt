@@ -1,11 +1,11 @@
 // Save and Load, with the file in hexadecimal.
+ghost use Prim.Native.Nat.{_≤_};
 use crate::line::given;
 use crate::line::refused;
-use harness::lent::at_most;
-use harness::output::bytes;
-use harness::output::decimal;
-use harness::output::text;
-use harness::output::word;
+use crate::output::bytes;
+use crate::output::decimal;
+use crate::output::text;
+use crate::output::word;
 use loading::load;
 use saving::SaveAnswer;
 use saving::Saved;
@@ -47,6 +47,16 @@ fn end_of(k: u32) -> usize {
         3 => 29,
         _ => 34,
     }
+}
+
+// The smaller number.
+fn at_most(n: usize, most: usize) -> usize
+    ensures { λ r. ⌜ r ≤ most ⌝ }
+{
+    if most < n {
+        return most;
+    }
+    n
 }
 
 // The file of this number, from 1 on.

@@ -1,16 +1,51 @@
 // A larger store: all subsets of 63 and of 64 items, and the first and the last item.
 use crate::line::lines;
+use crate::operation::Operation;
+use crate::operation::handle_of;
+use crate::operation::of;
+use crate::operation::run;
+use crate::output::text;
+use crate::output::word;
 use crate::questions::size_given;
 use fresh::fresh;
-use harness::operation::handle_of;
-use harness::operation::run;
-use harness::output::text;
-use harness::output::word;
-use harness::subsets::Built;
-use harness::subsets::after;
-use harness::subsets::none;
-use harness::subsets::operation;
 use store::record::Store;
+
+// A record, and the handles of all subsets so far and of what came last.
+struct Built {
+    store: Store,
+    all: u32,
+    last: u32,
+}
+
+// What comes before the first step: the empty combination is the only subset of no items.
+fn none(store: Store) -> Built {
+    Built {
+        store: store,
+        all: 1,
+        last: 1,
+    }
+}
+
+// The operation of a step: Change of all subsets so far by the next item, then Union of the two.
+fn operation(step: u32, built: Built) -> Operation {
+    if step % 2 == 0 {
+        return of(3, built.all, step / 2 + 1);
+    }
+    of(4, built.all, built.last)
+}
+
+// What a step leaves.
+fn after(step: u32, built: Built, store: Store, handle: u32) -> Built {
+    let mut all = built.all;
+    if step % 2 == 1 {
+        all = handle;
+    }
+    Built {
+        store: store,
+        all: all,
+        last: handle,
+    }
+}
 
 // Runs the operation of a step.
 fn stepped(

@@ -1,11 +1,11 @@
 // The lines of the six operations: the call, and what it gave.
-use harness::operation::Operation;
-use harness::operation::name;
-use harness::operation::of;
-use harness::operation::run;
-use harness::output::refusal;
-use harness::output::text;
-use harness::output::word;
+use crate::operation::Operation;
+use crate::operation::name;
+use crate::operation::of;
+use crate::operation::run;
+use crate::output::refusal;
+use crate::output::text;
+use crate::output::word;
 use store::record::PlaceAnswer;
 use store::record::Placed;
 use store::record::Refusal;

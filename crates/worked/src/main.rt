@@ -2,6 +2,8 @@
 mod files;
 mod large;
 mod line;
+mod operation;
+mod output;
 mod questions;
 mod small;
 

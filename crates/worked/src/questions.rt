@@ -1,11 +1,11 @@
 // Size and Has.
 use crate::line::refused;
+use crate::output::decimal;
+use crate::output::text;
+use crate::output::word;
 use combination::Combination;
 use counting::SizeAnswer;
 use counting::size;
-use harness::output::decimal;
-use harness::output::text;
-use harness::output::word;
 use membership::Asked;
 use membership::HasAnswer;
 use membership::has;

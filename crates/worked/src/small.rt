@@ -3,13 +3,13 @@ use crate::files::load_lines;
 use crate::files::save_line;
 use crate::line::lines;
 use crate::line::refused;
+use crate::output::decimal;
+use crate::output::text;
+use crate::output::word;
 use crate::questions::has_line;
 use fresh::FreshAnswer;
 use fresh::Freshened;
 use fresh::fresh;
-use harness::output::decimal;
-use harness::output::text;
-use harness::output::word;
 use store::record::Store;
 use table::start::start_slot;
 

@@ -18,8 +18,8 @@ loop-holds c = search needs
 next-requires : tie.Need-next-requires Inv-loop μ-loop
 next-requires c κs = search needs
 
-run-requires : tie.Need-run-requires Inv-loop μ-loop
-run-requires c κs = search needs
+run-call-requires : tie.Need-run-call-requires Inv-loop μ-loop
+run-call-requires c κs = search needs
 
 after-requires : tie.Need-after-requires Inv-loop μ-loop
 after-requires c κs = search needs
@@ -53,7 +53,7 @@ calls-spec =
     μ-loop
     loop-holds
     next-requires
-    run-requires
+    run-call-requires
     after-requires
     sub-left
     loop-less

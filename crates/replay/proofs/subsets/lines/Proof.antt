@@ -1,5 +1,5 @@
 -- `lines` is safe and ends: the measure is the number of steps that are left.
--- Each turn keeps the lengths of the lent words, and the number of the step stays below 134.
+-- Each turn keeps the lengths of the lent words, and the step stays below 134.
 use mathlib.Core.Path.{_≡_}
 use Prim.Native.Nat.{_-_, _≤_}
 use lib.ListN.{length}
@@ -12,9 +12,6 @@ Inv-loop nodes₀ lookup₀ cache₀ built₀ step₀ nodes lookup cache built s
 
 abbrev μ-loop : tie.MeasureT-loop
 μ-loop nodes₀ lookup₀ cache₀ built₀ step₀ nodes lookup cache built step = 133 - step
-
-none-requires : tie.Need-none-requires Inv-loop μ-loop
-none-requires c κs = search needs
 
 loop-holds : tie.Need-loop-holds Inv-loop μ-loop
 loop-holds c = search needs
@@ -49,7 +46,6 @@ lines-spec =
     (tie.spec
     Inv-loop
     μ-loop
-    none-requires
     loop-holds
     stepped-requires
     add-step
