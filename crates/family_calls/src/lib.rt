@@ -4,10 +4,10 @@ ghost use Rattle.operations.specs.Promise.{OperationCall};
 use cache::Call;
 use families::apply;
 use families::larger;
+use operations::Test;
 use operations::tested;
 use rollback::finish;
 use store::node::top_of;
-use store::record::PlaceAnswer;
 use store::record::Placed;
 use store::record::Refusal;
 use store::record::Store;
@@ -25,8 +25,8 @@ fn of_families(
     requires { ⌜ (4 ≤ op) × (op ≤ 6) ⌝ }
     ensures { λ r. ⌜ OperationCall op p q store (now (nodes .entry)) (now (lookup .entry)) (now (cache .entry)) r (now (nodes .exit)) (now (lookup .exit)) (now (cache .exit)) ⌝ }
 {
-    let answer = tested(op, store, nodes.len(), lookup.len(), p, q);
-    if let PlaceAnswer::Refused(refusal) = answer {
+    let found = tested(op, store, nodes.len(), lookup.len(), p, q);
+    if let Test::Refuses(refusal) = found {
         return store.refused(refusal);
     }
     let count = store.count;

@@ -3,10 +3,10 @@ ghost use Prim.Native.Nat.{_≤_};
 ghost use Rattle.operations.specs.Promise.{OperationCall};
 use cache::Call;
 use items::restrict;
+use operations::Test;
 use operations::tested;
 use rollback::finish;
 use store::node::top_of;
-use store::record::PlaceAnswer;
 use store::record::Placed;
 use store::record::Refusal;
 use store::record::Store;
@@ -24,8 +24,8 @@ fn of_item(
     requires { ⌜ (1 ≤ op) × (op ≤ 3) ⌝ }
     ensures { λ r. ⌜ OperationCall op p item store (now (nodes .entry)) (now (lookup .entry)) (now (cache .entry)) r (now (nodes .exit)) (now (lookup .exit)) (now (cache .exit)) ⌝ }
 {
-    let answer = tested(op, store, nodes.len(), lookup.len(), p, item);
-    if let PlaceAnswer::Refused(refusal) = answer {
+    let found = tested(op, store, nodes.len(), lookup.len(), p, item);
+    if let Test::Refuses(refusal) = found {
         return store.refused(refusal);
     }
     let count = store.count;

@@ -14,11 +14,10 @@ use Rattle.family.specs.Book.{at}
 use Rattle.store.specs.declared.record.Store.{Store}
 use Rattle.store.specs.declared.record.Refusal.{Refusal}
 use Rattle.store.specs.declared.record.Refusal.the-variants.{Damaged}
-use Rattle.store.specs.declared.record.PlaceAnswer.{PlaceAnswer}
-use Rattle.store.specs.declared.record.PlaceAnswer.the-variants.{Handle, Refused}
+use Rattle.store.specs.declared.record.PlaceAnswer.the-variants.{Refused}
 use Rattle.store.specs.declared.record.Placed.{Placed}
 use Rattle.store.specs.Capacity.{fitting}
-use Rattle.store.specs.Refusals.{refusalNumber, givenBy}
+use Rattle.store.specs.Refusals.{refusalNumber}
 use Rattle.store.specs.Words.{itemLimit, topAt, bookOf}
 use Rattle.store.specs.Cache.{named}
 use Rattle.store.specs.Sound.{Sound}
@@ -27,7 +26,10 @@ use Rattle.store.proofs.Held.{top-at, within}
 use Rattle.store.proofs.Decoding.{sound-holds}
 use Rattle.store.proofs.Calls.{fits-roomy, call-misfit, call-unsound, call-refused, call-done}
 use Rattle.cache.specs.declared.Call.{Call}
+use Rattle.operations.specs.declared.Test.{Test}
+use Rattle.operations.specs.declared.Test.the-variants.{Clear, Refuses}
 use Rattle.operations.specs.Promise.{isItem, operationRefusal, OperationCall}
+use Rattle.operations.specs.Tests.{testNumber}
 use Rattle.recursion.proofs.Steps.{of}
 
 module _ (op n p q : ℕ) where
@@ -121,18 +123,18 @@ module _ (op p q : ℕ) (s : Store) (nodes lookup : List ℕ) where
       }
 
   -- the two answers of `tested`
-  module _ {a : PlaceAnswer} (T : givenBy a .refusal ≡ cond (fitting (s .capacity) (s .count) (length nodes) (length lookup)) (operationRefusal op (s .count) p q) 10) where
-    pub passed-tests : {h : ℕ} → a ≡ Handle h → Passed op p q s nodes lookup
+  module _ {a : Test} (T : testNumber a ≡ cond (fitting (s .capacity) (s .count) (length nodes) (length lookup)) (operationRefusal op (s .count) p q) 10) where
+    pub passed-tests : a ≡ Clear → Passed op p q s nodes lookup
     passed-tests e =
         by-test (fitting (s .capacity) (s .count) (length nodes) (length lookup))
-        (λ t. passed-none t (sym (sym (ap (λ b. givenBy b .refusal) e) ∙ T ∙ rw t)))
-        (λ t. absurd (let z : 0 ≡ 10 = sym (ap (λ b. givenBy b .refusal) e) ∙ T ∙ rw t in omega arith))
+        (λ t. passed-none t (sym (sym (ap testNumber e) ∙ T ∙ rw t)))
+        (λ t. absurd (let z : 0 ≡ 10 = sym (ap testNumber e) ∙ T ∙ rw t in omega arith))
 
-    pub refused-tests : {x : Refusal} → a ≡ Refused x → (cache : List ℕ) (r : Placed) → r .store ≡ s → r .answer ≡ Refused x → OperationCall op p q s nodes lookup cache r nodes lookup cache
+    pub refused-tests : {x : Refusal} → a ≡ Refuses x → (cache : List ℕ) (r : Placed) → r .store ≡ s → r .answer ≡ Refused x → OperationCall op p q s nodes lookup cache r nodes lookup cache
     refused-tests {x} e cache r es ea =
         by-test (fitting (s .capacity) (s .count) (length nodes) (length lookup))
-        (λ t. call-refused s nodes lookup cache (operationRefusal op (s .count) p q) _ r x t (sym (ap (λ b. givenBy b .refusal) e) ∙ T ∙ rw t) (not-five op (s .count) p q) es ea)
-        (λ t. call-misfit s nodes lookup cache _ _ r t es (ea ∙ ap Refused (only-damaged x (sym (ap (λ b. givenBy b .refusal) e) ∙ T ∙ rw t))))
+        (λ t. call-refused s nodes lookup cache (operationRefusal op (s .count) p q) _ r x t (sym (ap testNumber e) ∙ T ∙ rw t) (not-five op (s .count) p q) es ea)
+        (λ t. call-misfit s nodes lookup cache _ _ r t es (ea ∙ ap Refused (only-damaged x (sym (ap testNumber e) ∙ T ∙ rw t))))
 
   module _ (P : Passed op p q s nodes lookup) (cache : List ℕ) where
     -- a top above the limit

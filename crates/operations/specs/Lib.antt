@@ -1,2 +1,3 @@
 -- What the contracts of `operations` cite.
 pub mod Promise
+pub mod Tests

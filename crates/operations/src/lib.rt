@@ -2,33 +2,38 @@
 ghost use mathlib.Core.Path.{_≡_};
 ghost use mathlib.Core.Bool.{cond};
 ghost use Rattle.store.specs.Capacity.{fitting};
-ghost use Rattle.store.specs.Refusals.{givenBy};
 ghost use Rattle.operations.specs.Promise.{operationRefusal};
-use store::record::PlaceAnswer;
+ghost use Rattle.operations.specs.Tests.{testNumber};
 use store::record::Refusal;
 use store::record::Store;
 
-// What refuses operation `op` on p and q, over words of these lengths; p where nothing does.
-pub fn tested(op: u32, store: Store, nodes: usize, lookup: usize, p: u32, q: u32) -> PlaceAnswer
-    ensures { λ r. ⌜ givenBy r .refusal ≡ cond (fitting (store .capacity) (store .count) nodes lookup) (operationRefusal op (store .count) p q) 10 ⌝ }
+// What the tests before a call find: nothing, or what refuses it.
+pub enum Test {
+    Clear,
+    Refuses(Refusal),
+}
+
+// What refuses operation `op` on p and q, over words of these lengths.
+pub fn tested(op: u32, store: Store, nodes: usize, lookup: usize, p: u32, q: u32) -> Test
+    ensures { λ r. ⌜ testNumber r ≡ cond (fitting (store .capacity) (store .count) nodes lookup) (operationRefusal op (store .count) p q) 10 ⌝ }
 {
     if !store.fits(nodes, lookup) {
-        return PlaceAnswer::Refused(Refusal::Damaged);
+        return Test::Refuses(Refusal::Damaged);
     }
     if !store.holds(p) {
-        return PlaceAnswer::Refused(Refusal::Handle);
+        return Test::Refuses(Refusal::Handle);
     }
     if 4 <= op {
         if !store.holds(q) {
-            return PlaceAnswer::Refused(Refusal::Handle);
+            return Test::Refuses(Refusal::Handle);
         }
-        return PlaceAnswer::Handle(p);
+        return Test::Clear;
     }
     if q < 1 {
-        return PlaceAnswer::Refused(Refusal::Item);
+        return Test::Refuses(Refusal::Item);
     }
     if 512 < q {
-        return PlaceAnswer::Refused(Refusal::Item);
+        return Test::Refuses(Refusal::Item);
     }
-    PlaceAnswer::Handle(p)
+    Test::Clear
 }

@@ -35,15 +35,15 @@ told·After-slice-known9 c = c .before .before .before .before .before .before .
 tested-requires : tie.Need-tested-requires
 tested-requires c κs = search needs
 
-enum-known-answer : tie.Need-enum-known-answer
-enum-known-answer c = search needs
+enum-known-found : tie.Need-enum-known-found
+enum-known-found c = search needs
 
 refused-requires : tie.Need-refused-requires
 refused-requires c κs = search needs
 
 returns : tie.Need-returns
 returns c =
-    refused-tests _ _ _ _ _ _ ((c .before .before .before .before) .tested .ensures) (((c .before .before) .answer .given .1)) _ (c .refused .result) (c .refused .ensures .0) (c .refused .ensures .1)
+    refused-tests _ _ _ _ _ _ ((c .before .before .before .before) .tested .ensures) (((c .before .before) .found .given .1)) _ (c .refused .result) (c .refused .ensures .0) (c .refused .ensures .1)
 
 enum-told : tie.Need-enum-told
 enum-told c = search needs
@@ -93,7 +93,7 @@ of-item-spec =
     tie.close
     (tie.spec
     tested-requires
-    enum-known-answer
+    enum-known-found
     refused-requires
     returns
     enum-told
