@@ -20,6 +20,7 @@ use store::record::Store;
 use terminal::families::ordered;
 use terminal::families::shortcut;
 
+// The larger number.
 pub fn larger(a: u32, b: u32) -> u32
     ensures { λ r. ⌜ r ≡ max a b ⌝ }
 {
