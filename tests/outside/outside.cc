@@ -1,4 +1,4 @@
-// The comparison runs' other side: draws the same lists of calls as the crate `replay` and works out every answer from
+// The comparison runs' other side: draws the same lists of calls as the crate `run_replay` and works out every answer from
 // document 01 alone. The families are CUDD's zero-suppressed diagrams; nothing of this library is used.
 #include "crafting.h"
 

@@ -1,2 +1,2 @@
 -- What the contracts of `c_records` cite.
-pub mod Shown
+pub mod Promise

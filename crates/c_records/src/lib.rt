@@ -1,16 +1,16 @@
 // The answers as C sees them. The record is the same for C.
 ghost use mathlib.Core.Path.{_≡_};
 ghost use Rattle.store.specs.Refusals.{refusalNumber};
-ghost use Rattle.c_records.specs.Shown.{freshenedOf, placedOf, measuredOf, askedOf, savedOf, auditedOf};
-use audit::Audited;
-use counting::Measured;
-use counting::SizeAnswer;
-use fresh::FreshAnswer;
-use fresh::Freshened;
-use membership::Asked;
-use membership::HasAnswer;
-use saving::SaveAnswer;
-use saving::Saved;
+ghost use Rattle.c_records.specs.Promise.{freshenedOf, placedOf, measuredOf, askedOf, savedOf, auditedOf};
+use store_audit::audit::Audited;
+use query_size::Measured;
+use query_size::SizeAnswer;
+use store_fresh::FreshAnswer;
+use store_fresh::Freshened;
+use query_has::Asked;
+use query_has::HasAnswer;
+use file_save::SaveAnswer;
+use file_save::Saved;
 use store::record::PlaceAnswer;
 use store::record::Placed;
 use store::record::Refusal;

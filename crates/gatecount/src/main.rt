@@ -2,7 +2,7 @@
 use libc::STDIN_FILENO;
 
 fn main() {
-    if !gate::report_on(STDIN_FILENO, 65536) {
+    if !report_run::report::report_on(STDIN_FILENO, 65536) {
         os::fail(b"gatecount");
     }
 }

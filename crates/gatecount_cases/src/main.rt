@@ -7,7 +7,7 @@ fn report_on(i: usize) {
     io::write_all(STDOUT_FILENO, &path[..length]);
     io::write_all(STDOUT_FILENO, b":\n");
     let fd = os::open_read(&path[..length]);
-    if !gate::report_on(fd, 7) {
+    if !report_run::report::report_on(fd, 7) {
         os::fail(&path[..length]);
     }
     libc::close(fd);

@@ -22,7 +22,7 @@ use Rattle.family.proofs.Orders.{and-then-inv, cond-inv}
 use Rattle.family.proofs.Reading.{fits-next, book-next}
 use Rattle.store.specs.Words.{itemLimit}
 use Rattle.store.specs.Cache.{restrict, rule, named}
-use Rattle.operations.specs.Promise.{isItem}
+use Rattle.op_promise.specs.Promise.{isItem}
 use Rattle.lists.specs.Calls.{Operation, Subset1, Subset0, Change, Union, Intsec, Diff, numberOf, takesItem}
 use Rattle.lists.specs.Table.{operated}
 

@@ -17,16 +17,16 @@ use Rattle.store.specs.Words.{itemLimit, bookOf}
 use Rattle.store.specs.Cache.{named, True}
 use Rattle.store.specs.Sound.{Sound}
 use Rattle.store.proofs.Sounds.{zeroed-true}
-use Rattle.operations.specs.Promise.{operationRefusal, OperationCall}
-use Rattle.counting.specs.declared.Measured.{Measured}
-use Rattle.membership.specs.declared.Asked.{Asked}
-use Rattle.counting.specs.Sizes.{sizeGivenBy, sizeAnswer, SizeCall}
-use Rattle.membership.specs.Membership.{hasGivenBy, hasAnswer, HasCall}
-use Rattle.saving.specs.declared.Saved.{Saved}
-use Rattle.saving.specs.Promise.{saveGivenBy, saveAnswer, saveOutput, SaveCall}
-use Rattle.loading.specs.Promise.{loadRefusal, loadFamily, LoadCall}
-use Rattle.audit.specs.declared.Audited.{Audited}
-use Rattle.audit.specs.Promise.{AuditCall}
+use Rattle.op_promise.specs.Promise.{operationRefusal, OperationCall}
+use Rattle.query_size.specs.declared.Measured.{Measured}
+use Rattle.query_has.specs.declared.Asked.{Asked}
+use Rattle.query_size.specs.Promise.{sizeGivenBy, sizeAnswer, SizeCall}
+use Rattle.query_has.specs.Promise.{hasGivenBy, hasAnswer, HasCall}
+use Rattle.file_save.specs.declared.Saved.{Saved}
+use Rattle.file_save.specs.Promise.{saveGivenBy, saveAnswer, saveOutput, SaveCall}
+use Rattle.file_load.specs.Promise.{loadRefusal, loadFamily, LoadCall}
+use Rattle.store_audit.specs.declared.audit.Audited.{Audited}
+use Rattle.store_audit.specs.Promise.{AuditCall}
 use Rattle.lists.specs.Calls.{Operation, numberOf, Call, Operate, Size, Has, Save, Load, Audit, Answer}
 use Rattle.lists.specs.Table.{count, operated}
 use Rattle.lists.specs.Books.{takenBy, answerOf}

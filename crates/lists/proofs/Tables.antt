@@ -17,12 +17,12 @@ use Rattle.family.specs.File.{fileOf, familyOf}
 use Rattle.store.specs.Words.{itemLimit}
 use Rattle.store.specs.Placing.{tooLarge}
 use Rattle.store.specs.Scratch.{scratchTests}
-use Rattle.operations.specs.Promise.{isItem, operationRefusal}
-use Rattle.node_sizes.specs.NodeSizes.{most}
-use Rattle.counting.specs.Sizes.{sizeRefusal, sizeAnswer}
-use Rattle.membership.specs.Membership.{hasAnswer}
-use Rattle.saving.specs.Promise.{saveRefusal, saveAnswer, saveOutput}
-use Rattle.loading.specs.Promise.{noFile, loadRefusal, found, loadFamily}
+use Rattle.op_promise.specs.Promise.{isItem, operationRefusal}
+use Rattle.query_sizes.specs.NodeSizes.{most}
+use Rattle.query_size.specs.Promise.{sizeRefusal, sizeAnswer}
+use Rattle.query_has.specs.Promise.{hasAnswer}
+use Rattle.file_save.specs.Promise.{saveRefusal, saveAnswer, saveOutput}
+use Rattle.file_load.specs.Promise.{noFile, loadRefusal, found, loadFamily}
 use Rattle.lists.specs.Calls.{Operation, Subset1, Subset0, Change, Union, Intsec, Diff, numberOf, takesItem, Call, Operate, Size, Has, Save, Load, Audit}
 use Rattle.lists.specs.Table.{count, above, operated, fileRefusal, refusalOf}
 use Rattle.lists.specs.Books.{takenBy, answerOf, bookAfter}

@@ -19,7 +19,7 @@ use Rattle.store.specs.Words.{wordsOf, lookupOf}
 use Rattle.store.specs.Placing.{tooLarge, costOf}
 use Rattle.store.specs.Inner.{Holds}
 use Rattle.store.proofs.Encoding.{encoded, looked-up}
-use Rattle.operations.specs.Promise.{isItem}
+use Rattle.op_promise.specs.Promise.{isItem}
 use Rattle.lists.specs.Calls.{Answer}
 use Rattle.lists.specs.Table.{refusalOf}
 use Rattle.lists.specs.Books.{answerOf, bookAfter, answersOf, bookOfCalls}

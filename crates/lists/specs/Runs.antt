@@ -7,19 +7,19 @@ use lib.ListN.{length, take, drop}
 use Rattle.family.specs.Combination.{itemsOf}
 use Rattle.store.specs.declared.record.Store.{Store}
 use Rattle.store.specs.declared.record.Placed.{Placed}
-use Rattle.fresh.specs.declared.Freshened.{Freshened}
+use Rattle.store_fresh.specs.declared.Freshened.{Freshened}
 use Rattle.store.specs.Refusals.{Given, givenBy}
-use Rattle.fresh.specs.Fresh.{freshNumber, FreshCall}
-use Rattle.operations.specs.Promise.{OperationCall}
-use Rattle.counting.specs.declared.Measured.{Measured}
-use Rattle.membership.specs.declared.Asked.{Asked}
-use Rattle.counting.specs.Sizes.{SizeGiven, sizeGivenBy, SizeCall}
-use Rattle.membership.specs.Membership.{HasGiven, hasGivenBy, HasCall}
-use Rattle.saving.specs.declared.Saved.{Saved}
-use Rattle.saving.specs.Promise.{SaveGiven, saveGivenBy, SaveCall}
-use Rattle.loading.specs.Promise.{LoadCall}
-use Rattle.audit.specs.declared.Audited.{Audited}
-use Rattle.audit.specs.Promise.{AuditCall}
+use Rattle.store_fresh.specs.Promise.{freshNumber, FreshCall}
+use Rattle.op_promise.specs.Promise.{OperationCall}
+use Rattle.query_size.specs.declared.Measured.{Measured}
+use Rattle.query_has.specs.declared.Asked.{Asked}
+use Rattle.query_size.specs.Promise.{SizeGiven, sizeGivenBy, SizeCall}
+use Rattle.query_has.specs.Promise.{HasGiven, hasGivenBy, HasCall}
+use Rattle.file_save.specs.declared.Saved.{Saved}
+use Rattle.file_save.specs.Promise.{SaveGiven, saveGivenBy, SaveCall}
+use Rattle.file_load.specs.Promise.{LoadCall}
+use Rattle.store_audit.specs.declared.audit.Audited.{Audited}
+use Rattle.store_audit.specs.Promise.{AuditCall}
 use Rattle.lists.specs.Calls.{Operation, numberOf, Call, Operate, Size, Has, Save, Load, Audit, Answer}
 
 -- what a call comes to and leaves: the record last given back, and Fresh's words

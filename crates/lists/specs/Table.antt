@@ -11,8 +11,8 @@ use Rattle.family.specs.Book.{at}
 use Rattle.family.specs.File.{fileOf, familyOf}
 use Rattle.store.specs.Words.{itemLimit}
 use Rattle.store.specs.Placing.{tooLarge}
-use Rattle.operations.specs.Promise.{isItem}
-use Rattle.node_sizes.specs.NodeSizes.{most}
+use Rattle.op_promise.specs.Promise.{isItem}
+use Rattle.query_sizes.specs.NodeSizes.{most}
 use Rattle.lists.specs.Calls.{Operation, Subset1, Subset0, Change, Union, Intsec, Diff, takesItem, Call, Operate, Size, Has, Save, Load, Audit}
 
 -- "the count is the book's length less 2"

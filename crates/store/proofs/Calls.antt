@@ -15,7 +15,7 @@ use Rattle.family.proofs.Different.{place-length}
 use Rattle.words.specs.Words.{zeroed}
 use Rattle.words.proofs.Cases.{by-lt, clash}
 use Rattle.words.proofs.Zeroed.{rest-drop, zeroed-length, zeroed-inside, zeroed-after, zeroed-drop}
-use Rattle.own_slots.proofs.OwnSlots.{cleared-length}
+use Rattle.table.proofs.OwnSlots.{cleared-length}
 use Rattle.store.specs.declared.record.Store.{Store}
 use Rattle.store.specs.declared.record.Refusal.{Refusal}
 use Rattle.store.specs.declared.record.Refusal.the-variants.{Full, Damaged}

@@ -12,7 +12,7 @@ use Rattle.family.specs.Book.{at, number, Held}
 use Rattle.family.proofs.Books.{held-at, number-at}
 use Rattle.words.proofs.Cases.{by-lt}
 use Rattle.table.proofs.Stops.{Has}
-use Rattle.own_slots.proofs.OwnSlots.{Distinct, Items}
+use Rattle.table.proofs.OwnSlots.{Distinct, Items}
 use Rattle.store.specs.Words.{itemLimit, topAt}
 use Rattle.store.specs.Inner.{Entry, Holds}
 

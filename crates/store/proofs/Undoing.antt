@@ -11,8 +11,8 @@ use Rattle.words.specs.Words.{zeroed}
 use Rattle.words.proofs.Cases.{by-lt}
 use Rattle.words.proofs.Zeroed.{zeroed-length, zeroed-before, zeroed-inside, zeroed-after}
 use Rattle.table.specs.Entered.{entered, startAt}
-use Rattle.own_slots.specs.Own.{cleared}
-use Rattle.own_slots.proofs.OwnSlots.{Distinct, Items, rolled-back}
+use Rattle.table.specs.Own.{cleared}
+use Rattle.table.proofs.OwnSlots.{Distinct, Items, rolled-back}
 use Rattle.store.specs.declared.record.Store.{Store}
 use Rattle.store.specs.Inner.{Roomy, Holds, Kept, RolledBack}
 use Rattle.store.proofs.Held.{words-apart, words-items}

@@ -8,7 +8,7 @@ use Rattle.family.specs.Operation.{lacking, holding}
 use Rattle.family.specs.Book.{at, place, made, Book}
 use Rattle.words.specs.Words.{zeroed}
 use Rattle.table.specs.Entered.{entered, startAt}
-use Rattle.own_slots.specs.Own.{cleared}
+use Rattle.table.specs.Own.{cleared}
 use Rattle.store.specs.declared.record.Store.{Store}
 use Rattle.store.specs.declared.record.Refusal.{Refusal}
 use Rattle.store.specs.declared.record.Refusal.the-variants.{Full}

@@ -1,3 +1,5 @@
+-- What the contracts of `table` cite.
+pub mod Own
 pub mod Start
 pub mod Probe
 pub mod Entered

@@ -1,4 +1,5 @@
-// The unique table on bare words: mixing numbers, start slots, the probe.
+// The unique table on bare words: mixing numbers, start slots, the probe; the slots of the newest nodes.
 pub mod mix;
+pub mod own_slots;
 pub mod probe;
 pub mod start;

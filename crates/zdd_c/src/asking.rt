@@ -1,16 +1,16 @@
 // Size and Has.
 ghost use Rattle.family.specs.Combination.{itemsOf};
-ghost use Rattle.membership.specs.Membership.{HasCall};
-ghost use Rattle.counting.specs.Sizes.{SizeCall};
-ghost use Rattle.c_records.specs.Shown.{measuredOf, askedOf};
-ghost use Rattle.zdd_c.specs.Export.{Exported};
+ghost use Rattle.query_has.specs.Promise.{HasCall};
+ghost use Rattle.query_size.specs.Promise.{SizeCall};
+ghost use Rattle.c_records.specs.Promise.{measuredOf, askedOf};
+ghost use Rattle.zdd_c.specs.Promise.{Exported};
 use c_records::CAsked;
 use c_records::CMeasured;
 use c_records::asked;
 use c_records::measured;
 use combination::Combination;
-use counting::size;
-use membership::has;
+use query_size::size;
+use query_has::has;
 use store::record::Store;
 
 // The number of members of p; the scratch then holds the size of every node held.

@@ -1,8 +1,8 @@
 // Audit.
-ghost use Rattle.audit.specs.Promise.{AuditCall};
-ghost use Rattle.c_records.specs.Shown.{auditedOf};
-ghost use Rattle.zdd_c.specs.Export.{Exported};
-use audit::audit;
+ghost use Rattle.store_audit.specs.Promise.{AuditCall};
+ghost use Rattle.c_records.specs.Promise.{auditedOf};
+ghost use Rattle.zdd_c.specs.Promise.{Exported};
+use store_audit::audit::audit;
 use c_records::CAudited;
 use c_records::audited;
 use store::record::Store;

@@ -1,14 +1,14 @@
 // Save and Load.
-ghost use Rattle.loading.specs.Promise.{LoadCall};
-ghost use Rattle.saving.specs.Promise.{SaveCall};
-ghost use Rattle.c_records.specs.Shown.{placedOf, savedOf};
-ghost use Rattle.zdd_c.specs.Export.{Exported};
+ghost use Rattle.file_load.specs.Promise.{LoadCall};
+ghost use Rattle.file_save.specs.Promise.{SaveCall};
+ghost use Rattle.c_records.specs.Promise.{placedOf, savedOf};
+ghost use Rattle.zdd_c.specs.Promise.{Exported};
 use c_records::CPlaced;
 use c_records::CSaved;
 use c_records::placed;
 use c_records::saved;
-use loading::load;
-use saving::save;
+use file_load::load;
+use file_save::save;
 use store::record::Store;
 
 // Writes the file of p to the front of the output, and gives its length.

@@ -1,13 +1,13 @@
 // Fresh, Empty and Base.
 ghost use mathlib.Core.Path.{_≡_};
-ghost use Rattle.fresh.specs.Fresh.{FreshCall};
-ghost use Rattle.c_records.specs.Shown.{freshenedOf};
-ghost use Rattle.zdd_c.specs.Export.{Exported};
+ghost use Rattle.store_fresh.specs.Promise.{FreshCall};
+ghost use Rattle.c_records.specs.Promise.{freshenedOf};
+ghost use Rattle.zdd_c.specs.Promise.{Exported};
 use c_records::CFreshened;
 use c_records::freshened;
-use fresh::base;
-use fresh::empty;
-use fresh::fresh;
+use store_fresh::base;
+use store_fresh::empty;
+use store_fresh::fresh;
 
 // Makes an empty store of the lent words.
 #[no_mangle]

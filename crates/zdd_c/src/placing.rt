@@ -1,15 +1,15 @@
 // The six operations.
-ghost use Rattle.operations.specs.Promise.{OperationCall};
-ghost use Rattle.c_records.specs.Shown.{placedOf};
-ghost use Rattle.zdd_c.specs.Export.{Exported};
+ghost use Rattle.op_promise.specs.Promise.{OperationCall};
+ghost use Rattle.c_records.specs.Promise.{placedOf};
+ghost use Rattle.zdd_c.specs.Promise.{Exported};
 use c_records::CPlaced;
 use c_records::placed;
-use family_calls::diff;
-use family_calls::intsec;
-use family_calls::union;
-use item_calls::change;
-use item_calls::subset0;
-use item_calls::subset1;
+use op_families::calls::diff;
+use op_families::calls::intsec;
+use op_families::calls::union;
+use op_items::calls::change;
+use op_items::calls::subset0;
+use op_items::calls::subset1;
 use store::record::Store;
 
 // The members of p with the item, the item taken out.

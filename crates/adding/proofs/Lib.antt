@@ -1,3 +1,0 @@
--- The laws of `adding`.
-pub mod Placings
-pub mod Makings

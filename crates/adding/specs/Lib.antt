@@ -1,3 +1,0 @@
--- What the contracts of `adding` cite.
-pub mod Adding
-pub mod Inner

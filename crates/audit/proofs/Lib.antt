@@ -1,4 +1,0 @@
--- The laws of Audit, lowest first.
-pub mod Rows
-pub mod Entering
-pub mod Verdict

@@ -1,2 +1,0 @@
--- The laws of `counting`.
-pub mod Answering

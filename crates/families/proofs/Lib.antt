@@ -1,2 +1,0 @@
--- The laws of `families`.
-pub mod Forks

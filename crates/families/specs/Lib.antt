@@ -1,2 +1,0 @@
--- What the contracts of `families` cite.
-pub mod Fork

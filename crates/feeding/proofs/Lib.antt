@@ -1,2 +1,0 @@
--- The laws of `feeding`.
-pub mod Onward

@@ -1,2 +1,0 @@
--- What the contracts of `feeding` cite.
-pub mod Following

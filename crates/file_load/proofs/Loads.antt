@@ -1,0 +1,151 @@
+-- Each way out of `load` keeps its promise: refused as damaged, for its scratch or for its bytes, or with the file's family placed.
+-- What the bytes hold decides the promise's own tests, and placing ends as for every call.
+use Prim.Native.Nat.{ℕ, suc, _+_, _*_, _-_, _/_, _≤_, _<_}
+use mathlib.Core.Path.{_≡_, refl, sym, ap, _∙_}
+use mathlib.Core.Bool.{Bool, true, false}
+use mathlib.Core.List.{List}
+use mathlib.Core.Option.{Option, none, some}
+use native.Mathlib.Omega.{arith}
+use lib.ListN.{length, getD, drop}
+use borrow.Author.Tests.{lt-ltb, le-ltb}
+use Rattle.family.specs.Family.{Family}
+use Rattle.family.specs.Book.{start, at, place}
+use Rattle.family.specs.File.{familyOf}
+use Rattle.words.proofs.Cases.{by-eq, clash}
+use Rattle.words.proofs.Zeroed.{rest-drop}
+use Rattle.store.specs.declared.record.Store.{Store}
+use Rattle.store.specs.declared.record.Refusal.the-variants.{Scratch, NoFile, Damaged}
+use Rattle.store.specs.declared.record.PlaceAnswer.the-variants.{Handle, Refused}
+use Rattle.store.specs.declared.record.Placed.{Placed}
+use Rattle.store.specs.Capacity.{fitting}
+use Rattle.store.specs.Words.{itemLimit, bookOf}
+use Rattle.store.specs.Promise.{PlaceCall}
+use Rattle.store.specs.Inner.{Roomy, Holds, Kept, Finished}
+use Rattle.store.proofs.Held.{at-0, at-1}
+use Rattle.store.proofs.Endings.{finished-gave}
+use Rattle.store.proofs.Calls.{call-misfit, call-refused, call-done, fits-roomy}
+use Rattle.store.proofs.Growing.{kept-roomy}
+use Rattle.op_cache.specs.Inner.{RanPlain}
+use Rattle.op_cache.proofs.Plain.{plain-handle, plain-ran}
+use Rattle.file_read.specs.declared.file.Content.{Content}
+use Rattle.file_read.specs.declared.file.Content.the-variants.{Leaf, Parts, Bad}
+use Rattle.file_load.specs.Promise.{noFile, found, loadRefusal, loadFamily, LoadCall}
+use Rattle.file_table.specs.Inner.{Local, Nodes}
+use Rattle.file_place.specs.Inner.{PlacedOf}
+use Rattle.file_read.specs.Inner.{Holding, leaf, parts, nothing, ContentOf}
+use Rattle.file_read.proofs.Walks.{local-nodes}
+
+-- the promise's tests
+module _ (file : List ℕ) (n : ℕ) where
+  refusal-short : n < 6 * length file → loadRefusal file n ≡ 7
+  unfolding loadRefusal
+  refusal-short l = rw (lt-ltb n (6 * length file) l)
+
+  module _ (l : 6 * length file ≤ n) where
+    refusal-none : familyOf itemLimit file ≡ none → loadRefusal file n ≡ 9
+    unfolding loadRefusal
+    refusal-none e = rw (le-ltb n (6 * length file) l, e)
+
+    refusal-found : (F : Family) → familyOf itemLimit file ≡ some F → loadRefusal file n ≡ 0
+    unfolding loadRefusal
+    refusal-found F e = rw (le-ltb n (6 * length file) l, e)
+
+family-found : (file : List ℕ) (F : Family) → familyOf itemLimit file ≡ some F → loadFamily file ≡ F
+unfolding loadFamily
+family-found file F e = rw e
+
+-- what the reader said
+none-of : {file words : List ℕ} {b : ℕ} {x : Content} → x ≡ Bad → Holding file b words x → familyOf itemLimit file ≡ none
+none-of e A = out (rw e at A)
+  where
+    out : {file words : List ℕ} {b : ℕ} → Holding file b words Bad → familyOf itemLimit file ≡ none
+    out (nothing is) = is
+
+record LeafRead (file : List ℕ) (h : ℕ) : Type 0 where
+  low : h < 2
+  is : familyOf itemLimit file ≡ some (at start h)
+
+leaf-of : {file words : List ℕ} {b : ℕ} {x : Content} (h : ℕ) → x ≡ Leaf h → Holding file b words x → LeafRead file h
+leaf-of h e A = out (rw e at A)
+  where
+    out : {file words : List ℕ} {b h : ℕ} → Holding file b words (Leaf h) → LeafRead file h
+    out (leaf l is) = record { low = l; is = is }
+
+pub record PartsRead (file : List ℕ) (b : ℕ) (words : List ℕ) (n : ℕ) : Type 0 where
+  pub book : List Family
+  pub is : familyOf itemLimit file ≡ some (at book (n + 1))
+  pub few : n ≤ b
+  pub low : n < 4294967295
+  pub table : Local book n b words
+  pub own : place start (at book (n + 1)) ≡ book
+
+pub parts-of : {file words : List ℕ} {b : ℕ} {x : Content} (n : ℕ) → x ≡ Parts n → Holding file b words x → PartsRead file b words n
+parts-of n e A = out (rw e at A)
+  where
+    out : {file words : List ℕ} {b n : ℕ} → Holding file b words (Parts n) → PartsRead file b words n
+    out (parts {C = C} is few low T own) = record { book = C; is = is; few = few; low = low; table = T; own = own }
+
+pub parts-nodes : {file words : List ℕ} {b n : ℕ} → PartsRead file b words n → Nodes words n
+parts-nodes R = local-nodes (R .table)
+
+module _ (s : Store) (nodes lookup cache file words : List ℕ) (r : Placed) where
+  pub load-misfit : fitting (s .capacity) (s .count) (length nodes) (length lookup) ≡ false → r .store ≡ s → r .answer ≡ Refused Damaged → LoadCall s nodes lookup cache file words r nodes lookup cache words
+  load-misfit e es ea =
+      record { places = call-misfit s nodes lookup cache _ _ r e es ea; scratch-misfit = λ d. refl; scratch-short = λ d. refl; scratch-rest = refl; long = refl }
+
+  module _ (e : fitting (s .capacity) (s .count) (length nodes) (length lookup) ≡ true) where
+    pub load-short : length words / 6 < length file → r .store ≡ s → r .answer ≡ Refused Scratch → LoadCall s nodes lookup cache file words r nodes lookup cache words
+    load-short l es ea =
+        record {
+          places = rw (refusal-short file (length words) (omega arith)) (call-refused s nodes lookup cache 7 _ r Scratch e refl (omega arith) es ea);
+          scratch-misfit = λ d. refl;
+          scratch-short = λ d. refl;
+          scratch-rest = refl;
+          long = refl;
+        }
+
+    module _ (l : length file ≤ length words / 6) {x : Content} {words₁ : List ℕ} (A : ContentOf file words (length file) x words₁) where
+      room : 6 * length file ≤ length words
+      room = omega arith
+
+      -- the scratch, where no test refuses it
+      kept : {n : ℕ} {F : Family} {nodes′ lookup′ cache′ words′ : List ℕ} → loadRefusal file (length words) ≡ n → loadFamily file ≡ F → PlaceCall n F s nodes lookup cache r nodes′ lookup′ cache′ → length words′ ≡ length words
+          → ((j : ℕ) → 6 * length file ≤ j → getD words′ j 0 ≡ getD words j 0) → LoadCall s nodes lookup cache file words r nodes′ lookup′ cache′ words′
+      kept {words′ = words′} en ef P size same =
+          record {
+            places = rw (en, ef) P;
+            scratch-misfit = λ d. clash e d;
+            scratch-short = λ d. absurd (omega (arith, room));
+            scratch-rest = rest-drop (6 * length file) words words′ size same;
+            long = size;
+          }
+
+      pub load-none : x ≡ Bad → r .store ≡ s → r .answer ≡ Refused NoFile → LoadCall s nodes lookup cache file words r nodes lookup cache words₁
+      load-none ex es ea =
+          kept (refusal-none file (length words) room (none-of ex (A .outcome))) refl (call-refused s nodes lookup cache 9 _ r NoFile e refl (omega arith) es ea) (A .long) (A .rest)
+
+      pub load-leaf : (h : ℕ) → x ≡ Leaf h → r .store ≡ s → r .answer ≡ Handle h → LoadCall s nodes lookup cache file words r nodes lookup cache words₁
+      load-leaf h ex es ea =
+          let L = leaf-of h ex (A .outcome) in
+          kept (refusal-found file (length words) room (at start h) (L .is)) (family-found file (at start h) (L .is))
+          (call-done s nodes lookup cache (λ B. at start h) e
+          (plain-ran (λ B. at start h) s nodes lookup cache (plain-handle (λ B. at start h) s nodes lookup (fits-roomy s nodes lookup e) r h es ea (omega (arith, L .low)) (λ B H. same-leaf B H h (L .low))))
+          (finished-gave r (s .count) nodes lookup cache h ea)) (A .long) (A .rest)
+        where
+          same-leaf : (B : List Family) → Holds B (s .count) nodes lookup → (h : ℕ) → h < 2 → at B h ≡ at start h
+          same-leaf B H h l = by-eq h 0 (λ p t. rw p (at-0 H)) (λ d t. let p : h ≡ 1 = omega arith in rw p (at-1 H))
+
+      module _ (n : ℕ) (ex : x ≡ Parts n) where
+        R : PartsRead file (length file) words₁ n
+        R = parts-of n ex (A .outcome)
+
+        module _ {m : Placed} {nodes₁ lookup₁ words₂ : List ℕ} (P : PlacedOf s nodes lookup words₁ (length file) n m nodes₁ lookup₁ words₂) where
+          pub load-roomy : Roomy (m .store) nodes₁ lookup₁
+          load-roomy = kept-roomy (P .kept) (fits-roomy s nodes lookup e)
+
+          pub load-parts : {nodes₂ lookup₂ cache₂ : List ℕ} → Finished m (s .count) nodes₁ lookup₁ cache r nodes₂ lookup₂ cache₂ → LoadCall s nodes lookup cache file words r nodes₂ lookup₂ cache₂ words₂
+          load-parts E =
+              let F = at (R .book) (n + 1) in
+              kept (refusal-found file (length words) room F (R .is)) (family-found file F (R .is))
+              (call-done s nodes lookup cache (λ B. F) e (plain-ran (λ B. F) s nodes lookup cache (P .ran (R .book) (R .table) (R .own))) E)
+              (P .long ∙ A .long) (λ j h. P .rest j h ∙ A .rest j h)

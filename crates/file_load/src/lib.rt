@@ -1,0 +1,37 @@
+// Load: places the family of a file. The file is read and tested whole before the first part is placed.
+ghost use Rattle.file_load.specs.Promise.{LoadCall};
+use file_place::place_parts;
+use file_read::file::Content;
+use file_read::file::read_file;
+use store_undo::finish;
+use store::record::Placed;
+use store::record::Refusal;
+use store::record::Store;
+
+// Reads a file and places its family.
+pub fn load(
+    store: Store,
+    nodes: &mut [u32],
+    lookup: &mut [u32],
+    cache: &mut [u32],
+    file: &[u8],
+    words: &mut [u32],
+) -> Placed
+    ensures { λ r. ⌜ LoadCall store (now (nodes .entry)) (now (lookup .entry)) (now (cache .entry)) (now (file .entry)) (now (words .entry)) r (now (nodes .exit)) (now (lookup .exit)) (now (cache .exit)) (now (words .exit)) ⌝ }
+{
+    if !store.fits(nodes.len(), lookup.len()) {
+        return store.refused(Refusal::Damaged);
+    }
+    if words.len() / 6 < file.len() {
+        return store.refused(Refusal::Scratch);
+    }
+    let content = read_file(file, words);
+    match content {
+        Content::Leaf(handle) => store.placed(handle),
+        Content::Parts(parts) => {
+            let placed = place_parts(store, nodes, lookup, words, file.len(), parts);
+            finish(placed, store.count, nodes, lookup, cache)
+        }
+        Content::Bad => store.refused(Refusal::NoFile),
+    }
+}

@@ -1,0 +1,2 @@
+-- The laws of `file_place`.
+pub mod Placements

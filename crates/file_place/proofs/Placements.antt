@@ -1,0 +1,266 @@
+-- Each way out of the functions that place the local parts: after k turns the store holds its book with the first k families of the local book added, and the scratch has their handles.
+-- Adding the families of a family's own book, in its order, is placing that family.
+use Prim.Native.Nat.{ℕ, suc, _+_, _*_, _-_, _≤_, _<_}
+use mathlib.Core.Path.{_≡_, refl, sym, ap, _∙_}
+use mathlib.Core.List.{List, [], _∷_, _++_, foldl, foldl-append}
+use native.Mathlib.Omega.{arith}
+use native.Mathlib.Numerals.{add-one}
+use lib.Dec.{T}
+use lib.ListN.{length, getD, set, take, drop, length-set, length-drop, take-append-drop}
+use lib.Seq.{take-suc, take-all, getD-drop, getD-set-same, getD-set-other}
+use borrow.Author.Tests.{lt-ltb, le-ltb}
+use Rattle.family.specs.Family.{Family, empty, node, top, inhabited, mk, Within}
+use Rattle.family.specs.Book.{start, at, add, place, made, Grown}
+use Rattle.family.proofs.Diagrams.{mk-node}
+use Rattle.family.proofs.Books.{add-grown, grown-self, grown-trans, grown-length, grown-at}
+use Rattle.family.proofs.Placing.{place-own}
+use Rattle.words.proofs.Cases.{by-lt, by-eq}
+use Rattle.store.specs.declared.record.Store.{Store}
+use Rattle.store.specs.declared.record.Refusal.{Refusal}
+use Rattle.store.specs.declared.record.PlaceAnswer.{PlaceAnswer}
+use Rattle.store.specs.declared.record.PlaceAnswer.the-variants.{Handle, Refused}
+use Rattle.store.specs.declared.record.Placed.{Placed}
+use Rattle.store.specs.Words.{itemLimit}
+use Rattle.store.specs.Inner.{Roomy, Holds, Handed, Answer, gave, full, Kept, NodeIt}
+use Rattle.store.proofs.Held.{at-0, at-1, inside, within}
+use Rattle.store.proofs.Growing.{kept-self, kept-trans, kept-roomy}
+use Rattle.store_node.proofs.Getting.{handle-is, made-inhabited}
+use Rattle.store.proofs.Endings.{handed-of, refused-on, not-both}
+use Rattle.op_cache.specs.Inner.{RanPlain}
+use Rattle.file_table.specs.Inner.{Local, NodeAt, Nodes}
+use Rattle.file_place.specs.Inner.{handleIn, Handles, PlacedOf}
+
+-- the handle of a local number
+module _ (b : ℕ) (words : List ℕ) (p : ℕ) where
+  pub handle-leaf : p < 2 → handleIn b words p ≡ p
+  unfolding handleIn
+  handle-leaf l = rw (lt-ltb p 2 l)
+
+  pub handle-inner : 2 ≤ p → handleIn b words p ≡ getD words (5 * b + (p - 2)) 0
+  unfolding handleIn
+  handle-inner l = rw (le-ltb p 2 l)
+
+-- a node made of handles that are equal to these
+pub node-as : {s : Store} {nodes lookup nodes′ lookup′ : List ℕ} {i z o : ℕ} {r : Placed} (z′ o′ : ℕ) → z ≡ z′ → o ≡ o′ → NodeIt s nodes lookup i z o r nodes′ lookup′ → NodeIt s nodes lookup i z′ o′ r nodes′ lookup′
+node-as z′ o′ ez eo N = rw (ez, eo) at N
+
+-- a handle stored after k others
+module _ (b : ℕ) (words : List ℕ) (k h : ℕ) where
+  handle-new : 5 * b + k < length words → handleIn b (set words (5 * b + k) h) (k + 2) ≡ h
+  handle-new l = let e : k + 2 - 2 ≡ k = omega arith in handle-inner b (set words (5 * b + k) h) (k + 2) (omega arith) ∙ rw e (getD-set-same words (5 * b + k) h 0 l)
+
+  handle-old : (p : ℕ) → p < k + 2 → handleIn b (set words (5 * b + k) h) p ≡ handleIn b words p
+  handle-old p l =
+      by-lt p 2
+      (λ m e. handle-leaf b (set words (5 * b + k) h) p m ∙ sym (handle-leaf b words p m))
+      (λ m e. handle-inner b (set words (5 * b + k) h) p m ∙ getD-set-other words (5 * b + k) (5 * b + (p - 2)) h 0 (omega arith) ∙ sym (handle-inner b words p m))
+
+-- adding families one after another
+fold-grown : (B Fs : List Family) → Grown B (foldl add B Fs)
+fold-grown B [] = grown-self B
+fold-grown B (F ∷ Fs) = grown-trans (add-grown B F) (fold-grown (add B F) Fs)
+
+-- the book with the first k families of the local book added
+unfoldable pub upto : List Family → List Family → ℕ → List Family
+upto B C k = foldl add B (take k (drop 2 C))
+
+upto-none : (B C : List Family) → upto B C 0 ≡ B
+unfolding upto
+upto-none B C = refl
+
+module _ (B C : List Family) (k : ℕ) (l : k + 2 < length C) where
+  upto-next : upto B C (k + 1) ≡ add (upto B C k) (at C (k + 2))
+  unfolding upto
+  upto-next =
+      let e : 2 + k ≡ k + 2 = omega arith in
+      ap (λ n. foldl add B (take n (drop 2 C))) (add-one k)
+      ∙ ap (λ X. foldl add B X) (take-suc (drop 2 C) k empty (rw length-drop (omega arith)))
+      ∙ foldl-append add B (take k (drop 2 C)) (getD (drop 2 C) k empty ∷ [])
+      ∙ ap (λ F. add (foldl add B (take k (drop 2 C))) F) (getD-drop 2 C k empty ∙ ap (λ n. at C n) e)
+
+upto-grown : (B C : List Family) (k : ℕ) → Grown (upto B C k) (foldl add B (drop 2 C))
+unfolding upto
+upto-grown B C k =
+    let e : foldl add B (drop 2 C) ≡ foldl add (foldl add B (take k (drop 2 C))) (drop k (drop 2 C)) =
+    ap (λ X. foldl add B X) (sym (take-append-drop k (drop 2 C))) ∙ foldl-append add B (take k (drop 2 C)) (drop k (drop 2 C)) in
+    rw e (fold-grown (foldl add B (take k (drop 2 C))) (drop k (drop 2 C)))
+
+upto-all : (B C : List Family) (n : ℕ) → length C ≡ n + 2 → upto B C n ≡ foldl add B (drop 2 C)
+unfolding upto
+upto-all B C n e = ap (λ X. foldl add B X) (take-all n (drop 2 C) (rw length-drop (omega arith)))
+
+-- the book of the store after k turns, and what the handles mean in it
+pub record Stored (B C : List Family) (k b : ℕ) (words : List ℕ) (count : ℕ) (nodes lookup : List ℕ) : Type 0 where
+  pub holds : Holds (upto B C k) count nodes lookup
+  pub means : (p : ℕ) → p < k + 2 → at (upto B C k) (handleIn b words p) ≡ at C p
+
+pub record Turns (s : Store) (nodes₀ lookup₀ words₀ : List ℕ) (b n k : ℕ) (current : Store) (nodes lookup words : List ℕ) : Type 0 where
+  pub long : length words ≡ length words₀
+  pub table : (j : ℕ) → j < 3 * b → getD words j 0 ≡ getD words₀ j 0
+  pub rest : (j : ℕ) → 6 * b ≤ j → getD words j 0 ≡ getD words₀ j 0
+  pub most : k ≤ n
+  pub kept : Kept s nodes₀ lookup₀ current nodes lookup
+  pub handles : Handles k b (current .count) words
+  pub sound : (B C : List Family) → Holds B (s .count) nodes₀ lookup₀ → Local C n b words₀ → Stored B C k b words (current .count) nodes lookup
+
+module _ (s : Store) (nodes₀ lookup₀ words₀ : List ℕ) (b n : ℕ) where
+  pub turns-start : Roomy s nodes₀ lookup₀ → Turns s nodes₀ lookup₀ words₀ b n 0 s nodes₀ lookup₀ words₀
+  turns-start R =
+      record {
+        long = refl;
+        table = λ j l. refl;
+        rest = λ j l. refl;
+        most = omega arith;
+        kept = kept-self s nodes₀ lookup₀ (R .within);
+        handles = record { each = λ p l. omega (arith, handle-leaf b words₀ p l) };
+        sound = λ B C H L. record { holds = rw (upto-none B C) H; means = λ p l. rw (upto-none B C, handle-leaf b words₀ p l) (leaf-at B C H L p l) };
+      }
+    where
+      leaf-at : (B C : List Family) → Holds B (s .count) nodes₀ lookup₀ → Local C n b words₀ → (p : ℕ) → p < 0 + 2 → at B p ≡ at C p
+      leaf-at B C H L p l =
+          by-eq p 0
+          (λ e t. rw e (at-0 H ∙ sym (at-0 L)))
+          (λ d t. let e : p ≡ 1 = omega arith in rw e (at-1 H ∙ sym (at-1 L)))
+
+  module _ (few : n ≤ b) (room : 6 * b ≤ length words₀) (N₀ : Nodes words₀ n) (k : ℕ) (current : Store) (nodes lookup words : List ℕ) (I : Turns s nodes₀ lookup₀ words₀ b n k current nodes lookup words) where
+    pub turns-roomy : Roomy s nodes₀ lookup₀ → Roomy current nodes lookup
+    turns-roomy R = kept-roomy (I .kept) R
+
+    module _ (l : k < n) where
+      item-same : getD words (3 * k) 0 ≡ getD words₀ (3 * k) 0
+      item-same = I .table (3 * k) (omega arith)
+
+      zero-same : getD words (3 * k + 1) 0 ≡ getD words₀ (3 * k + 1) 0
+      zero-same = I .table (3 * k + 1) (omega arith)
+
+      one-same : getD words (3 * k + 2) 0 ≡ getD words₀ (3 * k + 2) 0
+      one-same = I .table (3 * k + 2) (omega arith)
+
+      pub turns-node : NodeAt words k
+      turns-node =
+          let E = N₀ .each k l in
+          record {
+            item-some = omega (arith, E .item-some, item-same);
+            item-low = omega (arith, E .item-low, item-same);
+            zero-before = omega (arith, E .zero-before, zero-same);
+            one-before = omega (arith, E .one-before, one-same);
+          }
+
+      module _ {r : Placed} {nodes₁ lookup₁ : List ℕ}
+          (P : NodeIt current nodes lookup (getD words (3 * k) 0) (handleIn b words (getD words (3 * k + 1) 0)) (handleIn b words (getD words (3 * k + 2) 0)) r nodes₁ lookup₁) where
+        kept-on : Kept s nodes₀ lookup₀ (r .store) nodes₁ lookup₁
+        kept-on = kept-trans (I .kept) (P .kept)
+
+        -- what the turn gives, in the book so far
+        module _ (B C : List Family) (H : Holds B (s .count) nodes₀ lookup₀) (L : Local C n b words₀) where
+          D : List Family
+          D = upto B C k
+
+          S : Stored B C k b words (current .count) nodes lookup
+          S = I .sound B C H L
+
+          zero-is : at (upto B C k) (handleIn b words (getD words (3 * k + 1) 0)) ≡ at C (getD words₀ (3 * k + 1) 0)
+          zero-is = S .means (getD words (3 * k + 1) 0) (turns-node .zero-before) ∙ ap (λ p. at C p) zero-same
+
+          one-is : at (upto B C k) (handleIn b words (getD words (3 * k + 2) 0)) ≡ at C (getD words₀ (3 * k + 2) 0)
+          one-is = S .means (getD words (3 * k + 2) 0) (turns-node .one-before) ∙ ap (λ p. at C p) one-same
+
+          family-is : at C (k + 2) ≡ node (getD words (3 * k) 0) (at (upto B C k) (handleIn b words (getD words (3 * k + 1) 0))) (at (upto B C k) (handleIn b words (getD words (3 * k + 2) 0)))
+          family-is = L .each k l .is ∙ rw (zero-is, one-is, item-same)
+
+          is-within : Within itemLimit (node (getD words (3 * k) 0) (at (upto B C k) (handleIn b words (getD words (3 * k + 1) 0))) (at (upto B C k) (handleIn b words (getD words (3 * k + 2) 0))))
+          is-within = rw family-is at (within L (k + 2) (omega arith))
+
+          turn-answer : Answer (add (upto B C k) (at C (k + 2))) (at C (k + 2)) (current .capacity) (r .store .count) nodes₁ lookup₁ (r .answer)
+          turn-answer =
+              let o = is-within .ordered in
+              rw family-is
+              (rw (
+                mk-node (getD words (3 * k) 0) (at (upto B C k) (handleIn b words (getD words (3 * k + 1) 0))) (at (upto B C k) (handleIn b words (getD words (3 * k + 2) 0))) (o .2),
+                made-inhabited (upto B C k) (getD words (3 * k) 0) (at (upto B C k) (handleIn b words (getD words (3 * k + 1) 0))) (at (upto B C k) (handleIn b words (getD words (3 * k + 2) 0))) (o .2),
+              ) at
+              (P .sound (upto B C k) (S .holds) (o .0) (o .1)))
+
+          inside-local : k + 2 < length C
+          inside-local = omega (arith, L .size)
+
+        module _ (h : ℕ) (e : r .answer ≡ Handle h) {words₁ : List ℕ} (put : words₁ ≡ set words (5 * b + k) h) where
+          size : 5 * b + k < length words
+          size = omega (arith, I .long)
+
+          next : Handles (k + 1) b (r .store .count) words₁
+          next =
+              record {
+                each = λ p m. rw put (by-eq p (k + 2)
+                    (λ q t. rw (q, handle-new b words k h size) (P .handle h e))
+                    (λ d t. rw (handle-old b words k h p (omega arith)) (omega (arith, I .handles .each p (omega arith), P .kept .grows))));
+              }
+
+          stored : (B C : List Family) → Holds B (s .count) nodes₀ lookup₀ → Local C n b words₀ → Stored B C (k + 1) b words₁ (r .store .count) nodes₁ lookup₁
+          stored B C H L =
+              let G = handed-of e (turn-answer B C H L) in
+              let old = S B C H L in
+              rw put record {
+                holds = rw (upto-next B C k (inside-local B C H L)) (G .holds);
+                means = λ p m. rw (upto-next B C k (inside-local B C H L)) (by-eq p (k + 2)
+                    (λ q t. rw (q, handle-new b words k h size) (G .means))
+                    (λ d t. rw (handle-old b words k h p (omega arith))
+                    (grown-at (add-grown (upto B C k) (at C (k + 2))) (handleIn b words p) (omega (arith, I .handles .each p (omega arith), old .holds .size)) ∙ old .means p (omega arith))));
+              }
+
+          pub turns-next : Turns s nodes₀ lookup₀ words₀ b n (k + 1) (r .store) nodes₁ lookup₁ words₁
+          turns-next =
+              record {
+                long = ap length put ∙ length-set words (5 * b + k) h ∙ I .long;
+                table = λ j m. ap (λ x. getD x j 0) put ∙ getD-set-other words (5 * b + k) j h 0 (omega arith) ∙ I .table j m;
+                rest = λ j m. ap (λ x. getD x j 0) put ∙ getD-set-other words (5 * b + k) j h 0 (omega arith) ∙ I .rest j m;
+                most = omega arith;
+                kept = kept-on;
+                handles = next;
+                sound = stored;
+              }
+
+        pub turns-refused : (x : Refusal) → r .answer ≡ Refused x → PlacedOf s nodes₀ lookup₀ words₀ b n r nodes₁ lookup₁ words
+        turns-refused x e =
+            record {
+              long = I .long;
+              rest = I .rest;
+              kept = kept-on;
+              ran = λ C L own. record {
+                kept = kept-on;
+                handle = λ h d. not-both h x d e;
+                sound = λ B H. refused-on x e (longer C L own B H) (rw (I .kept .same-capacity) at (turn-answer B C H L));
+              };
+            }
+          where
+            longer : (C : List Family) → Local C n b words₀ → place start (at C (n + 1)) ≡ C → (B : List Family) → Holds B (s .count) nodes₀ lookup₀
+                → length (add (upto B C k) (at C (k + 2))) ≤ length (place B (at C (n + 1)))
+            longer C L own B H =
+                rw (← upto-next B C k (inside-local B C H L), ← place-own B (at C (n + 1)) (H .book), own) (grown-length (upto-grown B C (k + 1)))
+
+    module _ (m : n ≤ k) where
+      all : k ≡ n
+      all = omega (arith, I .most)
+
+      pub turns-done : (r : Placed) → r .store ≡ current → r .answer ≡ Handle (handleIn b words (n + 1)) → PlacedOf s nodes₀ lookup₀ words₀ b n r nodes lookup words
+      turns-done r es ea =
+          record {
+            long = I .long;
+            rest = I .rest;
+            kept = rw es (I .kept);
+            ran = λ C L own. record {
+              kept = rw es (I .kept);
+              handle = λ h e. rw es (omega (arith, handle-is (sym ea ∙ e), last));
+              sound = λ B H. rw (ea, es) (gave {h = handleIn b words (n + 1)} (handed C L own B H));
+            };
+          }
+        where
+          last : handleIn b words (n + 1) ≤ current .count + 1
+          last = I .handles .each (n + 1) (omega (arith, all))
+
+          handed : (C : List Family) → Local C n b words₀ → place start (at C (n + 1)) ≡ C → (B : List Family) → Holds B (s .count) nodes₀ lookup₀
+              → Handed (place B (at C (n + 1))) (at C (n + 1)) (handleIn b words (n + 1)) (current .count) nodes lookup
+          handed C L own B H =
+              let S = I .sound B C H L in
+              let e : place B (at C (n + 1)) ≡ upto B C k = sym (place-own B (at C (n + 1)) (H .book)) ∙ ap (λ X. foldl add B (drop 2 X)) own ∙ sym (upto-all B C n (L .size)) ∙ ap (λ j. upto B C j) (sym all) in
+              rw e record { holds = S .holds; within = omega (arith, last); means = S .means (n + 1) (omega (arith, all)) }

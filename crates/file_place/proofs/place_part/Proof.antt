@@ -1,0 +1,90 @@
+-- `place_part` makes the node of a local part from its item and the handles of its children.
+-- Its children stand before it, so they have handles.
+use borrow.Author.Needs.{needs}
+use native.Mathlib.Omega.{arith}
+use Rattle.file_place.proofs.Placements.{node-as}
+use borrow.Author.Needs.{needs}
+use Rattle.file_place.proofs.place_part.Statement.{statement}
+use Rattle.file_place.proofs.place_part.Tie as tie
+
+mul-base : tie.Need-mul-base
+mul-base c = search needs
+
+add-handle-at : tie.Need-add-handle-at
+add-handle-at c = search needs
+
+mul-handle-at : tie.Need-mul-handle-at
+mul-handle-at c = search needs
+
+shared-slice-read-handle-at : tie.Need-shared-slice-read-handle-at
+shared-slice-read-handle-at c = search needs
+
+handle-at-requires : tie.Need-handle-at-requires
+handle-at-requires c κs = search needs
+
+add-handle-at-2 : tie.Need-add-handle-at-2
+add-handle-at-2 c = search needs
+
+mul-handle-at-2 : tie.Need-mul-handle-at-2
+mul-handle-at-2 c = search needs
+
+shared-slice-read-handle-at-2 : tie.Need-shared-slice-read-handle-at-2
+shared-slice-read-handle-at-2 c = search needs
+
+handle-at-requires-2 : tie.Need-handle-at-requires-2
+handle-at-requires-2 c κs = search needs
+
+mul-get-node : tie.Need-mul-get-node
+mul-get-node c = search needs
+
+shared-slice-read-get-node : tie.Need-shared-slice-read-get-node
+shared-slice-read-get-node c = search needs
+
+same-length : tie.Need-same-length
+same-length c = search needs
+
+same-length-2 : tie.Need-same-length-2
+same-length-2 c = search needs
+
+abbrev start·After-shared-slice-known4 : tie.After-shared-slice-known4 → tie.Start
+start·After-shared-slice-known4 c = c .before .before .before .before .before .before .before .before .before .before
+
+abbrev handle-at·After-shared-slice-known4 : tie.After-shared-slice-known4 → tie.After-handle-at
+handle-at·After-shared-slice-known4 c = c .before .before .before .before .before
+
+abbrev handle-at·After-slice-known4 : tie.After-slice-known4 → tie.After-handle-at
+handle-at·After-slice-known4 c = c .before .before .before .before .before .before .before .before .before .before
+
+abbrev handle-at2·After-slice-known4 : tie.After-slice-known4 → tie.After-handle-at2
+handle-at2·After-slice-known4 c = c .before .before .before .before .before .before .before .before
+
+abbrev get-node·After-slice-known4 : tie.After-slice-known4 → tie.After-get-node
+get-node·After-slice-known4 c = c .before .before .before .before
+
+get-node-requires : tie.Need-get-node-requires
+get-node-requires c κs =
+    let p = (start·After-shared-slice-known4 c) .pre in
+    (p .0, (p .1 .0 .item-some, p .1 .0 .item-low, omega (arith, (handle-at·After-shared-slice-known4 c) .handle-at .ensures, p .1 .1 .0 .each _ (p .1 .0 .zero-before)), omega (arith, (c .before .before .before) .handle-at2 .ensures, p .1 .1 .0 .each _ (p .1 .0 .one-before))))
+
+returns : tie.Need-returns
+returns c = node-as _ _ ((handle-at·After-slice-known4 c) .handle-at .ensures) ((handle-at2·After-slice-known4 c) .handle-at2 .ensures) ((get-node·After-slice-known4 c) .get-node .ensures)
+
+pub place-part-spec : {M : Type 1} → statement M
+place-part-spec =
+    tie.close
+    (tie.spec
+    mul-base
+    add-handle-at
+    mul-handle-at
+    shared-slice-read-handle-at
+    handle-at-requires
+    add-handle-at-2
+    mul-handle-at-2
+    shared-slice-read-handle-at-2
+    handle-at-requires-2
+    mul-get-node
+    shared-slice-read-get-node
+    get-node-requires
+    same-length
+    same-length-2
+    returns)

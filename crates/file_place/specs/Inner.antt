@@ -1,0 +1,29 @@
+-- What placing the parts of the local table promises. A reader of the promise can pass this page over.
+use Prim.Native.Nat.{ℕ, _+_, _*_, _-_, _≤_, _<_}
+use mathlib.Core.Path.{_≡_}
+use mathlib.Core.Bool.{cond}
+use mathlib.Core.List.{List}
+use lib.Dec.{ltb}
+use lib.ListN.{length, getD}
+use Rattle.family.specs.Family.{Family}
+use Rattle.family.specs.Book.{start, at, place}
+use Rattle.store.specs.declared.record.Store.{Store}
+use Rattle.store.specs.declared.record.Placed.{Placed}
+use Rattle.store.specs.Inner.{Kept}
+use Rattle.op_cache.specs.Inner.{RanPlain}
+use Rattle.file_table.specs.Inner.{Local}
+
+-- the handle in the store of a local number
+unfoldable pub handleIn : ℕ → List ℕ → ℕ → ℕ
+handleIn b words p = cond (ltb p 2) p (getD words (5 * b + (p - 2)) 0)
+
+-- the handles of the first k local nodes are held in a store of so many nodes
+pub record Handles (k b count : ℕ) (words : List ℕ) : Type 0 where
+  pub each : (p : ℕ) → p < k + 2 → handleIn b words p ≤ count + 1
+
+-- all local parts placed: on any store words, and as the last family where they are its own book
+pub record PlacedOf (s : Store) (nodes lookup words : List ℕ) (b n : ℕ) (r : Placed) (nodes′ lookup′ words′ : List ℕ) : Type 0 where
+  pub long : length words′ ≡ length words
+  pub rest : (j : ℕ) → 6 * b ≤ j → getD words′ j 0 ≡ getD words j 0
+  pub kept : Kept s nodes lookup (r .store) nodes′ lookup′
+  pub ran : (C : List Family) → Local C n b words → place start (at C (n + 1)) ≡ C → RanPlain (λ B. at C (n + 1)) s nodes lookup r nodes′ lookup′

@@ -1,0 +1,2 @@
+-- What the contracts of `file_place` cite.
+pub mod Inner

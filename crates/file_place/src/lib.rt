@@ -1,0 +1,72 @@
+// Placing the local parts in the store, one after another; the scratch keeps the handle of each.
+ghost use mathlib.Core.Path.{_≡_};
+ghost use Prim.Native.Nat.{_+_, _*_, _<_, _≤_};
+ghost use lib.ListN.{length, getD};
+ghost use Rattle.store.specs.Inner.{Roomy, NodeIt};
+ghost use Rattle.file_table.specs.Inner.{NodeAt, Nodes};
+ghost use Rattle.file_place.specs.Inner.{handleIn, Handles, PlacedOf};
+use store_node::getnode::get_node;
+use store::record::PlaceAnswer;
+use store::record::Placed;
+use store::record::Store;
+
+// The handle in the store of a local number.
+fn handle_at(words: &[u32], bytes: usize, p: u32) -> u32
+    requires { ⌜ (6 * bytes ≤ length (now words)) × (p < bytes + 2) ⌝ }
+    ensures { λ r. ⌜ r ≡ handleIn bytes (now (words .entry)) p ⌝ }
+{
+    if p < 2 {
+        return p;
+    }
+    words[5 * bytes + (p - 2) as usize]
+}
+
+// Places the local part number k + 2.
+fn place_part(
+    store: Store,
+    nodes: &mut [u32],
+    lookup: &mut [u32],
+    words: &[u32],
+    bytes: usize,
+    k: u32,
+) -> Placed
+    requires { ⌜ Roomy store (now nodes) (now lookup) ⌝ }
+    requires { ⌜ NodeAt (now words) k ⌝ }
+    requires { ⌜ Handles k bytes (store .count) (now words) ⌝ }
+    requires { ⌜ (6 * bytes ≤ length (now words)) × (k < bytes) ⌝ }
+    ensures { λ r. ⌜ NodeIt store (now (nodes .entry)) (now (lookup .entry)) (getD (now (words .entry)) (3 * k) 0) (handleIn bytes (now (words .entry)) (getD (now (words .entry)) (3 * k + 1) 0)) (handleIn bytes (now (words .entry)) (getD (now (words .entry)) (3 * k + 2) 0)) r (now (nodes .exit)) (now (lookup .exit)) ⌝ }
+{
+    let base = 3 * k as usize;
+    let zero = handle_at(words, bytes, words[base + 1]);
+    let one = handle_at(words, bytes, words[base + 2]);
+    get_node(store, nodes, lookup, words[base], zero, one)
+}
+
+// Places all parts, and gives the handle of the last.
+pub fn place_parts(
+    store: Store,
+    nodes: &mut [u32],
+    lookup: &mut [u32],
+    words: &mut [u32],
+    bytes: usize,
+    parts: u32,
+) -> Placed
+    requires { ⌜ Roomy store (now nodes) (now lookup) ⌝ }
+    requires { ⌜ Nodes (now words) parts ⌝ }
+    requires { ⌜ (6 * bytes ≤ length (now words)) × (parts ≤ bytes) × (parts < 4294967295) ⌝ }
+    ensures { λ r. ⌜ PlacedOf store (now (nodes .entry)) (now (lookup .entry)) (now (words .entry)) bytes parts r (now (nodes .exit)) (now (lookup .exit)) (now (words .exit)) ⌝ }
+{
+    let mut current = store;
+    let mut k: u32 = 0;
+    while k < parts {
+        let placed = place_part(current, nodes, lookup, words, bytes, k);
+        let answer = placed.answer;
+        let PlaceAnswer::Handle(handle) = answer else {
+            return placed;
+        };
+        words[5 * bytes + k as usize] = handle;
+        current = placed.store;
+        k = k + 1;
+    }
+    current.placed(handle_at(words, bytes, parts + 1))
+}

@@ -1,0 +1,93 @@
+-- `read_file` tells {} and {{}} from a file with parts.
+-- Each way out is one branch of the definition.
+use borrow.Author.Needs.{needs}
+use mathlib.Core.Path.{refl}
+use native.Mathlib.Omega.{arith}
+use Rattle.file_record.proofs.Taking.{part-from}
+use Rattle.file_read.proofs.Contents.{file-none, file-rest, file-over, file-leaf, file-other}
+use borrow.Author.Needs.{needs}
+use Rattle.file_read.proofs.file.read_file.Statement.{statement}
+use Rattle.file_read.proofs.file.read_file.Tie as tie
+
+shared-slice-read-first : tie.Need-shared-slice-read-first
+shared-slice-read-first c = search needs
+
+sub-read-parts : tie.Need-sub-read-parts
+sub-read-parts c = search needs
+
+part-read-parts-start : tie.Need-part-read-parts-start
+part-read-parts-start c = search needs
+
+part-read-parts-end : tie.Need-part-read-parts-end
+part-read-parts-end c = search needs
+
+read-parts-requires : tie.Need-read-parts-requires
+read-parts-requires c κs = search needs
+
+same-length : tie.Need-same-length
+same-length c = search needs
+
+abbrev start·After-slice-known2 : tie.After-slice-known2 → tie.Start
+start·After-slice-known2 c = c .before .before .before .before .before .before .before .before .before .before
+
+abbrev if1·After-slice-known2 : tie.After-slice-known2 → tie.Else1
+if1·After-slice-known2 c = c .before .before .before .before .before .before .before
+
+abbrev if2·After-slice-known2 : tie.After-slice-known2 → tie.Then2
+if2·After-slice-known2 c = c .before .before .before .before .before
+
+abbrev start·Then3 : tie.Then3 → tie.Start
+start·Then3 c = c .before .before .before .before .before .before
+
+abbrev start·Then4 : tie.Then4 → tie.Start
+start·Then4 c = c .before .before .before .before .before .before .before
+
+abbrev if1·Then4 : tie.Then4 → tie.Else1
+if1·Then4 c = c .before .before .before .before
+
+abbrev start·Then5 : tie.Then5 → tie.Start
+start·Then5 c = c .before .before .before .before .before .before .before .before
+
+abbrev if1·Then5 : tie.Then5 → tie.Else1
+if1·Then5 c = c .before .before .before .before .before
+
+abbrev start·Else5 : tie.Else5 → tie.Start
+start·Else5 c = c .before .before .before .before .before .before .before .before
+
+abbrev if1·Else5 : tie.Else5 → tie.Else1
+if1·Else5 c = c .before .before .before .before .before
+
+returns : tie.Need-returns
+returns c = let a = (c .before .before .before) .args in file-none (a .file .now) (a .words .now) _ (c .if1 .taken)
+
+returns-2 : tie.Need-returns-2
+returns-2 c = let a = (start·After-slice-known2 c) .args in file-rest (a .file .now) _ (a .words .now) _ ((if1·After-slice-known2 c) .if1 .left) ((if2·After-slice-known2 c) .if2 .taken) (part-from (a .file .now) 1) ((c .before .before) .read-parts .ensures)
+
+returns-3 : tie.Need-returns-3
+returns-3 c = let a = (start·Then3 c) .args in file-over (a .file .now) (a .words .now) _ ((c .before .before .before) .if1 .left) ((c .before) .if2 .left) (c .if3 .taken)
+
+returns-4 : tie.Need-returns-4
+returns-4 c = let a = (start·Then4 c) .args in file-leaf (a .file .now) (a .words .now) _ ((if1·Then4 c) .if1 .left) ((c .before .before) .if2 .left) ((c .before) .if3 .left) 0 0 (c .if4 .taken) (omega arith) refl
+
+returns-5 : tie.Need-returns-5
+returns-5 c = let a = (start·Then5 c) .args in file-leaf (a .file .now) (a .words .now) _ ((if1·Then5 c) .if1 .left) ((c .before .before .before) .if2 .left) ((c .before .before) .if3 .left) 2 1 (c .if5 .taken) (omega arith) refl
+
+returns-6 : tie.Need-returns-6
+returns-6 c = let a = (start·Else5 c) .args in file-other (a .file .now) (a .words .now) _ ((if1·Else5 c) .if1 .left) ((c .before .before .before) .if2 .left) ((c .before .before) .if3 .left) ((c .before) .if4 .left) (c .if5 .left)
+
+pub read-file-spec : {M : Type 1} → statement M
+read-file-spec =
+    tie.close
+    (tie.spec
+    returns
+    shared-slice-read-first
+    sub-read-parts
+    part-read-parts-start
+    part-read-parts-end
+    read-parts-requires
+    same-length
+    returns-2
+    returns-3
+    returns-4
+    returns-5
+    returns-6)

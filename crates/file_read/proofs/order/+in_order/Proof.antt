@@ -1,0 +1,230 @@
+-- `in_order` walks from a part to its children, whose numbers are smaller: the measure is the part's number.
+-- Each way out is one law of the definition's walk.
+use borrow.Author.Needs.{needs}
+use Prim.Native.Nat.{_-_}
+use native.Mathlib.Omega.{arith}
+use Rattle.file_read.proofs.Walks.{walk-placed, walk-first, walk-second, walk-other, walk-next}
+use Prim.Native.Nat.{ℕ, _<_}
+use borrow.Fn.Kinds.{In}
+use borrow.Fn.PlainCycle.{Measures, is, falls, and}
+use Rattle.file_read.proofs.order.in_order.Reads as in-order
+use Rattle.file_read.proofs.order.in_order.Kinds as in-order-kinds
+use Rattle.file_read.proofs.order.+in_order.Lts-in_order as in-order-lts
+use Rattle.file_read.proofs.order.+in_order.{statement}
+use Rattle.file_read.proofs.order.+in_order.Tie.{close}
+
+abbrev μ-in-order : Measures 1 in-order-kinds.ps ℕ
+μ-in-order κs a = a .1 .1 .0
+
+abbrev in-order-at : ℕ → In 1 in-order-kinds.ps
+in-order-at t = and 1 in-order-kinds.ps (is 1 in-order-kinds.ps μ-in-order t) in-order.Pre
+
+abbrev in-order-below : ℕ → In 1 in-order-kinds.ps
+in-order-below t =
+    and 1 in-order-kinds.ps (falls 1 in-order-kinds.ps _<_ μ-in-order t) in-order.Pre
+
+abbrev in-order-claims : ℕ → in-order-lts.Claims
+in-order-claims t = (in-order-below t, in-order.Post)
+
+abbrev start·in-order·After-enum-told : (t : ℕ) → in-order-lts.After-enum-told (in-order-below t, in-order.Post) (in-order-at t) in-order.Post → in-order-lts.Start (in-order-below t, in-order.Post) (in-order-at t) in-order.Post
+start·in-order·After-enum-told t c = c .before .before .before .before .before .before
+
+abbrev if1·in-order·After-enum-told : (t : ℕ) → in-order-lts.After-enum-told (in-order-below t, in-order.Post) (in-order-at t) in-order.Post → in-order-lts.Else1 (in-order-below t, in-order.Post) (in-order-at t) in-order.Post
+if1·in-order·After-enum-told t c = c .before .before .before .before
+
+abbrev start·in-order·After-shared-slice-known3 : (t : ℕ) → in-order-lts.After-shared-slice-known3 (in-order-claims t) (in-order-at t) in-order.Post → in-order-lts.Start (in-order-claims t) (in-order-at t) in-order.Post
+start·in-order·After-shared-slice-known3 t c = c .before .before .before .before .before .before .before .before
+
+abbrev if1·in-order·After-shared-slice-known3 : (t : ℕ) → in-order-lts.After-shared-slice-known3 (in-order-claims t) (in-order-at t) in-order.Post → in-order-lts.Else1 (in-order-claims t) (in-order-at t) in-order.Post
+if1·in-order·After-shared-slice-known3 t c = c .before .before .before .before .before .before
+
+abbrev in-order·in-order·After-shared-slice-known3 : (t : ℕ) → in-order-lts.After-shared-slice-known3 (in-order-claims t) (in-order-at t) in-order.Post → in-order-lts.After-in-order (in-order-claims t) (in-order-at t) in-order.Post
+in-order·in-order·After-shared-slice-known3 t c = c .before .before .before .before
+
+abbrev start·in-order·After-enum-told2 : (t : ℕ) → in-order-lts.After-enum-told2 (in-order-below t, in-order.Post) (in-order-at t) in-order.Post → in-order-lts.Start (in-order-below t, in-order.Post) (in-order-at t) in-order.Post
+start·in-order·After-enum-told2 t c = c .before .before .before .before .before .before .before .before .before .before .before
+
+abbrev if1·in-order·After-enum-told2 : (t : ℕ) → in-order-lts.After-enum-told2 (in-order-below t, in-order.Post) (in-order-at t) in-order.Post → in-order-lts.Else1 (in-order-below t, in-order.Post) (in-order-at t) in-order.Post
+if1·in-order·After-enum-told2 t c = c .before .before .before .before .before .before .before .before .before
+
+abbrev in-order·in-order·After-enum-told2 : (t : ℕ) → in-order-lts.After-enum-told2 (in-order-below t, in-order.Post) (in-order-at t) in-order.Post → in-order-lts.After-in-order (in-order-below t, in-order.Post) (in-order-at t) in-order.Post
+in-order·in-order·After-enum-told2 t c = c .before .before .before .before .before .before .before
+
+abbrev first·in-order·After-enum-told2 : (t : ℕ) → in-order-lts.After-enum-told2 (in-order-below t, in-order.Post) (in-order-at t) in-order.Post → in-order-lts.After-first (in-order-below t, in-order.Post) (in-order-at t) in-order.Post
+first·in-order·After-enum-told2 t c = c .before .before .before .before .before
+
+abbrev start·in-order·Then2 : (t : ℕ) → in-order-lts.Then2 (in-order-below t, in-order.Post) (in-order-at t) in-order.Post → in-order-lts.Start (in-order-below t, in-order.Post) (in-order-at t) in-order.Post
+start·in-order·Then2 t c = c .before .before .before .before .before .before .before .before .before .before .before .before .before
+
+abbrev if1·in-order·Then2 : (t : ℕ) → in-order-lts.Then2 (in-order-below t, in-order.Post) (in-order-at t) in-order.Post → in-order-lts.Else1 (in-order-below t, in-order.Post) (in-order-at t) in-order.Post
+if1·in-order·Then2 t c = c .before .before .before .before .before .before .before .before .before .before .before
+
+abbrev in-order·in-order·Then2 : (t : ℕ) → in-order-lts.Then2 (in-order-below t, in-order.Post) (in-order-at t) in-order.Post → in-order-lts.After-in-order (in-order-below t, in-order.Post) (in-order-at t) in-order.Post
+in-order·in-order·Then2 t c = c .before .before .before .before .before .before .before .before .before
+
+abbrev first·in-order·Then2 : (t : ℕ) → in-order-lts.Then2 (in-order-below t, in-order.Post) (in-order-at t) in-order.Post → in-order-lts.After-first (in-order-below t, in-order.Post) (in-order-at t) in-order.Post
+first·in-order·Then2 t c = c .before .before .before .before .before .before .before
+
+abbrev in-order2·in-order·Then2 : (t : ℕ) → in-order-lts.Then2 (in-order-below t, in-order.Post) (in-order-at t) in-order.Post → in-order-lts.After-in-order2 (in-order-below t, in-order.Post) (in-order-at t) in-order.Post
+in-order2·in-order·Then2 t c = c .before .before .before .before
+
+abbrev start·in-order·Else2 : (t : ℕ) → in-order-lts.Else2 (in-order-below t, in-order.Post) (in-order-at t) in-order.Post → in-order-lts.Start (in-order-below t, in-order.Post) (in-order-at t) in-order.Post
+start·in-order·Else2 t c = c .before .before .before .before .before .before .before .before .before .before .before .before .before
+
+abbrev if1·in-order·Else2 : (t : ℕ) → in-order-lts.Else2 (in-order-below t, in-order.Post) (in-order-at t) in-order.Post → in-order-lts.Else1 (in-order-below t, in-order.Post) (in-order-at t) in-order.Post
+if1·in-order·Else2 t c = c .before .before .before .before .before .before .before .before .before .before .before
+
+abbrev in-order·in-order·Else2 : (t : ℕ) → in-order-lts.Else2 (in-order-below t, in-order.Post) (in-order-at t) in-order.Post → in-order-lts.After-in-order (in-order-below t, in-order.Post) (in-order-at t) in-order.Post
+in-order·in-order·Else2 t c = c .before .before .before .before .before .before .before .before .before
+
+abbrev first·in-order·Else2 : (t : ℕ) → in-order-lts.Else2 (in-order-below t, in-order.Post) (in-order-at t) in-order.Post → in-order-lts.After-first (in-order-below t, in-order.Post) (in-order-at t) in-order.Post
+first·in-order·Else2 t c = c .before .before .before .before .before .before .before
+
+abbrev in-order2·in-order·Else2 : (t : ℕ) → in-order-lts.Else2 (in-order-below t, in-order.Post) (in-order-at t) in-order.Post → in-order-lts.After-in-order2 (in-order-below t, in-order.Post) (in-order-at t) in-order.Post
+in-order2·in-order·Else2 t c = c .before .before .before .before
+
+in-order-returns :
+    (t : ℕ) →
+    in-order-lts.Need-returns (in-order-below t, in-order.Post) (in-order-at t) in-order.Post
+in-order-returns t c =
+    let a = (c .before .before) .args in
+    let q = (c .before .before) .pre .1 in
+    walk-placed (a .nodes .now) (a .count) (a .p) (a .last) (q .0 .1) (q .0 .2) (c .if1 .taken)
+
+in-order-sub-base :
+    (t : ℕ) →
+    in-order-lts.Need-sub-base (in-order-below t, in-order.Post) (in-order-at t) in-order.Post
+in-order-sub-base t c = search needs
+
+in-order-cast-base :
+    (t : ℕ) →
+    in-order-lts.Need-cast-base (in-order-below t, in-order.Post) (in-order-at t) in-order.Post
+in-order-cast-base t c = search needs
+
+in-order-mul-base :
+    (t : ℕ) →
+    in-order-lts.Need-mul-base (in-order-below t, in-order.Post) (in-order-at t) in-order.Post
+in-order-mul-base t c = search needs
+
+in-order-add-in-order :
+    (t : ℕ) →
+    in-order-lts.Need-add-in-order (in-order-below t, in-order.Post) (in-order-at t) in-order.Post
+in-order-add-in-order t c = search needs
+
+in-order-mul-in-order :
+    (t : ℕ) →
+    in-order-lts.Need-mul-in-order (in-order-below t, in-order.Post) (in-order-at t) in-order.Post
+in-order-mul-in-order t c = search needs
+
+in-order-shared-slice-read-in-order : (t : ℕ) → in-order-lts.Need-shared-slice-read-in-order (in-order-claims t) (in-order-at t) in-order.Post
+in-order-shared-slice-read-in-order t c = search needs
+
+in-order-in-order-requires : (t : ℕ) → in-order-lts.Need-in-order-requires (in-order-claims t) (in-order-at t) in-order.Post
+in-order-in-order-requires t c κs =
+    let a = (c .before .before .before) .args in
+    let q = (c .before .before .before) .pre .1 in
+    let E = q .1 .each (a .p - 2) (omega (arith, q .0 .1, q .0 .2, (c .before) .if1 .left)) in (
+      omega (arith, (c .before .before .before) .pre .0, E .zero-before, q .0 .2, (c .before) .if1 .left),
+      ((q .0 .0, omega (arith, E .zero-before, q .0 .1, q .0 .2, (c .before) .if1 .left), q .0 .2), q .1),
+    )
+
+in-order-enum-known-first : (t : ℕ) → in-order-lts.Need-enum-known-first (in-order-claims t) (in-order-at t) in-order.Post
+in-order-enum-known-first t c = search needs
+
+in-order-enum-told :
+    (t : ℕ) →
+    in-order-lts.Need-enum-told (in-order-below t, in-order.Post) (in-order-at t) in-order.Post
+in-order-enum-told t c = search needs
+
+in-order-returns-2 :
+    (t : ℕ) →
+    in-order-lts.Need-returns-2 (in-order-below t, in-order.Post) (in-order-at t) in-order.Post
+in-order-returns-2 t c =
+    let a = (start·in-order·After-enum-told t c) .args in
+    let q = (start·in-order·After-enum-told t c) .pre .1 in
+    walk-first (a .nodes .now) (a .count) (a .p) (a .last) (q .0 .1) (q .0 .2) ((if1·in-order·After-enum-told t c) .if1 .left) ((c .before .before) .in-order .ensures) (c .enum-told .given .1)
+
+in-order-add-in-order-2 : (t : ℕ) → in-order-lts.Need-add-in-order-2 (in-order-claims t) (in-order-at t) in-order.Post
+in-order-add-in-order-2 t c = search needs
+
+in-order-mul-in-order-2 : (t : ℕ) → in-order-lts.Need-mul-in-order-2 (in-order-claims t) (in-order-at t) in-order.Post
+in-order-mul-in-order-2 t c = search needs
+
+in-order-shared-slice-read-in-order-2 : (t : ℕ) → in-order-lts.Need-shared-slice-read-in-order-2 (in-order-claims t) (in-order-at t) in-order.Post
+in-order-shared-slice-read-in-order-2 t c = search needs
+
+in-order-in-order-requires-2 : (t : ℕ) → in-order-lts.Need-in-order-requires-2 (in-order-claims t) (in-order-at t) in-order.Post
+in-order-in-order-requires-2 t c κs =
+    let a = (start·in-order·After-shared-slice-known3 t c) .args in
+    let q = (start·in-order·After-shared-slice-known3 t c) .pre .1 in
+    let E = q .1 .each (a .p - 2) (omega (arith, q .0 .1, q .0 .2, (if1·in-order·After-shared-slice-known3 t c) .if1 .left)) in (
+      omega (arith, (start·in-order·After-shared-slice-known3 t c) .pre .0, E .one-before, q .0 .2, (if1·in-order·After-shared-slice-known3 t c) .if1 .left),
+      ((q .0 .0, omega (arith, E .one-before, q .0 .1, q .0 .2, (if1·in-order·After-shared-slice-known3 t c) .if1 .left), (in-order·in-order·After-shared-slice-known3 t c) .in-order .ensures .low _ ((c .before .before) .first .given .1)), q .1),
+    )
+
+in-order-enum-known-second : (t : ℕ) → in-order-lts.Need-enum-known-second (in-order-claims t) (in-order-at t) in-order.Post
+in-order-enum-known-second t c = search needs
+
+in-order-enum-told-2 :
+    (t : ℕ) →
+    in-order-lts.Need-enum-told-2 (in-order-below t, in-order.Post) (in-order-at t) in-order.Post
+in-order-enum-told-2 t c = search needs
+
+in-order-returns-3 :
+    (t : ℕ) →
+    in-order-lts.Need-returns-3 (in-order-below t, in-order.Post) (in-order-at t) in-order.Post
+in-order-returns-3 t c =
+    let a = (start·in-order·After-enum-told2 t c) .args in
+    let q = (start·in-order·After-enum-told2 t c) .pre .1 in
+    walk-second (a .nodes .now) (a .count) (a .p) (a .last) (q .0 .1) (q .0 .2) ((if1·in-order·After-enum-told2 t c) .if1 .left) ((in-order·in-order·After-enum-told2 t c) .in-order .ensures) _ ((first·in-order·After-enum-told2 t c) .first .given .1) ((c .before .before) .in-order2 .ensures) (c .enum-told2 .given .1)
+
+in-order-sub-if2 :
+    (t : ℕ) →
+    in-order-lts.Need-sub-if2 (in-order-below t, in-order.Post) (in-order-at t) in-order.Post
+in-order-sub-if2 t c = search needs
+
+in-order-returns-4 :
+    (t : ℕ) →
+    in-order-lts.Need-returns-4 (in-order-below t, in-order.Post) (in-order-at t) in-order.Post
+in-order-returns-4 t c =
+    let a = (start·in-order·Then2 t c) .args in
+    let q = (start·in-order·Then2 t c) .pre .1 in
+    walk-other (a .nodes .now) (a .count) (a .p) (a .last) (q .0 .1) (q .0 .2) ((if1·in-order·Then2 t c) .if1 .left) ((in-order·in-order·Then2 t c) .in-order .ensures) _ ((first·in-order·Then2 t c) .first .given .1) ((in-order2·in-order·Then2 t c) .in-order2 .ensures) _ ((c .before .before) .second .given .1) (c .if2 .taken)
+
+in-order-returns-5 :
+    (t : ℕ) →
+    in-order-lts.Need-returns-5 (in-order-below t, in-order.Post) (in-order-at t) in-order.Post
+in-order-returns-5 t c =
+    let a = (start·in-order·Else2 t c) .args in
+    let q = (start·in-order·Else2 t c) .pre .1 in
+    walk-next (a .nodes .now) (a .count) (a .p) (a .last) (q .0 .1) (q .0 .2) ((if1·in-order·Else2 t c) .if1 .left) ((in-order·in-order·Else2 t c) .in-order .ensures) _ ((first·in-order·Else2 t c) .first .given .1) ((in-order2·in-order·Else2 t c) .in-order2 .ensures) _ ((c .before .before) .second .given .1) (c .if2 .left)
+
+pub +in-order-spec : {M : Type 1} → statement M
++in-order-spec =
+    close
+    μ-in-order
+    λ t. in-order-lts.spec
+    (in-order-below t, in-order.Post)
+    (in-order-at t)
+    in-order.Post
+    (in-order-returns t)
+    (in-order-sub-base t)
+    (in-order-cast-base t)
+    (in-order-mul-base t)
+    (in-order-add-in-order t)
+    (in-order-mul-in-order t)
+    (in-order-shared-slice-read-in-order t)
+    (in-order-in-order-requires t)
+    (in-order-enum-known-first t)
+    (in-order-enum-told t)
+    (in-order-returns-2 t)
+    (in-order-add-in-order-2 t)
+    (in-order-mul-in-order-2 t)
+    (in-order-shared-slice-read-in-order-2 t)
+    (in-order-in-order-requires-2 t)
+    (in-order-enum-known-second t)
+    (in-order-enum-told-2 t)
+    (in-order-returns-3 t)
+    (in-order-sub-if2 t)
+    (in-order-returns-4 t)
+    (in-order-returns-5 t)

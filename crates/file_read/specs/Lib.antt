@@ -1,0 +1,2 @@
+-- What the contracts of `file_read` cite.
+pub mod Inner

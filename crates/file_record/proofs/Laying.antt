@@ -1,0 +1,120 @@
+-- What the writers leave is the definition's bytes at the front: a field where it stands, then the record of three fields behind the bit map byte.
+-- Runs of bytes laid one after another are one run.
+use Prim.Native.Nat.{ℕ, zero, suc, _+_, _*_, _/_, _%_, _≤_, _<_}
+use mathlib.Core.Path.{_≡_, refl, sym, ap, _∙_}
+use mathlib.Core.Bool.{Bool, true, false, cond}
+use mathlib.Core.List.{List, [], _∷_, _++_}
+use native.Mathlib.Omega.{arith}
+use native.Mathlib.Numerals.{add-one}
+use lib.Dec.{eqb}
+use lib.ListN.{length, set, length-set, length-append}
+use lib.Seq.{sets, length-sets}
+use Rattle.family.specs.Record.{bytesOf, stands, field, mapOf, triple, recordBytes}
+use Rattle.file_record.specs.Widths.{widths}
+
+pub sets-append : (xs ys l : List ℕ) (i : ℕ) → sets l i (xs ++ ys) ≡ sets (sets l i xs) (i + length xs) ys
+sets-append [] ys l i = ap (λ k. sets l k ys) (omega arith)
+sets-append (x ∷ xs) ys l i = sets-append xs ys (set l i x) (suc i) ∙ ap (λ k. sets (sets (set l i x) (suc i) xs) k ys) (omega arith)
+
+-- the bit map byte
+pub map-is : (item zeroth one : Bool) (a b c : ℕ) → a ≡ cond item 1 0 → b ≡ cond zeroth 2 0 → c ≡ cond one 4 0 → a + b + c ≡ mapOf item zeroth one
+unfolding mapOf
+map-is item zeroth one a b c ea eb ec = rw (ea, eb, ec) (go item zeroth one)
+  where
+    go : (item zeroth one : Bool) → cond item 1 0 + cond zeroth 2 0 + cond one 4 0 ≡ mapOf item zeroth one
+    go true true true = refl
+    go true true false = refl
+    go true false true = refl
+    go true false false = refl
+    go false true true = refl
+    go false true false = refl
+    go false false true = refl
+    go false false false = refl
+
+pub weight-low : (s : Bool) (a v : ℕ) → a ≡ cond s v 0 → a ≤ v
+weight-low true a v e = omega arith
+weight-low false a v e = omega arith
+
+-- the ways out of a field writer
+module _ {s : Bool} (v : ℕ) (l : List ℕ) (at : ℕ) where
+  pub off-laid : (n : ℕ) → s ≡ false → (at ≡ at + length (field n s v)) × (l ≡ sets l at (field n s v))
+  off-laid n e = rw e (omega arith, refl)
+
+  pub two-laid : s ≡ true → (at + 2 ≡ at + length (field 2 s v)) × (set (set l at (v % 256)) (at + 1) (v / 256 % 256) ≡ sets l at (field 2 s v))
+  two-laid e = rw (e, add-one at) (omega arith, refl)
+
+  pub four-laid : s ≡ true
+      → (at + 4 ≡ at + length (field 4 s v)) × (set (set (set (set l at (v % 256)) (at + 1) (v / 256 % 256)) (at + 2) (v / 256 / 256 % 256)) (at + 3) (v / 256 / 256 / 256 % 256) ≡ sets l at (field 4 s v))
+  four-laid e =
+      let e₂ : at + 2 ≡ suc (suc at) = omega arith in
+      let e₃ : at + 3 ≡ suc (suc (suc at)) = omega arith in
+      let e₄ : at + 4 ≡ at + length (field 4 true v) = omega arith in
+      rw e (e₄, rw (add-one at, e₂, e₃) refl)
+
+  -- the room of a field that stands
+  pub room-two : s ≡ true → at + length (field 2 s v) ≤ length l → at + 2 ≤ length l
+  room-two e h = omega (arith, ap (λ x. length (field 2 x v)) e)
+
+  pub room-four : s ≡ true → at + length (field 4 s v) ≤ length l → at + 4 ≤ length l
+  room-four e h = omega (arith, ap (λ x. length (field 4 x v)) e)
+
+-- the length of a record
+pub widths-is : (item zeroth one : Bool) (a b c : ℕ) → a ≡ cond item 2 0 → b ≡ cond zeroth 4 0 → c ≡ cond one 4 0 → (1 + a + b + c ≡ widths item zeroth one) × (1 + a + b + c ≤ 11)
+unfolding widths
+widths-is item zeroth one a b c ea eb ec = (rw (ea, eb, ec), omega (arith, weight-low item a 2 ea, weight-low zeroth b 4 eb, weight-low one c 4 ec))
+
+-- the record
+module _ (pi pn i z o : ℕ) where
+  pub record-length : length (recordBytes pi pn (triple i z o))
+      ≡ 1 + (length (field 2 (stands i (suc pi)) i) + (length (field 4 (stands z 0) z) + length (field 4 (stands o pn) o)))
+  unfolding recordBytes
+  record-length = rw (length-append (field 2 (stands i (suc pi)) i), length-append (field 4 (stands z 0) z)) (omega arith)
+
+  -- the room for each field
+  module _ (l : List ℕ) (m : ℕ) (room : length (recordBytes pi pn (triple i z o)) ≤ length l) where
+    pub room-map : 0 < length l
+    room-map = omega (arith, record-length)
+
+    pub room-item : 1 + length (field 2 (stands i (pi + 1)) i) ≤ length (set l 0 m)
+    room-item = omega (arith, record-length, length-set l 0 m, ap (λ k. length (field 2 (stands i k) i)) (add-one pi))
+
+    module _ (a : ℕ) {l₁ : List ℕ} (e₁ : (a ≡ 1 + length (field 2 (stands i (pi + 1)) i)) × (l₁ ≡ sets (set l 0 m) 1 (field 2 (stands i (pi + 1)) i))) where
+      long₁ : length l₁ ≡ length l
+      long₁ = ap length (e₁ .1) ∙ length-sets (set l 0 m) 1 (field 2 (stands i (pi + 1)) i) ∙ length-set l 0 m
+
+      pub room-zero : a + length (field 4 (stands z 0) z) ≤ length l₁
+      room-zero = omega (arith, record-length, long₁, e₁ .0, ap (λ k. length (field 2 (stands i k) i)) (add-one pi))
+
+      module _ (b : ℕ) {l₂ : List ℕ} (e₂ : (b ≡ a + length (field 4 (stands z 0) z)) × (l₂ ≡ sets l₁ a (field 4 (stands z 0) z))) where
+        pub room-one : b + length (field 4 (stands o pn) o) ≤ length l₂
+        room-one =
+            omega (arith, record-length, long₁, ap length (e₂ .1) ∙ length-sets l₁ a (field 4 (stands z 0) z), e₁ .0, e₂ .0, ap (λ k. length (field 2 (stands i k) i)) (add-one pi))
+
+  module _ (l : List ℕ) (m a b c : ℕ) {l₁ l₂ l₃ : List ℕ} (em : m ≡ mapOf (stands i (pi + 1)) (stands z 0) (stands o pn))
+      (e₁ : (a ≡ 1 + length (field 2 (stands i (pi + 1)) i)) × (l₁ ≡ sets (set l 0 m) 1 (field 2 (stands i (pi + 1)) i)))
+      (e₂ : (b ≡ a + length (field 4 (stands z 0) z)) × (l₂ ≡ sets l₁ a (field 4 (stands z 0) z)))
+      (e₃ : (c ≡ b + length (field 4 (stands o pn) o)) × (l₃ ≡ sets l₂ b (field 4 (stands o pn) o))) where
+    pub record-place : c ≡ length (recordBytes pi pn (triple i z o))
+    record-place = rw record-length (omega (arith, e₁ .0, e₂ .0, e₃ .0, ap (λ k. length (field 2 (stands i k) i)) (add-one pi)))
+
+    pub record-laid : l₃ ≡ sets l 0 (recordBytes pi pn (triple i z o))
+    unfolding recordBytes
+    record-laid =
+        rw (e₃ .1, e₂ .1, e₁ .1, e₂ .0, e₁ .0, em, add-one pi)
+        (sym (sets-append (field 2 (stands i (suc pi)) i) (field 4 (stands z 0) z ++ field 4 (stands o pn) o) (set l 0 (mapOf (stands i (suc pi)) (stands z 0) (stands o pn))) 1
+        ∙ sets-append (field 4 (stands z 0) z) (field 4 (stands o pn) o) (sets (set l 0 (mapOf (stands i (suc pi)) (stands z 0) (stands o pn))) 1 (field 2 (stands i (suc pi)) i))
+        (1 + length (field 2 (stands i (suc pi)) i))))
+
+-- its length by the fields that stand
+pub widths-length : (pi pn i z o : ℕ) → widths (stands i (suc pi)) (stands z 0) (stands o pn) ≡ length (recordBytes pi pn (triple i z o))
+unfolding widths
+widths-length pi pn i z o =
+    omega (arith, field-length 2 (stands i (suc pi)) i, field-length 4 (stands z 0) z, field-length 4 (stands o pn) o, record-length pi pn i z o)
+  where
+    bytes-length : (n v : ℕ) → length (bytesOf n v) ≡ n
+    bytes-length zero v = refl
+    bytes-length (suc n) v = ap suc (bytes-length n (v / 256))
+
+    field-length : (n : ℕ) (s : Bool) (v : ℕ) → length (field n s v) ≡ cond s n 0
+    field-length n true v = bytes-length n v
+    field-length n false v = refl

@@ -1,0 +1,3 @@
+-- The laws of reading and writing records.
+pub mod Taking
+pub mod Laying

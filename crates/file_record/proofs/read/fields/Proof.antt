@@ -1,0 +1,185 @@
+-- `fields` reads the three fields behind a bit map byte, each from the bytes after the one before.
+-- Each way out is one branch of the definition.
+use mathlib.Core.Path.{_∙_, sym, ap}
+use native.Mathlib.Omega.{arith}
+use native.Mathlib.Numerals.{add-one}
+use Rattle.file_record.proofs.Taking.{part-from, field-read, fields-no-item, fields-no-zero, fields-reach, fields-no-one, fields-taken}
+use borrow.Author.Needs.{needs}
+use Rattle.file_record.proofs.read.fields.Statement.{statement}
+use Rattle.file_record.proofs.read.fields.Tie as tie
+
+abbrev start·After-enum-told : tie.After-enum-told → tie.Start
+start·After-enum-told c = c .before .before .before .before .before
+
+abbrev start·After-enum-told2 : tie.After-enum-told2 → tie.Start
+start·After-enum-told2 c = c .before .before .before .before .before .before .before .before .before .before
+
+abbrev field-two·After-enum-told2 : tie.After-enum-told2 → tie.After-field-two
+field-two·After-enum-told2 c = c .before .before .before .before .before .before .before
+
+abbrev item·After-enum-told2 : tie.After-enum-told2 → tie.After-item
+item·After-enum-told2 c = c .before .before .before .before .before
+
+abbrev item·After-known-told2 : tie.After-known-told2 → tie.After-item
+item·After-known-told2 c = c .before .before .before .before .before .before
+
+abbrev field-two·After-known-told2 : tie.After-known-told2 → tie.After-field-two
+field-two·After-known-told2 c = c .before .before .before .before .before .before .before .before
+
+abbrev start·After-known-told2 : tie.After-known-told2 → tie.Start
+start·After-known-told2 c = c .before .before .before .before .before .before .before .before .before .before .before
+
+abbrev start·After-enum-told3 : tie.After-enum-told3 → tie.Start
+start·After-enum-told3 c = c .before .before .before .before .before .before .before .before .before .before .before .before .before .before .before
+
+abbrev field-two·After-enum-told3 : tie.After-enum-told3 → tie.After-field-two
+field-two·After-enum-told3 c = c .before .before .before .before .before .before .before .before .before .before .before .before
+
+abbrev item·After-enum-told3 : tie.After-enum-told3 → tie.After-item
+item·After-enum-told3 c = c .before .before .before .before .before .before .before .before .before .before
+
+abbrev field-four·After-enum-told3 : tie.After-enum-told3 → tie.After-field-four
+field-four·After-enum-told3 c = c .before .before .before .before .before .before .before
+
+abbrev zero·After-enum-told3 : tie.After-enum-told3 → tie.After-zero
+zero·After-enum-told3 c = c .before .before .before .before .before
+
+abbrev item·After-known-told3 : tie.After-known-told3 → tie.After-item
+item·After-known-told3 c = c .before .before .before .before .before .before .before .before .before .before .before
+
+abbrev field-two·After-known-told3 : tie.After-known-told3 → tie.After-field-two
+field-two·After-known-told3 c = c .before .before .before .before .before .before .before .before .before .before .before .before .before
+
+abbrev zero·After-known-told3 : tie.After-known-told3 → tie.After-zero
+zero·After-known-told3 c = c .before .before .before .before .before .before
+
+abbrev field-four·After-known-told3 : tie.After-known-told3 → tie.After-field-four
+field-four·After-known-told3 c = c .before .before .before .before .before .before .before .before
+
+abbrev start·After-known-told3 : tie.After-known-told3 → tie.Start
+start·After-known-told3 c = c .before .before .before .before .before .before .before .before .before .before .before .before .before .before .before .before
+
+add-field-two : tie.Need-add-field-two
+add-field-two c = omega (arith, (c .before .before) .pre .1)
+
+field-two-requires : tie.Need-field-two-requires
+field-two-requires c κs = search needs
+
+enum-known-item : tie.Need-enum-known-item
+enum-known-item c = search needs
+
+enum-told : tie.Need-enum-told
+enum-told c = search needs
+
+returns : tie.Need-returns
+returns c =
+    let a = (start·After-enum-told c) .args in
+    fields-no-item (a .map) (a .last) (a .bytes .now) (add-one (a .last .item)) ((c .before .before) .field-two .ensures) (c .enum-told .given .1)
+
+sub-field-four : tie.Need-sub-field-four
+sub-field-four c = field-read _ _ ((c .before) .item .given .1) ((c .before .before .before) .field-two .ensures) .fits
+
+part-field-four-start : tie.Need-part-field-four-start
+part-field-four-start c = field-read _ _ ((c .before) .item .given .1) ((c .before .before .before) .field-two .ensures) .fits
+
+part-field-four-end : tie.Need-part-field-four-end
+part-field-four-end c = search needs
+
+field-four-requires : tie.Need-field-four-requires
+field-four-requires c κs = search needs
+
+enum-known-zero : tie.Need-enum-known-zero
+enum-known-zero c = search needs
+
+enum-told-2 : tie.Need-enum-told-2
+enum-told-2 c = search needs
+
+returns-2 : tie.Need-returns-2
+returns-2 c =
+    let a = (start·After-enum-told2 c) .args in
+    fields-no-zero (a .map) (a .last) (a .bytes .now) (add-one (a .last .item)) ((field-two·After-enum-told2 c) .field-two .ensures) _ _ ((item·After-enum-told2 c) .item .given .1)
+    (part-from (a .bytes .now) _) ((c .before .before) .field-four .ensures) (c .enum-told2 .given .1)
+
+add-field-four : tie.Need-add-field-four
+add-field-four c =
+    let I = field-read _ _ ((item·After-known-told2 c) .item .given .1) ((field-two·After-known-told2 c) .field-two .ensures) in
+    let Z = field-read _ _ ((c .before) .zero .given .1) ((c .before .before .before) .field-four .ensures) in
+    omega (arith, I .few, Z .few)
+
+sub-field-four-2 : tie.Need-sub-field-four-2
+sub-field-four-2 c =
+    let a = (start·After-known-told2 c) .args in
+    fields-reach (a .map) (a .last) (a .bytes .now) (add-one (a .last .item)) ((field-two·After-known-told2 c) .field-two .ensures) _ _ ((item·After-known-told2 c) .item .given .1)
+    (part-from (a .bytes .now) _) ((c .before .before .before) .field-four .ensures) _ _ ((c .before) .zero .given .1)
+
+part-field-four-start-2 : tie.Need-part-field-four-start-2
+part-field-four-start-2 c =
+    let a = (start·After-known-told2 c) .args in
+    fields-reach (a .map) (a .last) (a .bytes .now) (add-one (a .last .item)) ((field-two·After-known-told2 c) .field-two .ensures) _ _ ((item·After-known-told2 c) .item .given .1)
+    (part-from (a .bytes .now) _) ((c .before .before .before) .field-four .ensures) _ _ ((c .before) .zero .given .1)
+
+part-field-four-end-2 : tie.Need-part-field-four-end-2
+part-field-four-end-2 c = search needs
+
+field-four-requires-2 : tie.Need-field-four-requires-2
+field-four-requires-2 c κs = search needs
+
+enum-known-one : tie.Need-enum-known-one
+enum-known-one c = search needs
+
+enum-told-3 : tie.Need-enum-told-3
+enum-told-3 c = search needs
+
+returns-3 : tie.Need-returns-3
+returns-3 c =
+    let a = (start·After-enum-told3 c) .args in
+    fields-no-one (a .map) (a .last) (a .bytes .now) (add-one (a .last .item)) ((field-two·After-enum-told3 c) .field-two .ensures) _ _ ((item·After-enum-told3 c) .item .given .1)
+    (part-from (a .bytes .now) _) ((field-four·After-enum-told3 c) .field-four .ensures) _ _ ((zero·After-enum-told3 c) .zero .given .1) (part-from (a .bytes .now) _) ((c .before .before) .field-four2 .ensures) (c .enum-told3 .given .1)
+
+add-t16 : tie.Need-add-t16
+add-t16 c =
+    let I = field-read _ _ ((item·After-known-told3 c) .item .given .1) ((field-two·After-known-told3 c) .field-two .ensures) in
+    let Z = field-read _ _ ((zero·After-known-told3 c) .zero .given .1) ((field-four·After-known-told3 c) .field-four .ensures) in
+    omega (arith, I .few, Z .few)
+
+add-t21 : tie.Need-add-t21
+add-t21 c =
+    let I = field-read _ _ ((item·After-known-told3 c) .item .given .1) ((field-two·After-known-told3 c) .field-two .ensures) in
+    let Z = field-read _ _ ((zero·After-known-told3 c) .zero .given .1) ((field-four·After-known-told3 c) .field-four .ensures) in
+    let O = field-read _ _ ((c .before) .one .given .1) ((c .before .before .before) .field-four2 .ensures) in
+    omega (arith, I .few, Z .few, O .few)
+
+returns-4 : tie.Need-returns-4
+returns-4 c =
+    let a = (start·After-known-told3 c) .args in
+    fields-taken (a .map) (a .last) (a .bytes .now) (add-one (a .last .item)) ((field-two·After-known-told3 c) .field-two .ensures) _ _ ((item·After-known-told3 c) .item .given .1)
+    (part-from (a .bytes .now) _) ((field-four·After-known-told3 c) .field-four .ensures) _ _ ((zero·After-known-told3 c) .zero .given .1) (part-from (a .bytes .now) _)
+    ((c .before .before .before) .field-four2 .ensures) _ _ ((c .before) .one .given .1)
+
+pub fields-spec : {M : Type 1} → statement M
+fields-spec =
+    tie.close
+    (tie.spec
+    add-field-two
+    field-two-requires
+    enum-known-item
+    enum-told
+    returns
+    sub-field-four
+    part-field-four-start
+    part-field-four-end
+    field-four-requires
+    enum-known-zero
+    enum-told-2
+    returns-2
+    add-field-four
+    sub-field-four-2
+    part-field-four-start-2
+    part-field-four-end-2
+    field-four-requires-2
+    enum-known-one
+    enum-told-3
+    returns-3
+    add-t16
+    add-t21
+    returns-4)

@@ -1,0 +1,3 @@
+-- What the contracts of `file_record` cite.
+pub mod Inner
+pub mod Widths

@@ -1,0 +1,250 @@
+-- Each way out of Save keeps the promise: the trail's parts are those of the family in placing order, its length is the file's, and the file written is the definition's.
+-- On words that hold a book nothing on the way is broken.
+use Prim.Native.Nat.{ℕ, zero, suc, _+_, _*_, _-_, _≤_, _<_}
+use mathlib.Core.Path.{_≡_, refl, sym, ap, _∙_}
+use mathlib.Core.Bool.{Bool, true, false, cond}
+use mathlib.Core.List.{List, [], _∷_, _++_}
+use native.Mathlib.Omega.{arith}
+use lib.Dec.{eqb, ltb}
+use lib.ListN.{length, getD, set, take, drop, length-set}
+use lib.Seq.{sets, sets-eq}
+use borrow.Author.Tests.{eq-eqb, ne-eqb, lt-ltb, le-ltb}
+use Rattle.family.specs.Family.{Family, empty, base, node, top}
+use Rattle.family.specs.Book.{start, at, number, place}
+use Rattle.family.specs.Record.{bytesOf}
+use Rattle.family.specs.File.{triplesOf, recordsBytes, fileOfBook, fileOf}
+use Rattle.words.specs.Words.{zeroed}
+use Rattle.words.proofs.Cases.{by-lt, by-eq, clash}
+use Rattle.words.proofs.Zeroed.{rest-drop, zeroed-length, zeroed-inside, zeroed-after}
+use Rattle.store.specs.declared.record.Store.{Store}
+use Rattle.store.specs.declared.record.Refusal.the-variants.{Handle, Scratch, Output, Damaged}
+use Rattle.store.specs.Capacity.{fitting}
+use Rattle.store.specs.Scratch.{scratchTests}
+use Rattle.store.specs.Words.{itemLimit, topAt, bookOf}
+use Rattle.store.specs.Sound.{Sound}
+use Rattle.store.specs.Inner.{Holds}
+use Rattle.store.proofs.Held.{at-0, at-1, top-at, within, at-node}
+use Rattle.store.proofs.Decoding.{sound-holds}
+use Rattle.store.proofs.Calls.{sound-fits}
+use Rattle.store.proofs.Tested.{tests-handle, tests-scratch, tests-passed}
+use Rattle.file_trail.specs.declared.trail.Trail.{Trail}
+use Rattle.file_trail.specs.declared.walk.Walked.{Walked}
+use Rattle.file_trail.specs.declared.walk.Walked.the-variants.{Went, Broken as NoWay}
+use Rattle.file_save.specs.declared.SaveAnswer.the-variants.{Length, Refused}
+use Rattle.file_save.specs.declared.Saved.{Saved}
+use Rattle.file_save.specs.Promise.{saveGivenBy, saveRefusal, saveAnswer, saveOutput, SaveCall}
+use Rattle.file_trail.specs.Inner.{TrailFits, Trailed, WalkOf}
+use Rattle.file_write.specs.Inner.{Writing, startAt, WritesOf}
+use Rattle.file_save.specs.Inner.{LeafOf, FileOf, PartsOf}
+use Rattle.file_trail.proofs.Trails.{trail-start}
+use Rattle.file_trail.proofs.Walking.{came-to, never}
+use Rattle.file_write.proofs.Cursors.{sets-front}
+
+file-length : (D : List Family) → length (fileOfBook D) ≡ 5 + length (recordsBytes 0 1 (triplesOf D (drop 2 D)))
+unfolding fileOfBook
+file-length D = omega arith
+
+-- the file of a trail's parts
+pub file-written : (t : Trail) (nodes : List ℕ) (n : ℕ) (links out : List ℕ) {out₁ : List ℕ} {r : Bool} {links′ out′ : List ℕ} → 5 ≤ length out
+    → out₁ ≡ sets out 0 (1 ∷ bytesOf 4 (t .parts)) → length out₁ ≡ length out → WritesOf (t .first) (t .parts) nodes n links out₁ r links′ out′ → FileOf t nodes n links out r links′ out′
+unfolding fileOfBook
+file-written t nodes n links out {out₁} {r} {links′} {out′} h e l W =
+    record {
+      long = W .long;
+      long-out = W .long-out ∙ l;
+      rest = W .rest;
+      sound = λ B D lookup H T few. W .sound B D lookup (fileOfBook D) out H (T .parts-is) (begun T few);
+    }
+  where
+    begun : {B D : List Family} → Trailed B D n t links → t .length ≤ length out → Writing B D 2 (startAt (t .first)) links (fileOfBook D) out out₁
+    begun {B} {D} T few =
+        let parts : t .parts ≡ length D - 2 = omega (arith, T .parts-is) in
+        record {
+          book = T .book;
+          inside = T .inside;
+          two = omega arith;
+          at-is = T .first-is;
+          number-is = omega arith;
+          place-low = omega (arith, file-length D);
+          room = omega (arith, file-length D, T .length-is);
+          todo-is = refl;
+          out-is = e ∙ rw parts (sets-front (1 ∷ bytesOf 4 (length D - 2)) out (omega arith));
+          numbered = λ m a b c. absurd (omega arith);
+          next = T .next;
+        }
+
+-- the ways out of `save_parts`
+parts-first : Trail
+parts-first = record { first = 0; last = 1; item = 0; parts = 0; length = 5 }
+
+module _ (s : Store) (p : ℕ) (nodes links out : List ℕ) (two : 2 ≤ p) (lp : p ≤ s .count + 1) where
+  pub parts-damaged : (r : Saved) → r .store ≡ s → itemLimit < topAt nodes p → PartsOf s p nodes links out r links out
+  parts-damaged r es h =
+      record {
+        store-is = es;
+        long = refl;
+        long-out = refl;
+        rest = λ k l. refl;
+        refused = λ B lookup H l. absurd (omega (arith, top-at H p (omega arith), within H p (omega arith) .low));
+        gave = λ B lookup H l. absurd (omega (arith, top-at H p (omega arith), within H p (omega arith) .low));
+      }
+
+  module _ (room : s .count ≤ length links) {links₁ : List ℕ} (el : links₁ ≡ zeroed 0 (s .count) links) (start′ : Trail) (is-start : (start′ .last ≡ 1) × (start′ .item ≡ 0) × (start′ .parts ≡ 0) × (start′ .length ≡ 5))
+      {x : Walked} {links₂ : List ℕ} (W : WalkOf start′ p nodes (s .count) links₁ x links₂) where
+    long₂ : length links₂ ≡ length links
+    long₂ = W .long ∙ ap length el ∙ zeroed-length 0 (s .count) links (omega arith) room
+
+    rest₂ : (k : ℕ) → s .count ≤ k → getD links₂ k 0 ≡ getD links k 0
+    rest₂ k l = W .rest k l ∙ ap (λ X. getD X k 0) el ∙ zeroed-after 0 (s .count) links (omega arith) room k l
+
+    begun : {B : List Family} {lookup : List ℕ} → Holds B (s .count) nodes lookup → Trailed B start (s .count) start′ links₁
+    begun H = trail-start H links₁ (λ k l. ap (λ X. getD X k 0) el ∙ zeroed-inside 0 (s .count) links (omega arith) room k (omega arith) l) start′ (is-start .0) (is-start .1) (is-start .2) (is-start .3)
+
+    pub parts-broken : (r : Saved) → r .store ≡ s → x ≡ NoWay → PartsOf s p nodes links out r links₂ out
+    parts-broken r es e =
+        record {
+          store-is = es;
+          long = long₂;
+          long-out = refl;
+          rest = rest₂;
+          refused = λ B lookup H l. absurd (never e (W .sound B start lookup H (begun H)));
+          gave = λ B lookup H l. absurd (never e (W .sound B start lookup H (begun H)));
+        }
+
+    module _ (t : Trail) (et : x ≡ Went t) where
+      trail : {B : List Family} {lookup : List ℕ} → Holds B (s .count) nodes lookup → Trailed B (place start (at B p)) (s .count) t links₂
+      trail {B} {lookup} H = came-to t et (W .sound B start lookup H (begun H))
+
+      -- the file of a node is that of its own book
+      file-is : {B : List Family} {lookup : List ℕ} → Holds B (s .count) nodes lookup → fileOf (at B p) ≡ fileOfBook (place start (at B p))
+      file-is {B} H = go (at B p) (at-node H p two (omega arith))
+        where
+          go : (F : Family) {i : ℕ} {a b : Family} → F ≡ node i a b → fileOf F ≡ fileOfBook (place start F)
+          go empty e = absurd (let z : _≡_ {A = ℕ} 0 1 = cc in omega arith)
+          go base e = absurd (let z : _≡_ {A = ℕ} 0 1 = cc in omega arith)
+          go (node i a b) e = refl
+
+      length-is : {B : List Family} {lookup : List ℕ} → Holds B (s .count) nodes lookup → t .length ≡ length (fileOf (at B p))
+      length-is {B} H = trail H .length-is ∙ sym (file-length (place start (at B p))) ∙ ap length (sym (file-is H))
+
+      pub parts-short : (r : Saved) → r .store ≡ s → length out < t .length → r .answer ≡ Refused Output → PartsOf s p nodes links out r links₂ out
+      parts-short r es h ea =
+          record {
+            store-is = es;
+            long = long₂;
+            long-out = refl;
+            rest = rest₂;
+            refused = λ B lookup H l. (ea, refl);
+            gave = λ B lookup H l. absurd (omega (arith, length-is H));
+          }
+
+      module _ (fit : t .length ≤ length out) {y : Bool} {links₃ out₃ : List ℕ} (F : FileOf t nodes (s .count) links₂ out y links₃ out₃) where
+        wrote : {B : List Family} {lookup : List ℕ} → Holds B (s .count) nodes lookup → (y ≡ true) × (out₃ ≡ fileOf (at B p) ++ drop (length (fileOf (at B p))) out)
+        wrote {B} {lookup} H = rw (file-is H) (F .sound B (place start (at B p)) lookup H (trail H) fit)
+
+        pub parts-unwritten : (r : Saved) → r .store ≡ s → y ≡ false → PartsOf s p nodes links out r links₃ out₃
+        parts-unwritten r es e =
+            record {
+              store-is = es;
+              long = F .long ∙ long₂;
+              long-out = F .long-out;
+              rest = λ k l. F .rest k l ∙ rest₂ k l;
+              refused = λ B lookup H l. clash (wrote H .0) e;
+              gave = λ B lookup H l. clash (wrote H .0) e;
+            }
+
+        pub parts-done : (r : Saved) → r .store ≡ s → r .answer ≡ Length (t .length) → PartsOf s p nodes links out r links₃ out₃
+        parts-done r es ea =
+            record {
+              store-is = es;
+              long = F .long ∙ long₂;
+              long-out = F .long-out;
+              rest = λ k l. F .rest k l ∙ rest₂ k l;
+              refused = λ B lookup H l. absurd (omega (arith, length-is H));
+              gave = λ B lookup H l. (ea ∙ ap Length (length-is H), wrote H .1);
+            }
+
+-- the ways out of `save`
+module _ (s : Store) (nodes lookup : List ℕ) (p : ℕ) (scratch out : List ℕ) where
+  abbrev B : List Family
+  B = bookOf nodes (s .count)
+
+  pub save-misfit : (r : Saved) → r .store ≡ s → fitting (s .capacity) (s .count) (length nodes) (length lookup) ≡ false → r .answer ≡ Refused Damaged → SaveCall s nodes lookup p scratch out r scratch out
+  save-misfit r es e ea =
+      record {
+        misfit = λ d. (ea, refl, refl);
+        answer-is = λ S. clash (sound-fits S) e;
+        out-is = λ S. clash (sound-fits S) e;
+        scratch-stays = λ S n. refl;
+        scratch-rest = refl;
+        store-is = es;
+        long = refl;
+        long-out = refl;
+      }
+
+  module _ (e : fitting (s .capacity) (s .count) (length nodes) (length lookup) ≡ true) where
+    -- refused by a test of handle and scratch
+    tested-out : (n : ℕ) → (n ≡ 0 → ⊥) → (Sound s nodes lookup [] → scratchTests B p (length scratch) ≡ n) → (r : Saved) → r .store ≡ s → saveGivenBy (r .answer) ≡ record { refusal = n; length = 0 }
+        → SaveCall s nodes lookup p scratch out r scratch out
+    unfolding saveAnswer saveRefusal saveOutput
+    tested-out n some t r es ea =
+        record {
+          misfit = λ d. clash e d;
+          answer-is = λ S. ea ∙ rw (t S, ne-eqb n 0 some, ne-eqb n 0 some);
+          out-is = λ S. rw (t S, ne-eqb n 0 some, ne-eqb n 0 some);
+          scratch-stays = λ S m. refl;
+          scratch-rest = refl;
+          store-is = es;
+          long = refl;
+          long-out = refl;
+        }
+
+    pub save-handle : s .count + 1 < p → (r : Saved) → r .store ≡ s → r .answer ≡ Refused Handle → SaveCall s nodes lookup p scratch out r scratch out
+    save-handle l r es ea = tested-out 4 (omega arith) (λ S. tests-handle B (s .count) p (length scratch) (sound-holds S .size) l) r es (ap saveGivenBy ea)
+
+    module _ (lp : p ≤ s .count + 1) where
+      pub save-scratch : length scratch < s .count → (r : Saved) → r .store ≡ s → r .answer ≡ Refused Scratch → SaveCall s nodes lookup p scratch out r scratch out
+      save-scratch l r es ea = tested-out 7 (omega arith) (λ S. tests-scratch B (s .count) p (length scratch) (sound-holds S .size) lp l) r es (ap saveGivenBy ea)
+
+      module _ (room : s .count ≤ length scratch) where
+        passed : Sound s nodes lookup [] → scratchTests B p (length scratch) ≡ 0
+        passed S = tests-passed B (s .count) p (length scratch) (sound-holds S .size) lp room
+
+        -- by whether the output has room for the file
+        told : (r : Saved) (scratch′ out′ : List ℕ) → r .store ≡ s → length scratch′ ≡ length scratch → length out′ ≡ length out → ((k : ℕ) → s .count ≤ k → getD scratch′ k 0 ≡ getD scratch k 0)
+            → (Sound s nodes lookup [] → length out < length (fileOf (at B p)) → (r .answer ≡ Refused Output) × (out′ ≡ out))
+            → (Sound s nodes lookup [] → length (fileOf (at B p)) ≤ length out → (r .answer ≡ Length (length (fileOf (at B p)))) × (out′ ≡ fileOf (at B p) ++ drop (length (fileOf (at B p))) out))
+            → SaveCall s nodes lookup p scratch out r scratch′ out′
+        unfolding saveAnswer saveRefusal saveOutput
+        told r scratch′ out′ es l lo rest short long =
+            record {
+              misfit = λ d. clash e d;
+              answer-is = λ S. by-lt (length out) (length (fileOf (at B p)))
+                  (λ h q. ap saveGivenBy (short S h .0) ∙ rw (passed S, q))
+                  (λ h q. ap saveGivenBy (long S h .0) ∙ rw (passed S, q));
+              out-is = λ S. by-lt (length out) (length (fileOf (at B p))) (λ h q. short S h .1 ∙ rw (passed S, q)) (λ h q. long S h .1 ∙ rw (passed S, q));
+              scratch-stays = λ S n. absurd (n (passed S));
+              scratch-rest = rest-drop (s .count) scratch scratch′ l rest;
+              store-is = es;
+              long = l;
+              long-out = lo;
+            }
+
+        pub save-leaf : p < 2 → (r : Saved) {out′ : List ℕ} → LeafOf s p out r out′ → SaveCall s nodes lookup p scratch out r scratch out′
+        save-leaf h r {out′} L =
+            told r scratch out′ (L .store-is) refl (L .long-out) (λ k l. refl)
+            (λ S l. L .refused (omega (arith, one S)))
+            (λ S l. let g = L .gave (λ z. omega (arith, one S)) in (g .0 ∙ ap Length (sym (one S)), g .1 ∙ laid S (λ z. omega (arith, one S))))
+          where
+            leaf : Sound s nodes lookup [] → fileOf (at B p) ≡ cond (eqb p 0) 0 2 ∷ []
+            leaf S = by-eq p 0 (λ q d. rw (d, q, at-0 (sound-holds S))) (λ q d. let one : p ≡ 1 = omega arith in rw (d, one, at-1 (sound-holds S)))
+
+            one : Sound s nodes lookup [] → length (fileOf (at B p)) ≡ 1
+            one S = ap length (leaf S)
+
+            laid : Sound s nodes lookup [] → (length out ≡ 0 → ⊥) → set out 0 (cond (eqb p 0) 0 2) ≡ fileOf (at B p) ++ drop (length (fileOf (at B p))) out
+            laid S n = rw (leaf S) (sets-front (cond (eqb p 0) 0 2 ∷ []) out (omega arith))
+
+        pub save-parts : (r : Saved) {scratch′ out′ : List ℕ} → PartsOf s p nodes scratch out r scratch′ out′ → SaveCall s nodes lookup p scratch out r scratch′ out′
+        save-parts r {scratch′} {out′} P =
+            told r scratch′ out′ (P .store-is) (P .long) (P .long-out) (P .rest) (λ S l. P .refused B lookup (sound-holds S) l) (λ S l. P .gave B lookup (sound-holds S) l)

@@ -1,0 +1,25 @@
+-- `put_header` writes 01 and the number of parts.
+-- Its stores are a run of five bytes.
+use borrow.Author.Needs.{needs}
+use mathlib.Core.Path.{_∙_}
+use lib.ListN.{length-set}
+use Rattle.file_save.proofs.put_header.Statement.{statement}
+use Rattle.file_save.proofs.put_header.Tie as tie
+
+abbrev start·After-slice-known2 : tie.After-slice-known2 → tie.Start
+start·After-slice-known2 c = c .before .before .before .before .before
+
+slice-write-out : tie.Need-slice-write-out
+slice-write-out c = search needs
+
+put-four-requires : tie.Need-put-four-requires
+put-four-requires c κs = search needs
+
+same-length : tie.Need-same-length
+same-length c = (c .before .before) .put-four .kept .0 ∙ length-set ((start·After-slice-known2 c) .args .out .now) 0 1
+
+returns : tie.Need-returns
+returns c = search needs
+
+pub put-header-spec : {M : Type 1} → statement M
+put-header-spec = tie.close (tie.spec slice-write-out put-four-requires same-length returns)

@@ -1,0 +1,4 @@
+-- The laws of `file_table`.
+pub mod Slots
+pub mod Entries
+pub mod Accepting

@@ -1,0 +1,105 @@
+-- `is_next` tests a part: each way out is one failing test of the definition, the last one is the last test.
+-- The tops it reads are the words' tops.
+use borrow.Author.Needs.{needs}
+use native.Mathlib.Omega.{arith}
+use Rattle.file_table.proofs.Accepting.{next-item, next-zero, next-one, next-none, next-top, next-last}
+use borrow.Author.Needs.{needs}
+use Rattle.file_table.proofs.is_next.Statement.{statement}
+use Rattle.file_table.proofs.is_next.Tie as tie
+
+add-if2 : tie.Need-add-if2
+add-if2 c = search needs
+
+add-if3 : tie.Need-add-if3
+add-if3 c = search needs
+
+top-of-requires : tie.Need-top-of-requires
+top-of-requires c κs = search needs
+
+top-of-requires-2 : tie.Need-top-of-requires-2
+top-of-requires-2 c κs = search needs
+
+abbrev start·Then2 : tie.Then2 → tie.Start
+start·Then2 c = c .before .before .before .before .before
+
+abbrev start·Then3 : tie.Then3 → tie.Start
+start·Then3 c = c .before .before .before .before .before .before .before
+
+abbrev if1·Then3 : tie.Then3 → tie.Else1
+if1·Then3 c = c .before .before .before .before
+
+abbrev start·Then4 : tie.Then4 → tie.Start
+start·Then4 c = c .before .before .before .before .before .before .before .before .before
+
+abbrev if1·Then4 : tie.Then4 → tie.Else1
+if1·Then4 c = c .before .before .before .before .before .before
+
+abbrev if2·Then4 : tie.Then4 → tie.Else2
+if2·Then4 c = c .before .before .before .before
+
+abbrev start·Then5 : tie.Then5 → tie.Start
+start·Then5 c = c .before .before .before .before .before .before .before .before .before .before .before .before
+
+abbrev if1·Then5 : tie.Then5 → tie.Else1
+if1·Then5 c = c .before .before .before .before .before .before .before .before .before
+
+abbrev if2·Then5 : tie.Then5 → tie.Else2
+if2·Then5 c = c .before .before .before .before .before .before .before
+
+abbrev if3·Then5 : tie.Then5 → tie.Else3
+if3·Then5 c = c .before .before .before .before .before
+
+abbrev start·After-struct-known6 : tie.After-struct-known6 → tie.Start
+start·After-struct-known6 c = c .before .before .before .before .before .before .before .before .before .before .before .before .before .before
+
+abbrev if1·After-struct-known6 : tie.After-struct-known6 → tie.Else1
+if1·After-struct-known6 c = c .before .before .before .before .before .before .before .before .before .before .before
+
+abbrev if2·After-struct-known6 : tie.After-struct-known6 → tie.Else2
+if2·After-struct-known6 c = c .before .before .before .before .before .before .before .before .before
+
+abbrev if3·After-struct-known6 : tie.After-struct-known6 → tie.Else3
+if3·After-struct-known6 c = c .before .before .before .before .before .before .before
+
+abbrev if4·After-struct-known6 : tie.After-struct-known6 → tie.Else4
+if4·After-struct-known6 c = c .before .before .before .before .before
+
+abbrev top-of·After-struct-known6 : tie.After-struct-known6 → tie.After-top-of
+top-of·After-struct-known6 c = c .before .before .before .before
+
+returns : tie.Need-returns
+returns c = let a = (c .before .before .before) .args in next-item (a .words .now) (a .k) (a .part .item) (a .part .zero) (a .part .one) (c .if1 .taken)
+
+returns-2 : tie.Need-returns-2
+returns-2 c = let a = (start·Then2 c) .args in next-zero (a .words .now) (a .k) (a .part .item) (a .part .zero) (a .part .one) ((c .before .before) .if1 .left) (c .if2 .taken)
+
+returns-3 : tie.Need-returns-3
+returns-3 c = let a = (start·Then3 c) .args in next-one (a .words .now) (a .k) (a .part .item) (a .part .zero) (a .part .one) ((if1·Then3 c) .if1 .left) ((c .before .before) .if2 .left) (c .if3 .taken)
+
+returns-4 : tie.Need-returns-4
+returns-4 c = let a = (start·Then4 c) .args in next-none (a .words .now) (a .k) (a .part .item) (a .part .zero) (a .part .one) ((if1·Then4 c) .if1 .left) ((if2·Then4 c) .if2 .left) ((c .before .before) .if3 .left) (c .if4 .taken)
+
+returns-5 : tie.Need-returns-5
+returns-5 c =
+    let a = (start·Then5 c) .args in
+    next-top (a .words .now) (a .k) (a .part .item) (a .part .zero) (a .part .one) ((if1·Then5 c) .if1 .left) ((if2·Then5 c) .if2 .left) ((if3·Then5 c) .if3 .left) ((c .before .before .before) .if4 .left) (omega (arith, (c .before .before) .top-of .ensures, c .if5 .taken))
+
+returns-6 : tie.Need-returns-6
+returns-6 c =
+    let a = (start·After-struct-known6 c) .args in
+    rw ((c .before) .top-of2 .ensures) (next-last (a .words .now) (a .k) (a .part .item) (a .part .zero) (a .part .one) ((if1·After-struct-known6 c) .if1 .left) ((if2·After-struct-known6 c) .if2 .left) ((if3·After-struct-known6 c) .if3 .left) ((if4·After-struct-known6 c) .if4 .left) (omega (arith, (top-of·After-struct-known6 c) .top-of .ensures, (c .before .before) .if5 .left)))
+
+pub is-next-spec : {M : Type 1} → statement M
+is-next-spec =
+    tie.close
+    (tie.spec
+    returns
+    add-if2
+    returns-2
+    add-if3
+    returns-3
+    returns-4
+    top-of-requires
+    returns-5
+    top-of-requires-2
+    returns-6)

@@ -1,0 +1,2 @@
+-- What the contracts of `file_table` cite.
+pub mod Inner

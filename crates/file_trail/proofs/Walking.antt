@@ -1,0 +1,172 @@
+-- Each way out of `walk`: a part met already changes nothing, else its sides are walked and it is put behind them, which places it in the local book.
+-- A side has a smaller top than the part, so that walking it cannot meet the part; on words that hold a book nothing is broken.
+use Prim.Native.Nat.{ℕ, _+_, _*_, _-_, _≤_, _<_}
+use mathlib.Core.Path.{_≡_, refl, sym, ap, _∙_}
+use mathlib.Core.Bool.{Bool, true, false}
+use mathlib.Core.List.{List, [], _∷_, _++_}
+use native.Mathlib.Omega.{arith}
+use lib.ListN.{length, getD}
+use borrow.Author.Tests.{eq-eqb}
+use Rattle.family.specs.Family.{Family, empty, base, node, top}
+use Rattle.family.specs.Operation.{lacking, holding}
+use Rattle.family.specs.Book.{at, number, Held, place}
+use Rattle.family.proofs.Books.{add-new, grown-held}
+use Rattle.family.proofs.Placing.{book-place, place-grown, place-held, held-below}
+use Rattle.words.proofs.Cases.{by-lt}
+use Rattle.store.specs.declared.node.Sides.{Sides}
+use Rattle.store.specs.declared.node.Sides.the-variants.{Two, Broken}
+use Rattle.store.specs.Words.{itemLimit, topAt}
+use Rattle.store.specs.Inner.{Holds, TwoSides, SidesOf, two as two-sides, broken as no-sides}
+use Rattle.store.proofs.Held.{top-at, top-leaf, top-node, within, held, at-node}
+use Rattle.file_trail.specs.declared.trail.Trail.{Trail}
+use Rattle.file_trail.specs.declared.walk.Walked.{Walked}
+use Rattle.file_trail.specs.declared.walk.Walked.the-variants.{Went, Broken as NoWay}
+use Rattle.file_trail.specs.Inner.{metIn, linked, Visited, SplitOf, two, broken, TrailFits, Trailed, Came, came, WalkOf}
+use Rattle.file_trail.proofs.Links.{behind-long, behind-other}
+use Rattle.file_trail.proofs.Trails.{met-held, unmet-two, unmet-not, few-parts, trail-visit}
+
+-- the two ways out of `children`
+pub split-none : (nodes : List ℕ) (n p level : ℕ) → p ≤ n + 1 → level ≡ topAt nodes p → level ≡ 0 → SplitOf nodes n p level Broken
+split-none nodes n p level l e z =
+    broken (λ h B lookup H.
+    let w = rw (at-node H p h (omega arith)) at (within H p (omega arith)) in
+    omega (arith, w .ordered .0, top-node nodes p h))
+
+pub split-sides : (nodes : List ℕ) (n p level : ℕ) {x : Sides} → (level ≡ 0 → ⊥) → SidesOf nodes n p level x → SplitOf nodes n p level x
+split-sides nodes n p level s (two-sides T) = two (omega arith) T
+split-sides nodes n p level s (no-sides f) = broken (λ h. f)
+
+-- what they say
+pub record Children (nodes : List ℕ) (n p level z o zt ot : ℕ) : Type 0 where
+  pub some : 0 < level
+  pub sides : TwoSides nodes n p level z o zt ot
+
+pub split-two : {nodes : List ℕ} {n p level : ℕ} {x : Sides} (z o zt ot : ℕ) → x ≡ Two z o zt ot → SplitOf nodes n p level x → Children nodes n p level z o zt ot
+split-two z o zt ot e S = out (rw e at S)
+  where
+    out : {nodes : List ℕ} {n p level z o zt ot : ℕ} → SplitOf nodes n p level (Two z o zt ot) → Children nodes n p level z o zt ot
+    out (two s T) = record { some = s; sides = T }
+
+split-broken : {nodes : List ℕ} {n p level : ℕ} {x : Sides} → x ≡ Broken → SplitOf nodes n p level x → 2 ≤ p → (B : List Family) (lookup : List ℕ) → Holds B n nodes lookup → ⊥
+split-broken e S = out (rw e at S)
+  where
+    out : {nodes : List ℕ} {n p level : ℕ} → SplitOf nodes n p level Broken → 2 ≤ p → (B : List Family) (lookup : List ℕ) → Holds B n nodes lookup → ⊥
+    out (broken f) = f
+
+-- what a walk said
+pub came-to : {B C : List Family} {n : ℕ} {links : List ℕ} {r : Walked} (t : Trail) → r ≡ Went t → Came B C n links r → Trailed B C n t links
+came-to t e A = out (rw e at A)
+  where
+    out : {B C : List Family} {n : ℕ} {links : List ℕ} {t : Trail} → Came B C n links (Went t) → Trailed B C n t links
+    out (came T) = T
+
+pub never : {B C : List Family} {n : ℕ} {links : List ℕ} {r : Walked} → r ≡ NoWay → Came B C n links r → ⊥
+never e (came T) = let z : _≡_ {A = ℕ} 0 1 = cc in omega arith
+
+went-is : {t t′ : Trail} → Went t ≡ Went t′ → t ≡ t′
+went-is e = cc
+
+broken-not : {A : Type 0} {t : Trail} → NoWay ≡ Went t → A
+broken-not e = absurd (let z : _≡_ {A = ℕ} 0 1 = cc in omega arith)
+
+-- a walk that is broken, with the links that it came to
+pub walk-broken : (t : Trail) (p : ℕ) (nodes : List ℕ) (n : ℕ) (links links′ : List ℕ) → length links′ ≡ length links → ((k : ℕ) → n ≤ k → getD links′ k 0 ≡ getD links k 0)
+    → ((B C : List Family) (lookup : List ℕ) → Holds B n nodes lookup → Trailed B C n t links → ⊥) → WalkOf t p nodes n links NoWay links′
+walk-broken t p nodes n links links′ e r f =
+    record { long = e; rest = r; fits = λ t′ d. broken-not d; sound = λ B C lookup H T. absurd (f B C lookup H T) }
+
+module _ (t : Trail) (p : ℕ) (nodes : List ℕ) (n : ℕ) (links : List ℕ) (lp : p ≤ n + 1) where
+  pub walk-met : TrailFits n t → {x : Bool} → x ≡ metIn links p → x ≡ true → WalkOf t p nodes n links (Went t) links
+  walk-met F em e =
+      record {
+        long = refl;
+        rest = λ k l. refl;
+        fits = λ t′ d. rw (← went-is d) F;
+        sound = λ B C lookup H T. rw (place-held C (at B p) (T .book) (met-held H T p (omega arith) (sym em ∙ e))) (came T);
+      }
+
+  module _ {y : Bool} (em : y ≡ metIn links p) (unmet : y ≡ false) (level : ℕ) (is-level : level ≡ topAt nodes p) {x : Sides} (S : SplitOf nodes n p level x) where
+    pub walk-no-children : x ≡ Broken → WalkOf t p nodes n links NoWay links
+    walk-no-children e = walk-broken t p nodes n links links refl (λ k l. refl) (λ B C lookup H T. split-broken e S (unmet-two H T p (sym em ∙ unmet)) B lookup H)
+
+    module _ (z o zt ot : ℕ) (ex : x ≡ Two z o zt ot) {r₁ : Walked} {links₁ : List ℕ} (R : WalkOf t z nodes n links r₁ links₁) where
+      K : Children nodes n p level z o zt ot
+      K = split-two z o zt ot ex S
+
+      pub walk-first-broken : r₁ ≡ NoWay → WalkOf t p nodes n links NoWay links₁
+      walk-first-broken e = walk-broken t p nodes n links links₁ (R .long) (R .rest) (λ B C lookup H T. never e (R .sound B C lookup H T))
+
+      module _ (first : Trail) (e₁ : r₁ ≡ Went first) {r₂ : Walked} {links₂ : List ℕ} (Q : WalkOf first o nodes n links₁ r₂ links₂) where
+        long₂ : length links₂ ≡ length links
+        long₂ = Q .long ∙ R .long
+
+        rest₂ : (k : ℕ) → n ≤ k → getD links₂ k 0 ≡ getD links k 0
+        rest₂ k l = Q .rest k l ∙ R .rest k l
+
+        module _ {B C : List Family} {lookup : List ℕ} (H : Holds B n nodes lookup) (T : Trailed B C n t links) where
+          trail₁ : Trailed B (place C (at B z)) n first links₁
+          trail₁ = came-to first e₁ (R .sound B C lookup H T)
+
+          second-came : Came B (place (place C (at B z)) (at B o)) n links₂ r₂
+          second-came = Q .sound B (place C (at B z)) lookup H trail₁
+
+          -- the part is the node of its level and its children
+          is-node : at B p ≡ node level (at B z) (at B o)
+          is-node = go (at B p) refl
+            where
+              go : (F : Family) → at B p ≡ F → F ≡ node level (at B z) (at B o)
+              go empty e = absurd (omega (arith, K .some, top-at H p (omega arith), ap top e))
+              go base e = absurd (omega (arith, K .some, top-at H p (omega arith), ap top e))
+              go (node j a b) e =
+                  let ej : j ≡ level = sym (ap top e) ∙ sym (top-at H p (omega arith)) ∙ sym is-level in
+                  let ez : at B z ≡ a = K .sides .lacks B lookup H ∙ ap (λ F. lacking level F) e ∙ rw (eq-eqb j level ej) in
+                  let eo : at B o ≡ b = K .sides .holds B lookup H ∙ ap (λ F. holding level F) e ∙ rw (eq-eqb j level ej) in
+                  rw (ej, ez, eo)
+
+          -- neither side meets the part
+          lacks : Held (place (place C (at B z)) (at B o)) (node level (at B z) (at B o)) → ⊥
+          lacks h =
+              let a = K .sides in
+              unmet-not H T p (omega arith) (sym em ∙ unmet)
+              (rw is-node
+              (held-below C (at B z) (node level (at B z) (at B o)) (within H z (omega (arith, a .zero-within)) .ordered) (omega (arith, a .zero-below, a .ztop, top-at H z (omega (arith, a .zero-within))))
+              (held-below (place C (at B z)) (at B o) (node level (at B z) (at B o)) (within H o (omega (arith, a .one-within)) .ordered)
+              (omega (arith, a .one-below, a .otop, top-at H o (omega (arith, a .one-within)))) h)))
+
+        pub walk-second-broken : r₂ ≡ NoWay → WalkOf t p nodes n links NoWay links₂
+        walk-second-broken e = walk-broken t p nodes n links links₂ long₂ rest₂ (λ B C lookup H T. never e (second-came H T))
+
+        module _ (second : Trail) (e₂ : r₂ ≡ Went second) where
+          trail₂ : {B C : List Family} {lookup : List ℕ} (H : Holds B n nodes lookup) (T : Trailed B C n t links) → Trailed B (place (place C (at B z)) (at B o)) n second links₂
+          trail₂ H T = came-to second e₂ (second-came H T)
+
+          pub walk-many : n ≤ 1000000 → 1000000 ≤ second .parts → WalkOf t p nodes n links NoWay links₂
+          walk-many l m =
+              walk-broken t p nodes n links links₂ long₂ rest₂
+              (λ B C lookup H T.
+              let f = few-parts H (trail₂ H T) (node level (at B z) (at B o)) (rw (is-node H T) at (held H p (omega arith))) (lacks H T) in
+              omega arith)
+
+          pub walk-done : TrailFits n second → level ≤ itemLimit → second .parts < 1000000 → n ≤ length links → {t′ : Trail} {links₃ : List ℕ} → Visited second links₂ p level z o t′ links₃ → WalkOf t p nodes n links (Went t′) links₃
+          walk-done F low few room {t′} {links₃} W =
+              record {
+                long = ap length (W .links-are) ∙ behind-long links₂ (second .last) p ∙ long₂;
+                rest = λ k l. ap (λ X. getD X k 0) (W .links-are) ∙ behind-other links₂ (second .last) p k (omega arith) (omega (arith, F .last-held)) ∙ rest₂ k l;
+                fits = λ u d. rw (← went-is d) record {
+                  last-held = omega (arith, W .last-is);
+                  item-low = omega (arith, W .item-is);
+                  few = omega (arith, W .parts-is);
+                  some = omega (arith, W .length-is, F .some);
+                  short = omega (arith, W .longer, W .parts-is, F .short);
+                };
+                sound = λ B C lookup H T.
+                    let a = K .sides in
+                    let T₂ = trail₂ H T in
+                    let ha = book-place C (at B z) (T .book) (within H z (omega (arith, a .zero-within))) in
+                    let hb = book-place (place C (at B z)) (at B o) (ha .0) (within H o (omega (arith, a .one-within))) in
+                    let missing : length (place (place C (at B z)) (at B o)) ≤ number (place (place C (at B z)) (at B o)) (node level (at B z) (at B o)) =
+                    by-lt (number (place (place C (at B z)) (at B o)) (node level (at B z) (at B o))) (length (place (place C (at B z)) (at B o))) (λ h e. absurd (lacks H T h)) (λ h e. h) in
+                    rw (is-node H T, add-new (place (place C (at B z)) (at B o)) (node level (at B z) (at B o)) missing)
+                    (came (trail-visit H T₂ p level z o (omega arith) (omega (arith, a .zero-within)) (omega (arith, a .one-within)) (is-node H T) (lacks H T)
+                    (grown-held (place-grown (place C (at B z)) (at B o)) (at B z) (ha .1)) (hb .1) W (omega (arith, long₂))));
+              }

@@ -1,0 +1,14 @@
+-- `first_of` keeps the first part, or takes p.
+-- The definition's two cases.
+use Rattle.file_trail.proofs.Links.{first-new, first-old}
+use Rattle.file_trail.proofs.trail.first_of.Statement.{statement}
+use Rattle.file_trail.proofs.trail.first_of.Tie as tie
+
+returns : tie.Need-returns
+returns c = first-new ((c .before .before) .args .trail) ((c .before .before) .args .p) (c .if1 .taken)
+
+returns-2 : tie.Need-returns-2
+returns-2 c = first-old ((c .before .before) .args .trail) ((c .before .before) .args .p) (c .if1 .left)
+
+pub first-of-spec : {M : Type 1} → statement M
+first-of-spec = tie.close (tie.spec returns returns-2)

@@ -1,0 +1,76 @@
+-- The trail of the parts in placing order, and what its functions promise each other. A reader of the promise can pass this page over.
+use Prim.Native.Nat.{ℕ, _+_, _*_, _-_, _≤_, _<_}
+use mathlib.Core.Path.{_≡_}
+use mathlib.Core.Bool.{Bool, true, cond, not}
+use mathlib.Core.List.{List}
+use lib.Dec.{eqb, ltb}
+use lib.ListN.{length, getD, set, drop}
+use Rattle.family.specs.Family.{Family, top}
+use Rattle.family.specs.Book.{at, number, Held, place, Book}
+use Rattle.family.specs.Record.{stands}
+use Rattle.family.specs.File.{triplesOf, recordsBytes}
+use Rattle.store.specs.declared.node.Sides.{Sides}
+use Rattle.store.specs.declared.node.Sides.the-variants.{Two, Broken}
+use Rattle.store.specs.Words.{itemLimit}
+use Rattle.store.specs.Inner.{Holds, TwoSides}
+use Rattle.file_record.specs.Widths.{widths}
+use Rattle.file_trail.specs.declared.trail.Trail.{Trail}
+use Rattle.file_trail.specs.declared.walk.Walked.{Walked}
+use Rattle.file_trail.specs.declared.walk.Walked.the-variants.{Went}
+
+-- whether a handle has a link, or is {} or {{}}
+unfoldable pub metIn : List ℕ → ℕ → Bool
+metIn links p = cond (ltb p 2) true (not (eqb (getD links (p - 2) 0) 0))
+
+-- the links with the one of p set
+unfoldable pub linked : List ℕ → ℕ → ℕ → List ℕ
+linked links p next = cond (ltb p 2) links (set links (p - 2) next)
+
+unfoldable pub firstOf : Trail → ℕ → ℕ
+firstOf t p = cond (eqb (t .parts) 0) p (t .first)
+
+-- the trail and the links after p was put behind the last part
+pub record Visited (t : Trail) (links : List ℕ) (p item z o : ℕ) (t′ : Trail) (links′ : List ℕ) : Type 0 where
+  pub first-is : t′ .first ≡ firstOf t p
+  pub last-is : t′ .last ≡ p
+  pub item-is : t′ .item ≡ item
+  pub parts-is : t′ .parts ≡ t .parts + 1
+  pub length-is : t′ .length ≡ t .length + widths (stands item (t .item + 1)) (stands z 0) (stands o (t .last))
+  pub longer : t′ .length ≤ t .length + 11
+  pub links-are : links′ ≡ linked (linked links (t .last) p) p p
+
+-- the children of p, or words of no sound store
+pub data SplitOf (nodes : List ℕ) (n p level : ℕ) : Sides → Type 0 where
+  two : {z o zt ot : ℕ} → 0 < level → TwoSides nodes n p level z o zt ot → SplitOf nodes n p level (Two z o zt ot)
+  broken : (2 ≤ p → (B : List Family) (lookup : List ℕ) → Holds B n nodes lookup → ⊥) → SplitOf nodes n p level Broken
+
+-- what a trail keeps on any words
+pub record TrailFits (n : ℕ) (t : Trail) : Type 0 where
+  pub last-held : t .last ≤ n + 1
+  pub item-low : t .item ≤ itemLimit
+  pub few : t .parts ≤ 1000000
+  pub some : 5 ≤ t .length
+  pub short : t .length ≤ 5 + 11 * t .parts
+
+-- The trail over the families of a local book C, whose handles are their numbers in the book B that the store holds.
+pub record Trailed (B C : List Family) (n : ℕ) (t : Trail) (links : List ℕ) : Type 0 where
+  pub book : Book itemLimit C
+  pub inside : (k : ℕ) → k < length C → Held B (at C k)
+  pub first-is : 2 < length C → t .first ≡ number B (at C 2)
+  pub last-is : t .last ≡ number B (at C (length C - 1))
+  pub item-is : t .item ≡ top (at C (length C - 1))
+  pub parts-is : t .parts + 2 ≡ length C
+  pub length-is : t .length ≡ 5 + length (recordsBytes 0 1 (triplesOf C (drop 2 C)))
+  pub next : (k : ℕ) → 2 ≤ k → k + 1 < length C → getD links (number B (at C k) - 2) 0 ≡ number B (at C (k + 1))
+  pub end : 2 < length C → getD links (number B (at C (length C - 1)) - 2) 0 ≡ number B (at C (length C - 1))
+  pub unmet : (h : ℕ) → 2 ≤ h → h < n + 2 → (Held C (at B h) → ⊥) → getD links (h - 2) 0 ≡ 0
+
+-- a walk from the local book C comes to the local book with the family placed; it is never broken
+pub data Came (B C : List Family) (n : ℕ) (links : List ℕ) : Walked → Type 0 where
+  came : {t : Trail} → Trailed B C n t links → Came B C n links (Went t)
+
+pub record WalkOf (t : Trail) (p : ℕ) (nodes : List ℕ) (n : ℕ) (links : List ℕ) (r : Walked) (links′ : List ℕ) : Type 0 where
+  pub long : length links′ ≡ length links
+  pub rest : (k : ℕ) → n ≤ k → getD links′ k 0 ≡ getD links k 0
+  pub fits : (t′ : Trail) → r ≡ Went t′ → TrailFits n t′
+  pub sound : (B C : List Family) (lookup : List ℕ) → Holds B n nodes lookup → Trailed B C n t links → Came B (place C (at B p)) n links′ r

@@ -1,0 +1,2 @@
+-- What the contracts of `file_trail` cite.
+pub mod Inner

@@ -1,0 +1,3 @@
+-- The laws of `file_write`.
+pub mod Cursors
+pub mod Writes

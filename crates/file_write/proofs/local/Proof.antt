@@ -1,0 +1,29 @@
+-- `local` reads the local number of a handle.
+-- The definition's two cases, and a word that is not there.
+use borrow.Author.Needs.{needs}
+use native.Mathlib.Omega.{arith}
+use Rattle.file_write.proofs.Cursors.{local-leaf, local-word, local-none}
+use Rattle.file_write.proofs.local.Statement.{statement}
+use Rattle.file_write.proofs.local.Tie as tie
+
+returns : tie.Need-returns
+returns c = local-leaf ((c .before) .args .links .now) ((c .before) .args .handle) (c .if1 .taken)
+
+cast-j : tie.Need-cast-j
+cast-j c = search needs
+
+mul-result : tie.Need-mul-result
+mul-result c = search needs
+
+shared-slice-read-result : tie.Need-shared-slice-read-result
+shared-slice-read-result c = search needs
+
+returns-2 : tie.Need-returns-2
+returns-2 c = local-word ((c .before .before .before) .args .links .now) ((c .before .before .before) .args .handle) ((c .before .before) .if1 .left)
+
+returns-3 : tie.Need-returns-3
+returns-3 c = local-none ((c .before .before) .args .links .now) ((c .before .before) .args .handle) ((c .before) .if1 .left) (c .if2 .left)
+
+pub local-spec : {M : Type 1} → statement M
+local-spec =
+    tie.close (tie.spec returns cast-j mul-result shared-slice-read-result returns-2 returns-3)

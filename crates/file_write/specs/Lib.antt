@@ -1,0 +1,2 @@
+-- What the contracts of `file_write` cite.
+pub mod Inner

@@ -1,2 +1,0 @@
--- The laws of `fresh`.
-pub mod Freshly

@@ -1,2 +1,0 @@
--- What the contracts of `fresh` cite.
-pub mod Fresh

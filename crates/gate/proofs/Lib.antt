@@ -1,2 +1,0 @@
--- The laws of `gate`.
-pub mod Reported

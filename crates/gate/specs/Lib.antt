@@ -1,2 +1,0 @@
--- What the contracts of `gate` cite.
-pub mod Reporting

@@ -1,2 +1,0 @@
--- The laws of `getnode`.
-pub mod Getting

@@ -1,2 +1,0 @@
--- The laws of `line`.
-pub mod States

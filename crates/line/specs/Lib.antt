@@ -1,2 +1,0 @@
--- What the contracts of `line` cite.
-pub mod Line

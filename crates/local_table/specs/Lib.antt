@@ -1,2 +1,0 @@
--- What the contracts of `local_table` cite.
-pub mod Local

@@ -1,2 +1,0 @@
--- The laws of `log`.
-pub mod Logs

@@ -1,3 +1,0 @@
--- What the contracts of `log` cite.
-pub mod Log
-pub mod Steps

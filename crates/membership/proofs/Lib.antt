@@ -1,3 +1,0 @@
--- The laws of `membership`.
-pub mod Descending
-pub mod Asking

@@ -1,3 +1,0 @@
--- What the contracts of `membership` cite.
-pub mod Membership
-pub mod Descent

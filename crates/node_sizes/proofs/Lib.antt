@@ -1,3 +1,0 @@
--- The laws of `node_sizes`.
-pub mod Summing
-pub mod Brims

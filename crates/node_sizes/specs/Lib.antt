@@ -1,3 +1,0 @@
--- What the contracts of `node_sizes` cite.
-pub mod NodeSizes
-pub mod Inner

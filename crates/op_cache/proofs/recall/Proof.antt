@@ -1,0 +1,109 @@
+-- `recall` hands on a result only where all three words before it are the call's, and it is a handle held.
+-- Any other way out says nothing.
+use native.Mathlib.Omega.{arith}
+use Rattle.op_cache.specs.Inner.{hit, miss}
+use borrow.Author.Needs.{needs}
+use Rattle.op_cache.proofs.recall.Statement.{statement}
+use Rattle.op_cache.proofs.recall.Tie as tie
+
+abbrev group-of·Else5 : tie.Else5 → tie.After-group-of
+group-of·Else5 c = c .before .before .before .before .before .before .before .before .before .before .before
+
+abbrev if2·Else5 : tie.Else5 → tie.Else2
+if2·Else5 c = c .before .before .before .before .before .before .before .before
+
+abbrev if3·Else5 : tie.Else5 → tie.Else3
+if3·Else5 c = c .before .before .before .before .before
+
+returns : tie.Need-returns
+returns c = miss
+
+group-of-requires : tie.Need-group-of-requires
+group-of-requires c κs = search needs
+
+mul-at : tie.Need-mul-at
+mul-at c = search needs
+
+mul-if2 : tie.Need-mul-if2
+mul-if2 c = search needs
+
+shared-slice-read-if2 : tie.Need-shared-slice-read-if2
+shared-slice-read-if2 c = search needs
+
+returns-2 : tie.Need-returns-2
+returns-2 c = miss
+
+add-if3 : tie.Need-add-if3
+add-if3 c = search needs
+
+mul-if3 : tie.Need-mul-if3
+mul-if3 c = search needs
+
+shared-slice-read-if3 : tie.Need-shared-slice-read-if3
+shared-slice-read-if3 c = search needs
+
+returns-3 : tie.Need-returns-3
+returns-3 c = miss
+
+add-if4 : tie.Need-add-if4
+add-if4 c = search needs
+
+mul-if4 : tie.Need-mul-if4
+mul-if4 c = search needs
+
+shared-slice-read-if4 : tie.Need-shared-slice-read-if4
+shared-slice-read-if4 c = search needs
+
+returns-4 : tie.Need-returns-4
+returns-4 c = miss
+
+add-result : tie.Need-add-result
+add-result c = search needs
+
+mul-result : tie.Need-mul-result
+mul-result c = search needs
+
+shared-slice-read-result : tie.Need-shared-slice-read-result
+shared-slice-read-result c = search needs
+
+add-if5 : tie.Need-add-if5
+add-if5 c = search needs
+
+returns-5 : tie.Need-returns-5
+returns-5 c = miss
+
+returns-6 : tie.Need-returns-6
+returns-6 c =
+    let g = (group-of·Else5 c) .group-of in
+    hit {g = g .result} record {
+      within = omega (arith, g .ensures);
+      op-is = (if2·Else5 c) .if2 .left;
+      first-is = (if3·Else5 c) .if3 .left;
+      second-is = (c .before .before) .if4 .left;
+      result-is = mathlib.Core.Path.refl;
+    } (c .if5 .left)
+
+pub recall-spec : {M : Type 1} → statement M
+recall-spec =
+    tie.close
+    (tie.spec
+    returns
+    group-of-requires
+    mul-at
+    mul-if2
+    shared-slice-read-if2
+    returns-2
+    add-if3
+    mul-if3
+    shared-slice-read-if3
+    returns-3
+    add-if4
+    mul-if4
+    shared-slice-read-if4
+    returns-4
+    add-result
+    mul-result
+    shared-slice-read-result
+    add-if5
+    returns-5
+    returns-6)

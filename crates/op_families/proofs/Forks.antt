@@ -1,0 +1,49 @@
+-- The ways out of `fork_at`: both operands split at their larger top, or words that hold no book.
+-- Two different operands that are no {} cannot both lack items, so the level is an item.
+use Prim.Native.Nat.{ℕ, zero, suc, _+_, _*_, _≤_, _<_, max}
+use mathlib.Core.Path.{_≡_, refl, sym, ap, _∙_}
+use mathlib.Core.List.{List}
+use native.Mathlib.Omega.{arith}
+use lib.ListN.{getD}
+use Rattle.family.specs.Family.{Family, top}
+use Rattle.family.specs.Book.{at}
+use Rattle.store.specs.Words.{topAt}
+use Rattle.store.specs.Inner.{Holds}
+use Rattle.store.proofs.Held.{top-at, within, at-node, top-node}
+use Rattle.op_cache.specs.declared.Call.{Call}
+use Rattle.op_families.specs.declared.recursion.Fork.{Fork}
+use Rattle.op_families.specs.declared.recursion.Fork.the-variants.{Two, Broken}
+use Rattle.op_families.specs.Inner.{ForkOf, two, broken}
+use Rattle.op_step.specs.Inner.{Proper, Forked}
+
+-- what a fork says, by the answer that was given
+pub fork-two : {nodes : List ℕ} {n : ℕ} {call : Call} {level p₀ q₀ top₀ p₁ q₁ top₁ : ℕ} {x : Fork} → x ≡ Two p₀ q₀ top₀ p₁ q₁ top₁ → ForkOf nodes n call level x → Forked nodes n call level p₀ q₀ top₀ p₁ q₁ top₁
+fork-two e S = out (rw e at S)
+  where
+    out : {nodes : List ℕ} {n : ℕ} {call : Call} {level p₀ q₀ top₀ p₁ q₁ top₁ : ℕ} → ForkOf nodes n call level (Two p₀ q₀ top₀ p₁ q₁ top₁) → Forked nodes n call level p₀ q₀ top₀ p₁ q₁ top₁
+    out (two K) = K
+
+pub fork-broken : {nodes : List ℕ} {n : ℕ} {call : Call} {level : ℕ} {x : Fork} → x ≡ Broken → ForkOf nodes n call level x → (B : List Family) (lookup : List ℕ) → Holds B n nodes lookup → ⊥
+fork-broken e S = out (rw e at S)
+  where
+    out : {nodes : List ℕ} {n : ℕ} {call : Call} {level : ℕ} → ForkOf nodes n call level Broken → (B : List Family) (lookup : List ℕ) → Holds B n nodes lookup → ⊥
+    out (broken f) = f
+
+-- a handle whose top is 0 is 0 or 1
+leaf-handle : {B : List Family} {n : ℕ} {nodes lookup : List ℕ} → Holds B n nodes lookup → (p : ℕ) → p ≤ n + 1 → topAt nodes p ≡ 0 → p < 2
+leaf-handle H zero l e = omega arith
+leaf-handle H (suc zero) l e = omega arith
+leaf-handle {B} {n} {nodes} H (suc (suc p)) l e =
+    absurd (let w = rw (at-node H (suc (suc p)) (omega arith) (omega arith)) at (within H (suc (suc p)) (omega arith)) in omega (arith, w .ordered .0, top-node nodes (suc (suc p)) (omega arith)))
+
+module _ (nodes : List ℕ) (n : ℕ) (call : Call) (level : ℕ) (lp : call .p ≤ n + 1) (lq : call .q ≤ n + 1) (is : level ≡ max (topAt nodes (call .p)) (topAt nodes (call .q))) (proper : Proper call) where
+  pub no-level : level ≡ 0 → ForkOf nodes n call level Broken
+  no-level e = broken (λ B lookup H. proper .apart (same H))
+    where
+      same : {B : List Family} {lookup : List ℕ} → Holds B n nodes lookup → call .p ≡ call .q
+      same H =
+          let a = leaf-handle H (call .p) lp (omega arith) in
+          let b = leaf-handle H (call .q) lq (omega arith) in
+          let c = proper .first in
+          let d = proper .second in
+          omega arith

@@ -1,0 +1,406 @@
+-- `apply` and `expand` run the operation on two families: the level falls from `expand` to each `apply`, and `apply` comes just above `expand` of its level.
+-- Every way out is a terminal case, a recalled result, or one step over the two results below.
+use mathlib.Core.Path.{_∙_}
+use Prim.Native.Nat.{ℕ, _+_, _*_, _<_}
+use native.Mathlib.Omega.{arith}
+use Rattle.store.proofs.Growing.{kept-top, kept-roomy, kept-trans}
+use Rattle.op_families.proofs.Forks.{fork-two, fork-broken}
+use Rattle.op_step.proofs.Steps.{step-first, step-joined}
+use Rattle.op_step.proofs.Splitting.{split-families}
+use Rattle.op_step.proofs.Outcomes.{shortcut-proper, ran-broken, ran-recalled, ran-shortcut, ordered-op, ordered-first, ordered-second, ordered-level, ran-ordered}
+use borrow.Author.Needs.{needs}
+use borrow.Fn.Kinds.{In}
+use borrow.Fn.PlainCycle.{Measures, is, falls, and}
+use Rattle.op_families.proofs.recursion.apply.Reads as apply
+use Rattle.op_families.proofs.recursion.apply.Kinds as apply-kinds
+use Rattle.op_families.proofs.recursion.+apply+expand.Lts-apply as apply-lts
+use Rattle.op_families.proofs.recursion.expand.Reads as expand
+use Rattle.op_families.proofs.recursion.expand.Kinds as expand-kinds
+use Rattle.op_families.proofs.recursion.+apply+expand.Lts-expand as expand-lts
+use Rattle.op_cache.proofs.recall.Reads as recall-reads
+use Rattle.op_families.proofs.recursion.fork_at.Reads as fork-at-reads
+use Rattle.op_families.proofs.terminal.ordered.Reads as ordered-reads
+use Rattle.op_families.proofs.terminal.shortcut.Reads as shortcut-reads
+use Rattle.op_step.proofs.join.Reads as join-reads
+use Rattle.store.proofs.record.Store.placed.Reads as placed-reads
+use Rattle.store.proofs.record.Store.refused.Reads as refused-reads
+use Rattle.op_families.proofs.recursion.+apply+expand.{statement}
+use Rattle.op_families.proofs.recursion.+apply+expand.Tie.{close}
+
+abbrev μ-apply : Measures 3 apply-kinds.ps ℕ
+μ-apply κs a = 2 * a .1 .0 + 1
+
+abbrev μ-expand : Measures 3 expand-kinds.ps ℕ
+μ-expand κs a = 2 * a .1 .0
+
+abbrev apply-at : ℕ → In 3 apply-kinds.ps
+apply-at t = and 3 apply-kinds.ps (is 3 apply-kinds.ps μ-apply t) apply.Pre
+
+abbrev apply-below : ℕ → In 3 apply-kinds.ps
+apply-below t = and 3 apply-kinds.ps (falls 3 apply-kinds.ps _<_ μ-apply t) apply.Pre
+
+abbrev expand-at : ℕ → In 3 expand-kinds.ps
+expand-at t = and 3 expand-kinds.ps (is 3 expand-kinds.ps μ-expand t) expand.Pre
+
+abbrev expand-below : ℕ → In 3 expand-kinds.ps
+expand-below t = and 3 expand-kinds.ps (falls 3 expand-kinds.ps _<_ μ-expand t) expand.Pre
+
+abbrev apply-claims : ℕ → apply-lts.Claims
+apply-claims t = (ordered-reads.Asked, ordered-reads.Learnt, shortcut-reads.Asked, shortcut-reads.Learnt, placed-reads.Asked, placed-reads.Learnt, recall-reads.Asked, recall-reads.Learnt, expand-below t, expand.Post)
+
+abbrev expand-claims : ℕ → expand-lts.Claims
+expand-claims t = (fork-at-reads.Asked, fork-at-reads.Learnt, refused-reads.Asked, refused-reads.Learnt, apply-below t, apply.Post, join-reads.Asked, join-reads.Learnt)
+
+abbrev start·apply·After-ordered : (t : ℕ) → apply-lts.After-ordered (apply-claims t) (apply-at t) apply.Post → apply-lts.Start (apply-claims t) (apply-at t) apply.Post
+start·apply·After-ordered t c = c .before .before .before .before
+
+abbrev start·apply·After-placed : (t : ℕ) → apply-lts.After-placed (apply-claims t) (apply-at t) apply.Post → apply-lts.Start (apply-claims t) (apply-at t) apply.Post
+start·apply·After-placed t c = c .before .before .before .before .before .before .before .before .before
+
+abbrev ordered·apply·After-placed : (t : ℕ) → apply-lts.After-placed (apply-claims t) (apply-at t) apply.Post → apply-lts.After-ordered (apply-claims t) (apply-at t) apply.Post
+ordered·apply·After-placed t c = c .before .before .before .before .before
+
+abbrev shortcut·apply·After-placed : (t : ℕ) → apply-lts.After-placed (apply-claims t) (apply-at t) apply.Post → apply-lts.After-shortcut (apply-claims t) (apply-at t) apply.Post
+shortcut·apply·After-placed t c = c .before .before .before .before
+
+abbrev start·apply·After-recall-arg : (t : ℕ) → apply-lts.After-recall-arg (apply-claims t) (apply-at t) apply.Post → apply-lts.Start (apply-claims t) (apply-at t) apply.Post
+start·apply·After-recall-arg t c = c .before .before .before .before .before .before .before .before
+
+abbrev start·apply·After-placed2 : (t : ℕ) → apply-lts.After-placed2 (apply-claims t) (apply-at t) apply.Post → apply-lts.Start (apply-claims t) (apply-at t) apply.Post
+start·apply·After-placed2 t c = c .before .before .before .before .before .before .before .before .before .before .before .before .before
+
+abbrev ordered·apply·After-placed2 : (t : ℕ) → apply-lts.After-placed2 (apply-claims t) (apply-at t) apply.Post → apply-lts.After-ordered (apply-claims t) (apply-at t) apply.Post
+ordered·apply·After-placed2 t c = c .before .before .before .before .before .before .before .before .before
+
+abbrev recall·apply·After-placed2 : (t : ℕ) → apply-lts.After-placed2 (apply-claims t) (apply-at t) apply.Post → apply-lts.After-recall (apply-claims t) (apply-at t) apply.Post
+recall·apply·After-placed2 t c = c .before .before .before .before
+
+abbrev start·apply·After-expand-arg3 : (t : ℕ) → apply-lts.After-expand-arg3 (apply-claims t) (apply-at t) apply.Post → apply-lts.Start (apply-claims t) (apply-at t) apply.Post
+start·apply·After-expand-arg3 t c = c .before .before .before .before .before .before .before .before .before .before .before .before .before .before
+
+abbrev ordered·apply·After-expand-arg3 : (t : ℕ) → apply-lts.After-expand-arg3 (apply-claims t) (apply-at t) apply.Post → apply-lts.After-ordered (apply-claims t) (apply-at t) apply.Post
+ordered·apply·After-expand-arg3 t c = c .before .before .before .before .before .before .before .before .before .before
+
+abbrev enum-told·apply·After-expand-arg3 : (t : ℕ) → apply-lts.After-expand-arg3 (apply-claims t) (apply-at t) apply.Post → apply-lts.After-enum-told (apply-claims t) (apply-at t) apply.Post
+enum-told·apply·After-expand-arg3 t c = c .before .before .before .before .before .before .before
+
+abbrev shortcut·apply·After-expand-arg3 : (t : ℕ) → apply-lts.After-expand-arg3 (apply-claims t) (apply-at t) apply.Post → apply-lts.After-shortcut (apply-claims t) (apply-at t) apply.Post
+shortcut·apply·After-expand-arg3 t c = c .before .before .before .before .before .before .before .before .before
+
+abbrev start·apply·After-slice-known6 : (t : ℕ) → apply-lts.After-slice-known6 (apply-claims t) (apply-at t) apply.Post → apply-lts.Start (apply-claims t) (apply-at t) apply.Post
+start·apply·After-slice-known6 t c = c .before .before .before .before .before .before .before .before .before .before .before .before .before .before .before .before .before .before .before .before .before
+
+abbrev ordered·apply·After-slice-known6 : (t : ℕ) → apply-lts.After-slice-known6 (apply-claims t) (apply-at t) apply.Post → apply-lts.After-ordered (apply-claims t) (apply-at t) apply.Post
+ordered·apply·After-slice-known6 t c = c .before .before .before .before .before .before .before .before .before .before .before .before .before .before .before .before .before
+
+abbrev expand·apply·After-slice-known6 : (t : ℕ) → apply-lts.After-slice-known6 (apply-claims t) (apply-at t) apply.Post → apply-lts.After-expand (apply-claims t) (apply-at t) apply.Post
+expand·apply·After-slice-known6 t c = c .before .before .before .before .before .before
+
+abbrev start·expand·After-fork-at-arg : (t : ℕ) → expand-lts.After-fork-at-arg (expand-claims t) (expand-at t) expand.Post → expand-lts.Start (expand-claims t) (expand-at t) expand.Post
+start·expand·After-fork-at-arg t c = c .before .before .before .before
+
+abbrev start·expand·After-apply-arg3 : (t : ℕ) → expand-lts.After-apply-arg3 (expand-claims t) (expand-at t) expand.Post → expand-lts.Start (expand-claims t) (expand-at t) expand.Post
+start·expand·After-apply-arg3 t c = c .before .before .before .before .before .before .before .before .before .before .before
+
+abbrev p0·expand·After-apply-arg3 : (t : ℕ) → expand-lts.After-apply-arg3 (expand-claims t) (expand-at t) expand.Post → expand-lts.After-p0 (expand-claims t) (expand-at t) expand.Post
+p0·expand·After-apply-arg3 t c = c .before .before .before .before
+
+abbrev fork-at·expand·After-apply-arg3 : (t : ℕ) → expand-lts.After-apply-arg3 (expand-claims t) (expand-at t) expand.Post → expand-lts.After-fork-at (expand-claims t) (expand-at t) expand.Post
+fork-at·expand·After-apply-arg3 t c = c .before .before .before .before .before .before
+
+abbrev start·expand·After-enum-told2 : (t : ℕ) → expand-lts.After-enum-told2 (expand-claims t) (expand-at t) expand.Post → expand-lts.Start (expand-claims t) (expand-at t) expand.Post
+start·expand·After-enum-told2 t c = c .before .before .before .before .before .before .before .before .before .before .before .before .before .before .before .before .before .before .before .before
+
+abbrev p0·expand·After-enum-told2 : (t : ℕ) → expand-lts.After-enum-told2 (expand-claims t) (expand-at t) expand.Post → expand-lts.After-p0 (expand-claims t) (expand-at t) expand.Post
+p0·expand·After-enum-told2 t c = c .before .before .before .before .before .before .before .before .before .before .before .before .before
+
+abbrev fork-at·expand·After-enum-told2 : (t : ℕ) → expand-lts.After-enum-told2 (expand-claims t) (expand-at t) expand.Post → expand-lts.After-fork-at (expand-claims t) (expand-at t) expand.Post
+fork-at·expand·After-enum-told2 t c = c .before .before .before .before .before .before .before .before .before .before .before .before .before .before .before
+
+abbrev apply·expand·After-enum-told2 : (t : ℕ) → expand-lts.After-enum-told2 (expand-claims t) (expand-at t) expand.Post → expand-lts.After-apply (expand-claims t) (expand-at t) expand.Post
+apply·expand·After-enum-told2 t c = c .before .before .before .before .before .before .before .before
+
+abbrev start·expand·After-apply-arg6 : (t : ℕ) → expand-lts.After-apply-arg6 (expand-claims t) (expand-at t) expand.Post → expand-lts.Start (expand-claims t) (expand-at t) expand.Post
+start·expand·After-apply-arg6 t c = c .before .before .before .before .before .before .before .before .before .before .before .before .before .before .before .before .before .before .before .before .before .before .before .before .before
+
+abbrev p0·expand·After-apply-arg6 : (t : ℕ) → expand-lts.After-apply-arg6 (expand-claims t) (expand-at t) expand.Post → expand-lts.After-p0 (expand-claims t) (expand-at t) expand.Post
+p0·expand·After-apply-arg6 t c = c .before .before .before .before .before .before .before .before .before .before .before .before .before .before .before .before .before .before
+
+abbrev fork-at·expand·After-apply-arg6 : (t : ℕ) → expand-lts.After-apply-arg6 (expand-claims t) (expand-at t) expand.Post → expand-lts.After-fork-at (expand-claims t) (expand-at t) expand.Post
+fork-at·expand·After-apply-arg6 t c = c .before .before .before .before .before .before .before .before .before .before .before .before .before .before .before .before .before .before .before .before
+
+abbrev apply·expand·After-apply-arg6 : (t : ℕ) → expand-lts.After-apply-arg6 (expand-claims t) (expand-at t) expand.Post → expand-lts.After-apply (expand-claims t) (expand-at t) expand.Post
+apply·expand·After-apply-arg6 t c = c .before .before .before .before .before .before .before .before .before .before .before .before .before
+
+abbrev start·expand·After-join-arg3 : (t : ℕ) → expand-lts.After-join-arg3 (expand-claims t) (expand-at t) expand.Post → expand-lts.Start (expand-claims t) (expand-at t) expand.Post
+start·expand·After-join-arg3 t c = c .before .before .before .before .before .before .before .before .before .before .before .before .before .before .before .before .before .before .before .before .before .before .before .before .before .before .before .before .before .before .before .before .before .before .before
+
+abbrev p0·expand·After-join-arg3 : (t : ℕ) → expand-lts.After-join-arg3 (expand-claims t) (expand-at t) expand.Post → expand-lts.After-p0 (expand-claims t) (expand-at t) expand.Post
+p0·expand·After-join-arg3 t c = c .before .before .before .before .before .before .before .before .before .before .before .before .before .before .before .before .before .before .before .before .before .before .before .before .before .before .before .before
+
+abbrev fork-at·expand·After-join-arg3 : (t : ℕ) → expand-lts.After-join-arg3 (expand-claims t) (expand-at t) expand.Post → expand-lts.After-fork-at (expand-claims t) (expand-at t) expand.Post
+fork-at·expand·After-join-arg3 t c = c .before .before .before .before .before .before .before .before .before .before .before .before .before .before .before .before .before .before .before .before .before .before .before .before .before .before .before .before .before .before
+
+abbrev apply·expand·After-join-arg3 : (t : ℕ) → expand-lts.After-join-arg3 (expand-claims t) (expand-at t) expand.Post → expand-lts.After-apply (expand-claims t) (expand-at t) expand.Post
+apply·expand·After-join-arg3 t c = c .before .before .before .before .before .before .before .before .before .before .before .before .before .before .before .before .before .before .before .before .before .before .before
+
+abbrev apply2·expand·After-join-arg3 : (t : ℕ) → expand-lts.After-join-arg3 (expand-claims t) (expand-at t) expand.Post → expand-lts.After-apply2 (expand-claims t) (expand-at t) expand.Post
+apply2·expand·After-join-arg3 t c = c .before .before .before .before .before .before .before .before .before
+
+abbrev answer·expand·After-join-arg3 : (t : ℕ) → expand-lts.After-join-arg3 (expand-claims t) (expand-at t) expand.Post → expand-lts.After-answer (expand-claims t) (expand-at t) expand.Post
+answer·expand·After-join-arg3 t c = c .before .before .before .before .before .before .before .before .before .before .before .before .before .before .before
+
+abbrev start·expand·After-refused : (t : ℕ) → expand-lts.After-refused (expand-claims t) (expand-at t) expand.Post → expand-lts.Start (expand-claims t) (expand-at t) expand.Post
+start·expand·After-refused t c = c .before .before .before .before .before .before .before .before
+
+abbrev join·expand·After-slice-known12 : (t : ℕ) → expand-lts.After-slice-known12 (expand-claims t) (expand-at t) expand.Post → expand-lts.After-join (expand-claims t) (expand-at t) expand.Post
+join·expand·After-slice-known12 t c = c .before .before .before .before .before .before
+
+abbrev apply2·expand·After-slice-known12 : (t : ℕ) → expand-lts.After-slice-known12 (expand-claims t) (expand-at t) expand.Post → expand-lts.After-apply2 (expand-claims t) (expand-at t) expand.Post
+apply2·expand·After-slice-known12 t c = c .before .before .before .before .before .before .before .before .before .before .before .before .before .before .before .before
+
+abbrev apply·expand·After-slice-known12 : (t : ℕ) → expand-lts.After-slice-known12 (expand-claims t) (expand-at t) expand.Post → expand-lts.After-apply (expand-claims t) (expand-at t) expand.Post
+apply·expand·After-slice-known12 t c = c .before .before .before .before .before .before .before .before .before .before .before .before .before .before .before .before .before .before .before .before .before .before .before .before .before .before .before .before .before .before
+
+abbrev start·expand·After-slice-known12 : (t : ℕ) → expand-lts.After-slice-known12 (expand-claims t) (expand-at t) expand.Post → expand-lts.Start (expand-claims t) (expand-at t) expand.Post
+start·expand·After-slice-known12 t c = c .before .before .before .before .before .before .before .before .before .before .before .before .before .before .before .before .before .before .before .before .before .before .before .before .before .before .before .before .before .before .before .before .before .before .before .before .before .before .before .before .before .before
+
+abbrev p0·expand·After-slice-known12 : (t : ℕ) → expand-lts.After-slice-known12 (expand-claims t) (expand-at t) expand.Post → expand-lts.After-p0 (expand-claims t) (expand-at t) expand.Post
+p0·expand·After-slice-known12 t c = c .before .before .before .before .before .before .before .before .before .before .before .before .before .before .before .before .before .before .before .before .before .before .before .before .before .before .before .before .before .before .before .before .before .before .before
+
+abbrev fork-at·expand·After-slice-known12 : (t : ℕ) → expand-lts.After-slice-known12 (expand-claims t) (expand-at t) expand.Post → expand-lts.After-fork-at (expand-claims t) (expand-at t) expand.Post
+fork-at·expand·After-slice-known12 t c = c .before .before .before .before .before .before .before .before .before .before .before .before .before .before .before .before .before .before .before .before .before .before .before .before .before .before .before .before .before .before .before .before .before .before .before .before .before
+
+abbrev answer·expand·After-slice-known12 : (t : ℕ) → expand-lts.After-slice-known12 (expand-claims t) (expand-at t) expand.Post → expand-lts.After-answer (expand-claims t) (expand-at t) expand.Post
+answer·expand·After-slice-known12 t c = c .before .before .before .before .before .before .before .before .before .before .before .before .before .before .before .before .before .before .before .before .before .before
+
+apply-ordered-requires : (t : ℕ) → apply-lts.Need-ordered-requires (apply-claims t) (apply-at t) apply.Post
+apply-ordered-requires t c κs = search needs
+
+apply-shortcut-requires : (t : ℕ) → apply-lts.Need-shortcut-requires (apply-claims t) (apply-at t) apply.Post
+apply-shortcut-requires t c κs =
+    let p = (start·apply·After-ordered t c) .pre in
+    let e = ordered-op (c .ordered .ensures) in
+    (omega (arith, p .1 .1 .0 .0), omega (arith, p .1 .1 .0 .1))
+
+apply-enum-known-handle : (t : ℕ) → apply-lts.Need-enum-known-handle (apply-claims t) (apply-at t) apply.Post
+apply-enum-known-handle t c = search needs
+
+apply-placed-requires : (t : ℕ) → apply-lts.Need-placed-requires (apply-claims t) (apply-at t) apply.Post
+apply-placed-requires t c κs = search needs
+
+apply-returns : (t : ℕ) → apply-lts.Need-returns (apply-claims t) (apply-at t) apply.Post
+apply-returns t c =
+    let a = (start·apply·After-placed t c) .args in
+    let p = (start·apply·After-placed t c) .pre in
+    let O = (ordered·apply·After-placed t c) .ordered .ensures in
+    ran-ordered O (a .store) (a .nodes .now) (a .lookup .now) (a .cache .now) (p .1 .1 .0 .2) (p .1 .1 .0 .3)
+    (ran-shortcut (a .store) (a .nodes .now) (a .lookup .now) (a .cache .now) (p .1 .0) ((ordered·apply·After-placed t c) .ordered .result) (c .placed .result) (c .placed .ensures .0) _ (c .placed .ensures .1)
+    (ordered-first O (a .store .count) (p .1 .1 .0 .2) (p .1 .1 .0 .3)) (ordered-second O (a .store .count) (p .1 .1 .0 .2) (p .1 .1 .0 .3)) ((c .before .before) .handle .given .1) ((shortcut·apply·After-placed t c) .shortcut .ensures))
+
+apply-enum-told : (t : ℕ) → apply-lts.Need-enum-told (apply-claims t) (apply-at t) apply.Post
+apply-enum-told t c = search needs
+
+apply-recall-requires : (t : ℕ) → apply-lts.Need-recall-requires (apply-claims t) (apply-at t) apply.Post
+apply-recall-requires t c κs =
+    let p = (start·apply·After-recall-arg t c) .pre in
+    omega (arith, p .1 .0 .within, p .1 .0 .small)
+
+apply-enum-known-handle-2 : (t : ℕ) → apply-lts.Need-enum-known-handle-2 (apply-claims t) (apply-at t) apply.Post
+apply-enum-known-handle-2 t c = search needs
+
+apply-placed-requires-2 : (t : ℕ) → apply-lts.Need-placed-requires-2 (apply-claims t) (apply-at t) apply.Post
+apply-placed-requires-2 t c κs = search needs
+
+apply-same-length : (t : ℕ) → apply-lts.Need-same-length (apply-claims t) (apply-at t) apply.Post
+apply-same-length t c = search needs
+
+apply-returns-2 : (t : ℕ) → apply-lts.Need-returns-2 (apply-claims t) (apply-at t) apply.Post
+apply-returns-2 t c =
+    let a = (start·apply·After-placed2 t c) .args in
+    let p = (start·apply·After-placed2 t c) .pre in
+    let O = (ordered·apply·After-placed2 t c) .ordered .ensures in
+    ran-ordered O (a .store) (a .nodes .now) (a .lookup .now) (a .cache .now) (p .1 .1 .0 .2) (p .1 .1 .0 .3)
+    (ran-recalled (a .store) (a .nodes .now) (a .lookup .now) (a .cache .now) (p .1 .0) ((ordered·apply·After-placed2 t c) .ordered .result) (c .placed2 .result) (c .placed2 .ensures .0) _ (c .placed2 .ensures .1)
+    (omega (arith, ordered-op O, p .1 .1 .0 .0)) ((c .before .before) .handle2 .given .1) ((recall·apply·After-placed2 t c) .recall .ensures))
+
+apply-enum-told-2 : (t : ℕ) → apply-lts.Need-enum-told-2 (apply-claims t) (apply-at t) apply.Post
+apply-enum-told-2 t c = search needs
+
+apply-expand-requires : (t : ℕ) → apply-lts.Need-expand-requires (apply-claims t) (apply-at t) apply.Post
+apply-expand-requires t c κs =
+    let a = (start·apply·After-expand-arg3 t c) .args in
+    let p = (start·apply·After-expand-arg3 t c) .pre in
+    let O = (ordered·apply·After-expand-arg3 t c) .ordered .ensures in
+    let e = ordered-op O in (
+      omega (arith, p .0),
+      (
+        p .1 .0,
+        (
+          (omega (arith, p .1 .1 .0 .0), omega (arith, p .1 .1 .0 .1), ordered-first O (a .store .count) (p .1 .1 .0 .2) (p .1 .1 .0 .3), ordered-second O (a .store .count) (p .1 .1 .0 .2) (p .1 .1 .0 .3)),
+          ((ordered-level O (a .nodes .now) (p .1 .1 .1 .0), p .1 .1 .1 .1), shortcut-proper ((enum-told·apply·After-expand-arg3 t c) .enum-told .given .1) ((shortcut·apply·After-expand-arg3 t c) .shortcut .ensures)),
+        ),
+      ),
+    )
+
+apply-same-length-2 : (t : ℕ) → apply-lts.Need-same-length-2 (apply-claims t) (apply-at t) apply.Post
+apply-same-length-2 t c = search needs
+
+apply-same-length-3 : (t : ℕ) → apply-lts.Need-same-length-3 (apply-claims t) (apply-at t) apply.Post
+apply-same-length-3 t c = search needs
+
+apply-same-length-4 : (t : ℕ) → apply-lts.Need-same-length-4 (apply-claims t) (apply-at t) apply.Post
+apply-same-length-4 t c = search needs
+
+apply-returns-3 : (t : ℕ) → apply-lts.Need-returns-3 (apply-claims t) (apply-at t) apply.Post
+apply-returns-3 t c =
+    let a = (start·apply·After-slice-known6 t c) .args in
+    let p = (start·apply·After-slice-known6 t c) .pre in
+    ran-ordered ((ordered·apply·After-slice-known6 t c) .ordered .ensures) (a .store) (a .nodes .now) (a .lookup .now) (a .cache .now) (p .1 .1 .0 .2) (p .1 .1 .0 .3) ((expand·apply·After-slice-known6 t c) .expand .ensures)
+
+expand-fork-at-requires : (t : ℕ) → expand-lts.Need-fork-at-requires (expand-claims t) (expand-at t) expand.Post
+expand-fork-at-requires t c κs =
+    let p = (start·expand·After-fork-at-arg t c) .pre in
+    ((p .1 .1 .0 .2, p .1 .1 .0 .3, omega (arith, p .1 .0 .within, p .1 .0 .words), omega (arith, p .1 .0 .within, p .1 .0 .small)), (p .1 .1 .1 .0 .0, p .1 .1 .1 .1))
+
+expand-enum-told : (t : ℕ) → expand-lts.Need-enum-told (expand-claims t) (expand-at t) expand.Post
+expand-enum-told t c = search needs
+
+expand-refused-requires : (t : ℕ) → expand-lts.Need-refused-requires (expand-claims t) (expand-at t) expand.Post
+expand-refused-requires t c κs = search needs
+
+expand-enum-known-p0 : (t : ℕ) → expand-lts.Need-enum-known-p0 (expand-claims t) (expand-at t) expand.Post
+expand-enum-known-p0 t c = search needs
+
+expand-apply-requires : (t : ℕ) → expand-lts.Need-apply-requires (expand-claims t) (expand-at t) expand.Post
+expand-apply-requires t c κs =
+    let p = (start·expand·After-apply-arg3 t c) .pre in
+    let K = fork-two ((p0·expand·After-apply-arg3 t c) .p0 .given .1) ((fork-at·expand·After-apply-arg3 t c) .fork-at .ensures) in (
+      omega (arith, p .0, K .first .zero-below, K .second .zero-below, K .top₀-is),
+      (
+        p .1 .0,
+        (
+          (p .1 .1 .0 .0, p .1 .1 .0 .1, K .first .zero-within, K .second .zero-within),
+          (omega (arith, K .top₀-is, K .first .ztop, K .second .ztop), omega (arith, K .top₀-is, K .first .zero-below, K .second .zero-below, p .1 .1 .1 .0 .1)),
+        ),
+      ),
+    )
+
+expand-enum-known-answer : (t : ℕ) → expand-lts.Need-enum-known-answer (expand-claims t) (expand-at t) expand.Post
+expand-enum-known-answer t c = search needs
+
+expand-enum-told-2 : (t : ℕ) → expand-lts.Need-enum-told-2 (expand-claims t) (expand-at t) expand.Post
+expand-enum-told-2 t c = search needs
+
+expand-same-length : (t : ℕ) → expand-lts.Need-same-length (expand-claims t) (expand-at t) expand.Post
+expand-same-length t c = search needs
+
+expand-same-length-2 : (t : ℕ) → expand-lts.Need-same-length-2 (expand-claims t) (expand-at t) expand.Post
+expand-same-length-2 t c = search needs
+
+expand-same-length-3 : (t : ℕ) → expand-lts.Need-same-length-3 (expand-claims t) (expand-at t) expand.Post
+expand-same-length-3 t c = search needs
+
+expand-returns : (t : ℕ) → expand-lts.Need-returns (expand-claims t) (expand-at t) expand.Post
+expand-returns t c =
+    let a = (start·expand·After-enum-told2 t c) .args in
+    let p = (start·expand·After-enum-told2 t c) .pre in
+    let K = fork-two ((p0·expand·After-enum-told2 t c) .p0 .given .1) ((fork-at·expand·After-enum-told2 t c) .fork-at .ensures) in
+    step-first (a .call) _ _ (a .level) (a .store) (a .nodes .now) (a .lookup .now) (a .cache .now)
+    (split-families (a .call) (a .store .count) (a .nodes .now) (a .level) (p .1 .1 .0 .2) (p .1 .1 .0 .0) (p .1 .1 .0 .1) (p .1 .1 .0 .3) (a .lookup .now) (p .1 .1 .1 .0 .0) K)
+    ((apply·expand·After-enum-told2 t c) .apply .ensures) _ (c .enum-told2 .given .1)
+
+expand-apply-requires-2 : (t : ℕ) → expand-lts.Need-apply-requires-2 (expand-claims t) (expand-at t) expand.Post
+expand-apply-requires-2 t c κs =
+    let p = (start·expand·After-apply-arg6 t c) .pre in
+    let K = fork-two ((p0·expand·After-apply-arg6 t c) .p0 .given .1) ((fork-at·expand·After-apply-arg6 t c) .fork-at .ensures) in
+    let L = (apply·expand·After-apply-arg6 t c) .apply .ensures .kept in (
+      omega (arith, p .0, K .first .one-below, K .second .one-below, K .top₁-is),
+      (
+        kept-roomy L (p .1 .0),
+        (
+          (p .1 .1 .0 .0, p .1 .1 .0 .1, omega (arith, K .first .one-within, L .grows), omega (arith, K .second .one-within, L .grows)),
+          (omega (arith, K .top₁-is, K .first .otop, K .second .otop, kept-top L _ (K .first .one-within), kept-top L _ (K .second .one-within)), omega (arith, K .top₁-is, K .first .one-below, K .second .one-below, p .1 .1 .1 .0 .1)),
+        ),
+      ),
+    )
+
+expand-join-requires : (t : ℕ) → expand-lts.Need-join-requires (expand-claims t) (expand-at t) expand.Post
+expand-join-requires t c κs =
+    let p = (start·expand·After-join-arg3 t c) .pre in
+    let K = fork-two ((p0·expand·After-join-arg3 t c) .p0 .given .1) ((fork-at·expand·After-join-arg3 t c) .fork-at .ensures) in
+    let L = (apply·expand·After-join-arg3 t c) .apply .ensures in
+    let M = (apply2·expand·After-join-arg3 t c) .apply2 .ensures in
+    (kept-roomy (kept-trans (L .kept) (M .kept)) (p .1 .0), (omega (arith, K .some), p .1 .1 .1 .0 .1, omega (arith, L .handle _ ((answer·expand·After-join-arg3 t c) .answer .given .1), M .kept .grows), M .handle))
+
+expand-same-length-4 : (t : ℕ) → expand-lts.Need-same-length-4 (expand-claims t) (expand-at t) expand.Post
+expand-same-length-4 t c = search needs
+
+expand-returns-2 : (t : ℕ) → expand-lts.Need-returns-2 (expand-claims t) (expand-at t) expand.Post
+expand-returns-2 t c =
+    let a = (start·expand·After-refused t c) .args in
+    let p = (start·expand·After-refused t c) .pre in
+    ran-broken (a .store) (a .nodes .now) (a .lookup .now) (a .cache .now) (p .1 .0) (a .call) (c .refused .result) (c .refused .ensures .0) (c .refused .ensures .1)
+    (λ B H. fork-broken ((c .before) .enum-told .given .1) ((c .before .before .before) .fork-at .ensures) B (a .lookup .now) H)
+
+expand-same-length-5 : (t : ℕ) → expand-lts.Need-same-length-5 (expand-claims t) (expand-at t) expand.Post
+expand-same-length-5 t c = (join·expand·After-slice-known12 t c) .join .kept .1 .0 ∙ (apply2·expand·After-slice-known12 t c) .apply2 .kept .1 .1 .1 .0 ∙ (apply·expand·After-slice-known12 t c) .apply .kept .1 .1 .1 .0
+
+expand-same-length-6 : (t : ℕ) → expand-lts.Need-same-length-6 (expand-claims t) (expand-at t) expand.Post
+expand-same-length-6 t c = (join·expand·After-slice-known12 t c) .join .kept .1 .1 .0 ∙ (apply2·expand·After-slice-known12 t c) .apply2 .kept .1 .1 .1 .1 .0 ∙ (apply·expand·After-slice-known12 t c) .apply .kept .1 .1 .1 .1 .0
+
+expand-same-length-7 : (t : ℕ) → expand-lts.Need-same-length-7 (expand-claims t) (expand-at t) expand.Post
+expand-same-length-7 t c = (join·expand·After-slice-known12 t c) .join .kept .1 .1 .1 .0 ∙ (apply2·expand·After-slice-known12 t c) .apply2 .kept .1 .1 .1 .1 .1 .0 ∙ (apply·expand·After-slice-known12 t c) .apply .kept .1 .1 .1 .1 .1 .0
+
+expand-returns-3 : (t : ℕ) → expand-lts.Need-returns-3 (expand-claims t) (expand-at t) expand.Post
+expand-returns-3 t c =
+    let a = (start·expand·After-slice-known12 t c) .args in
+    let p = (start·expand·After-slice-known12 t c) .pre in
+    let K = fork-two ((p0·expand·After-slice-known12 t c) .p0 .given .1) ((fork-at·expand·After-slice-known12 t c) .fork-at .ensures) in
+    step-joined (a .call) _ _ (a .level) (a .store) (a .nodes .now) (a .lookup .now) (a .cache .now)
+    (split-families (a .call) (a .store .count) (a .nodes .now) (a .level) (p .1 .1 .0 .2) (p .1 .1 .0 .0) (p .1 .1 .0 .1) (p .1 .1 .0 .3) (a .lookup .now) (p .1 .1 .1 .0 .0) K)
+    ((apply·expand·After-slice-known12 t c) .apply .ensures) _ ((answer·expand·After-slice-known12 t c) .answer .given .1) ((apply2·expand·After-slice-known12 t c) .apply2 .ensures) ((join·expand·After-slice-known12 t c) .join .ensures)
+
+pub +apply+expand-spec : {M : Type 1} → statement M
++apply+expand-spec = close μ-apply μ-expand (λ t. apply-lts.spec (apply-claims t)
+    (apply-at t)
+    apply.Post
+    (apply-ordered-requires t)
+    (apply-shortcut-requires t)
+    (apply-enum-known-handle t)
+    (apply-placed-requires t)
+    (apply-returns t)
+    (apply-enum-told t)
+    (apply-recall-requires t)
+    (apply-enum-known-handle-2 t)
+    (apply-placed-requires-2 t)
+    (apply-same-length t)
+    (apply-returns-2 t)
+    (apply-enum-told-2 t)
+    (apply-expand-requires t)
+    (apply-same-length-2 t)
+    (apply-same-length-3 t)
+    (apply-same-length-4 t)
+    (apply-returns-3 t))
+    λ t. expand-lts.spec (expand-claims t)
+    (expand-at t)
+    expand.Post
+    (expand-fork-at-requires t)
+    (expand-enum-told t)
+    (expand-refused-requires t)
+    (expand-enum-known-p0 t)
+    (expand-apply-requires t)
+    (expand-enum-known-answer t)
+    (expand-enum-told-2 t)
+    (expand-same-length t)
+    (expand-same-length-2 t)
+    (expand-same-length-3 t)
+    (expand-returns t)
+    (expand-apply-requires-2 t)
+    (expand-join-requires t)
+    (expand-same-length-4 t)
+    (expand-returns-2 t)
+    (expand-same-length-5 t)
+    (expand-same-length-6 t)
+    (expand-same-length-7 t)
+    (expand-returns-3 t)

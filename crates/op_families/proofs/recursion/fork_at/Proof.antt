@@ -1,0 +1,89 @@
+-- `fork_at` hands on the sides of both operands, with the larger tops.
+-- Where a split fails, the words hold no book.
+use mathlib.Core.Path.{_≡_, refl}
+use native.Mathlib.Omega.{arith}
+use Rattle.op_families.specs.Inner.{two, broken}
+use Rattle.store.proofs.Sides.{sides-two, sides-broken}
+use Rattle.op_families.proofs.Forks.{no-level}
+use borrow.Author.Needs.{needs}
+use Rattle.op_families.proofs.recursion.fork_at.Statement.{statement}
+use Rattle.op_families.proofs.recursion.fork_at.Tie as tie
+
+abbrev if1·After-larger2 : tie.After-larger2 → tie.Else1
+if1·After-larger2 c = c .before .before .before .before .before .before .before .before .before .before
+
+abbrev p0·After-larger2 : tie.After-larger2 → tie.After-p0
+p0·After-larger2 c = c .before .before .before .before .before .before .before
+
+abbrev sides-at·After-larger2 : tie.After-larger2 → tie.After-sides-at
+sides-at·After-larger2 c = c .before .before .before .before .before .before .before .before .before
+
+abbrev sides-at2·After-larger2 : tie.After-larger2 → tie.After-sides-at2
+sides-at2·After-larger2 c = c .before .before .before .before .before
+
+returns : tie.Need-returns
+returns c =
+    let a = (c .before .before) .args in
+    let p = (c .before .before) .pre in
+    no-level (a .nodes .now) (a .count) (a .call) (a .level) (p .0 .0) (p .0 .1) (p .1 .0) (p .1 .1) (c .if1 .taken)
+
+sides-at-requires : tie.Need-sides-at-requires
+sides-at-requires c κs = search needs
+
+enum-told : tie.Need-enum-told
+enum-told c = search needs
+
+enum-known-p0 : tie.Need-enum-known-p0
+enum-known-p0 c = search needs
+
+sides-at-requires-2 : tie.Need-sides-at-requires-2
+sides-at-requires-2 c κs = search needs
+
+enum-told-2 : tie.Need-enum-told-2
+enum-told-2 c = search needs
+
+enum-known-q0 : tie.Need-enum-known-q0
+enum-known-q0 c = search needs
+
+larger-requires : tie.Need-larger-requires
+larger-requires c κs = search needs
+
+larger-requires-2 : tie.Need-larger-requires-2
+larger-requires-2 c κs = search needs
+
+returns-2 : tie.Need-returns-2
+returns-2 c = broken (sides-broken (c .enum-told .given .1) ((c .before .before) .sides-at .ensures))
+
+returns-3 : tie.Need-returns-3
+returns-3 c = broken (sides-broken (c .enum-told2 .given .1) ((c .before .before) .sides-at2 .ensures))
+
+returns-4 : tie.Need-returns-4
+returns-4 c =
+    two record {
+      some = omega (arith, (if1·After-larger2 c) .if1 .left);
+      a₀ = _;
+      a₁ = _;
+      b₀ = _;
+      b₁ = _;
+      first = sides-two ((p0·After-larger2 c) .p0 .given .1) ((sides-at·After-larger2 c) .sides-at .ensures);
+      second = sides-two ((c .before .before .before) .q0 .given .1) ((sides-at2·After-larger2 c) .sides-at2 .ensures);
+      top₀-is = (c .before) .larger .ensures;
+      top₁-is = c .larger2 .ensures;
+    }
+
+pub fork-at-spec : {M : Type 1} → statement M
+fork-at-spec =
+    tie.close
+    (tie.spec
+    returns
+    sides-at-requires
+    enum-told
+    enum-known-p0
+    sides-at-requires-2
+    enum-told-2
+    enum-known-q0
+    larger-requires
+    larger-requires-2
+    returns-2
+    returns-3
+    returns-4)

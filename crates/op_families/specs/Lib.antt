@@ -1,0 +1,2 @@
+-- What the contracts of `op_families` cite.
+pub mod Inner

@@ -1,0 +1,82 @@
+// Union, Intsec and Diff: what refuses them, the recursion, and the end of the call.
+ghost use Prim.Native.Nat.{_≤_};
+ghost use Rattle.op_promise.specs.Promise.{OperationCall};
+use op_cache::Call;
+use crate::recursion::apply;
+use crate::recursion::larger;
+use op_promise::Test;
+use op_promise::tested;
+use store_undo::finish;
+use store::node::top_of;
+use store::record::Placed;
+use store::record::Refusal;
+use store::record::Store;
+
+// An operation on two families.
+fn of_families(
+    op: u32,
+    store: Store,
+    nodes: &mut [u32],
+    lookup: &mut [u32],
+    cache: &mut [u32],
+    p: u32,
+    q: u32,
+) -> Placed
+    requires { ⌜ (4 ≤ op) × (op ≤ 6) ⌝ }
+    ensures { λ r. ⌜ OperationCall op p q store (now (nodes .entry)) (now (lookup .entry)) (now (cache .entry)) r (now (nodes .exit)) (now (lookup .exit)) (now (cache .exit)) ⌝ }
+{
+    let found = tested(op, store, nodes.len(), lookup.len(), p, q);
+    if let Test::Refuses(refusal) = found {
+        return store.refused(refusal);
+    }
+    let count = store.count;
+    let level = larger(top_of(nodes, count, p), top_of(nodes, count, q));
+    if 512 < level {
+        return store.refused(Refusal::Damaged);
+    }
+    let call = Call { op: op, p: p, q: q };
+    let placed = apply(call, level, store, nodes, lookup, cache);
+    finish(placed, count, nodes, lookup, cache)
+}
+
+// The combinations in p or in q.
+pub fn union(
+    store: Store,
+    nodes: &mut [u32],
+    lookup: &mut [u32],
+    cache: &mut [u32],
+    p: u32,
+    q: u32,
+) -> Placed
+    ensures { λ r. ⌜ OperationCall 4 p q store (now (nodes .entry)) (now (lookup .entry)) (now (cache .entry)) r (now (nodes .exit)) (now (lookup .exit)) (now (cache .exit)) ⌝ }
+{
+    of_families(4, store, nodes, lookup, cache, p, q)
+}
+
+// The combinations in p and in q.
+pub fn intsec(
+    store: Store,
+    nodes: &mut [u32],
+    lookup: &mut [u32],
+    cache: &mut [u32],
+    p: u32,
+    q: u32,
+) -> Placed
+    ensures { λ r. ⌜ OperationCall 5 p q store (now (nodes .entry)) (now (lookup .entry)) (now (cache .entry)) r (now (nodes .exit)) (now (lookup .exit)) (now (cache .exit)) ⌝ }
+{
+    of_families(5, store, nodes, lookup, cache, p, q)
+}
+
+// The combinations in p and not in q.
+pub fn diff(
+    store: Store,
+    nodes: &mut [u32],
+    lookup: &mut [u32],
+    cache: &mut [u32],
+    p: u32,
+    q: u32,
+) -> Placed
+    ensures { λ r. ⌜ OperationCall 6 p q store (now (nodes .entry)) (now (lookup .entry)) (now (cache .entry)) r (now (nodes .exit)) (now (lookup .exit)) (now (cache .exit)) ⌝ }
+{
+    of_families(6, store, nodes, lookup, cache, p, q)
+}

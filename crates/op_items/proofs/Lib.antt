@@ -1,0 +1,2 @@
+-- The laws of the terminal cases.
+pub mod Restricting

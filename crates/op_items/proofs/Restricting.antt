@@ -1,0 +1,68 @@
+-- Subset1, Subset0 and Change where the item is not below the top: the result is at hand, or one node of handles at hand.
+-- Each is the operation's equation at that place, read through the book that the words hold.
+use Prim.Native.Nat.{ℕ, _+_, _≤_, _<_}
+use mathlib.Core.Path.{_≡_, refl, sym, ap, _∙_}
+use mathlib.Core.List.{List}
+use native.Mathlib.Omega.{arith}
+use Rattle.family.specs.Family.{Family, empty, top, mk}
+use Rattle.family.specs.Book.{at}
+use Rattle.store.specs.declared.record.Store.{Store}
+use Rattle.store.specs.declared.record.PlaceAnswer.the-variants.{Handle}
+use Rattle.store.specs.declared.record.Placed.{Placed}
+use Rattle.store.specs.Words.{itemLimit, topAt}
+use Rattle.store.specs.Cache.{restrict, named}
+use Rattle.store.specs.Inner.{Roomy, Holds, TwoSides, NodeIt}
+use Rattle.store.proofs.Held.{at-0, top-at}
+use Rattle.op_cache.specs.declared.Call.{Call}
+use Rattle.op_cache.specs.Inner.{RanPlain}
+use Rattle.op_cache.proofs.Naming.{named-item, above-subset1, above-subset0, above-change, at-subset1, at-subset0, at-change}
+use Rattle.op_cache.proofs.Plain.{plain-handle, plain-node}
+
+module _ (call : Call) (s : Store) (nodes lookup : List ℕ) (R : Roomy s nodes lookup) (l : 1 ≤ call .op) (m : call .op ≤ 3) (lp : call .p ≤ s .count + 1) (v : 1 ≤ call .q) where
+  abbrev F : List Family → Family
+  F = λ B. named (call .op) B (call .p) (call .q)
+
+  item : (B : List Family) → named (call .op) B (call .p) (call .q) ≡ restrict (call .op) (call .q) (at B (call .p))
+  item B = named-item (call .op) B (call .p) (call .q) (omega arith)
+
+  -- the item above the top
+  module _ (above : topAt nodes (call .p) < call .q) where
+    low : {B : List Family} → Holds B (s .count) nodes lookup → top (at B (call .p)) < call .q
+    low H = omega (arith, top-at H (call .p) (omega arith))
+
+    pub above-none : (r : Placed) → r .store ≡ s → r .answer ≡ Handle 0 → call .op ≡ 1 → RanPlain (λ B. named (call .op) B (call .p) (call .q)) s nodes lookup r nodes lookup
+    above-none r es ea e =
+        plain-handle F s nodes lookup R r 0 es ea (omega arith) (λ B H. at-0 H ∙ sym (item B ∙ above-subset1 (call .op) (call .q) (at B (call .p)) (low H) e))
+
+    pub above-same : (r : Placed) → r .store ≡ s → r .answer ≡ Handle (call .p) → call .op ≡ 2 → RanPlain (λ B. named (call .op) B (call .p) (call .q)) s nodes lookup r nodes lookup
+    above-same r es ea e =
+        plain-handle F s nodes lookup R r (call .p) es ea lp (λ B H. sym (item B ∙ above-subset0 (call .op) (call .q) (at B (call .p)) (low H) e))
+
+    pub above-node : (r : Placed) {nodes′ lookup′ : List ℕ} → (call .op ≡ 1 → ⊥) → (call .op ≡ 2 → ⊥) → NodeIt s nodes lookup (call .q) 0 (call .p) r nodes′ lookup′
+        → RanPlain (λ B. named (call .op) B (call .p) (call .q)) s nodes lookup r nodes′ lookup′
+    above-node r n k N =
+        plain-node F s nodes lookup (call .q) 0 (call .p) (omega arith) lp r N
+        (λ B H. (item B ∙ above-change (call .op) (call .q) (at B (call .p)) (low H) n k ∙ ap (λ X. mk (call .q) X (at B (call .p))) (sym (at-0 H)), omega (arith, ap top (at-0 H)), low H))
+
+  -- the item at the top
+  module _ (here : topAt nodes (call .p) ≡ call .q) {z o zt ot : ℕ} (T : TwoSides nodes (s .count) (call .p) (call .q) z o zt ot) where
+    is-top : {B : List Family} → Holds B (s .count) nodes lookup → top (at B (call .p)) ≡ call .q
+    is-top H = sym (top-at H (call .p) (omega arith)) ∙ here
+
+    pub at-one : (r : Placed) → r .store ≡ s → r .answer ≡ Handle o → call .op ≡ 1 → RanPlain (λ B. named (call .op) B (call .p) (call .q)) s nodes lookup r nodes lookup
+    at-one r es ea e =
+        plain-handle F s nodes lookup R r o es ea (T .one-within) (λ B H. T .holds B lookup H ∙ sym (item B ∙ at-subset1 (call .op) (call .q) (at B (call .p)) v (is-top H) e))
+
+    pub at-zero : (r : Placed) → r .store ≡ s → r .answer ≡ Handle z → call .op ≡ 2 → RanPlain (λ B. named (call .op) B (call .p) (call .q)) s nodes lookup r nodes lookup
+    at-zero r es ea e =
+        plain-handle F s nodes lookup R r z es ea (T .zero-within) (λ B H. T .lacks B lookup H ∙ sym (item B ∙ at-subset0 (call .op) (call .q) (at B (call .p)) v (is-top H) e))
+
+    pub at-node : (r : Placed) {nodes′ lookup′ : List ℕ} → (call .op ≡ 1 → ⊥) → (call .op ≡ 2 → ⊥) → NodeIt s nodes lookup (call .q) o z r nodes′ lookup′
+        → RanPlain (λ B. named (call .op) B (call .p) (call .q)) s nodes lookup r nodes′ lookup′
+    at-node r n k N =
+        plain-node F s nodes lookup (call .q) o z (T .one-within) (T .zero-within) r N
+        (λ B H. (
+          item B ∙ at-change (call .op) (call .q) (at B (call .p)) v (is-top H) n k ∙ rw (T .lacks B lookup H, T .holds B lookup H),
+          omega (arith, T .one-below, T .otop, top-at H o (omega (arith, T .one-within))),
+          omega (arith, T .zero-below, T .ztop, top-at H z (omega (arith, T .zero-within))),
+        ))

@@ -1,0 +1,383 @@
+-- `restrict` and `expand` run the operation on a family and an item: the level falls from `expand` to each `restrict`, and `restrict` comes just above `expand` of its level.
+-- Every way out is one at or above the top, a recalled result, or one step over the two results below.
+use mathlib.Core.Path.{_∙_}
+use Prim.Native.Nat.{ℕ, _+_, _*_, _<_}
+use native.Mathlib.Omega.{arith}
+use Rattle.store.proofs.Growing.{kept-top, kept-roomy, kept-trans}
+use Rattle.store.proofs.Sides.{sides-two, sides-broken}
+use Rattle.op_cache.proofs.Plain.{plain-ran}
+use Rattle.op_step.proofs.Steps.{of, step-first, step-joined}
+use Rattle.op_step.proofs.Splitting.{split-item}
+use Rattle.op_step.proofs.Outcomes.{ran-broken, ran-recalled}
+use borrow.Author.Needs.{needs}
+use borrow.Fn.Kinds.{In}
+use borrow.Fn.PlainCycle.{Measures, is, falls, and}
+use Rattle.op_items.proofs.recursion.expand.Reads as expand
+use Rattle.op_items.proofs.recursion.expand.Kinds as expand-kinds
+use Rattle.op_items.proofs.recursion.+expand+restrict.Lts-expand as expand-lts
+use Rattle.op_items.proofs.recursion.restrict.Reads as restrict
+use Rattle.op_items.proofs.recursion.restrict.Kinds as restrict-kinds
+use Rattle.op_items.proofs.recursion.+expand+restrict.Lts-restrict as restrict-lts
+use Rattle.op_cache.proofs.recall.Reads as recall-reads
+use Rattle.op_items.proofs.terminal.above_top.Reads as above-top-reads
+use Rattle.op_items.proofs.terminal.at_top.Reads as at-top-reads
+use Rattle.op_step.proofs.join.Reads as join-reads
+use Rattle.store.proofs.node.sides_at.Reads as sides-at-reads
+use Rattle.store.proofs.record.Store.placed.Reads as placed-reads
+use Rattle.store.proofs.record.Store.refused.Reads as refused-reads
+use Rattle.op_items.proofs.recursion.+expand+restrict.{statement}
+use Rattle.op_items.proofs.recursion.+expand+restrict.Tie.{close}
+
+abbrev μ-expand : Measures 3 expand-kinds.ps ℕ
+μ-expand κs a = 2 * a .1 .0
+
+abbrev μ-restrict : Measures 3 restrict-kinds.ps ℕ
+μ-restrict κs a = 2 * a .1 .0 + 1
+
+abbrev expand-at : ℕ → In 3 expand-kinds.ps
+expand-at t = and 3 expand-kinds.ps (is 3 expand-kinds.ps μ-expand t) expand.Pre
+
+abbrev expand-below : ℕ → In 3 expand-kinds.ps
+expand-below t = and 3 expand-kinds.ps (falls 3 expand-kinds.ps _<_ μ-expand t) expand.Pre
+
+abbrev restrict-at : ℕ → In 3 restrict-kinds.ps
+restrict-at t = and 3 restrict-kinds.ps (is 3 restrict-kinds.ps μ-restrict t) restrict.Pre
+
+abbrev restrict-below : ℕ → In 3 restrict-kinds.ps
+restrict-below t =
+    and 3 restrict-kinds.ps (falls 3 restrict-kinds.ps _<_ μ-restrict t) restrict.Pre
+
+abbrev expand-claims : ℕ → expand-lts.Claims
+expand-claims t = (sides-at-reads.Asked, sides-at-reads.Learnt, refused-reads.Asked, refused-reads.Learnt, restrict-below t, restrict.Post, join-reads.Asked, join-reads.Learnt)
+
+abbrev restrict-claims : ℕ → restrict-lts.Claims
+restrict-claims t = (above-top-reads.Asked, above-top-reads.Learnt, at-top-reads.Asked, at-top-reads.Learnt, recall-reads.Asked, recall-reads.Learnt, placed-reads.Asked, placed-reads.Learnt, expand-below t, expand.Post)
+
+abbrev start·expand·After-sides-at-arg : (t : ℕ) → expand-lts.After-sides-at-arg (expand-claims t) (expand-at t) expand.Post → expand-lts.Start (expand-claims t) (expand-at t) expand.Post
+start·expand·After-sides-at-arg t c = c .before .before .before .before
+
+abbrev start·expand·After-restrict-arg3 : (t : ℕ) → expand-lts.After-restrict-arg3 (expand-claims t) (expand-at t) expand.Post → expand-lts.Start (expand-claims t) (expand-at t) expand.Post
+start·expand·After-restrict-arg3 t c = c .before .before .before .before .before .before .before .before .before .before .before
+
+abbrev p0·expand·After-restrict-arg3 : (t : ℕ) → expand-lts.After-restrict-arg3 (expand-claims t) (expand-at t) expand.Post → expand-lts.After-p0 (expand-claims t) (expand-at t) expand.Post
+p0·expand·After-restrict-arg3 t c = c .before .before .before .before
+
+abbrev sides-at·expand·After-restrict-arg3 : (t : ℕ) → expand-lts.After-restrict-arg3 (expand-claims t) (expand-at t) expand.Post → expand-lts.After-sides-at (expand-claims t) (expand-at t) expand.Post
+sides-at·expand·After-restrict-arg3 t c = c .before .before .before .before .before .before
+
+abbrev start·expand·After-enum-told2 : (t : ℕ) → expand-lts.After-enum-told2 (expand-claims t) (expand-at t) expand.Post → expand-lts.Start (expand-claims t) (expand-at t) expand.Post
+start·expand·After-enum-told2 t c = c .before .before .before .before .before .before .before .before .before .before .before .before .before .before .before .before .before .before .before .before
+
+abbrev p0·expand·After-enum-told2 : (t : ℕ) → expand-lts.After-enum-told2 (expand-claims t) (expand-at t) expand.Post → expand-lts.After-p0 (expand-claims t) (expand-at t) expand.Post
+p0·expand·After-enum-told2 t c = c .before .before .before .before .before .before .before .before .before .before .before .before .before
+
+abbrev sides-at·expand·After-enum-told2 : (t : ℕ) → expand-lts.After-enum-told2 (expand-claims t) (expand-at t) expand.Post → expand-lts.After-sides-at (expand-claims t) (expand-at t) expand.Post
+sides-at·expand·After-enum-told2 t c = c .before .before .before .before .before .before .before .before .before .before .before .before .before .before .before
+
+abbrev restrict·expand·After-enum-told2 : (t : ℕ) → expand-lts.After-enum-told2 (expand-claims t) (expand-at t) expand.Post → expand-lts.After-restrict (expand-claims t) (expand-at t) expand.Post
+restrict·expand·After-enum-told2 t c = c .before .before .before .before .before .before .before .before
+
+abbrev start·expand·After-restrict-arg6 : (t : ℕ) → expand-lts.After-restrict-arg6 (expand-claims t) (expand-at t) expand.Post → expand-lts.Start (expand-claims t) (expand-at t) expand.Post
+start·expand·After-restrict-arg6 t c = c .before .before .before .before .before .before .before .before .before .before .before .before .before .before .before .before .before .before .before .before .before .before .before .before .before
+
+abbrev p0·expand·After-restrict-arg6 : (t : ℕ) → expand-lts.After-restrict-arg6 (expand-claims t) (expand-at t) expand.Post → expand-lts.After-p0 (expand-claims t) (expand-at t) expand.Post
+p0·expand·After-restrict-arg6 t c = c .before .before .before .before .before .before .before .before .before .before .before .before .before .before .before .before .before .before
+
+abbrev sides-at·expand·After-restrict-arg6 : (t : ℕ) → expand-lts.After-restrict-arg6 (expand-claims t) (expand-at t) expand.Post → expand-lts.After-sides-at (expand-claims t) (expand-at t) expand.Post
+sides-at·expand·After-restrict-arg6 t c = c .before .before .before .before .before .before .before .before .before .before .before .before .before .before .before .before .before .before .before .before
+
+abbrev restrict·expand·After-restrict-arg6 : (t : ℕ) → expand-lts.After-restrict-arg6 (expand-claims t) (expand-at t) expand.Post → expand-lts.After-restrict (expand-claims t) (expand-at t) expand.Post
+restrict·expand·After-restrict-arg6 t c = c .before .before .before .before .before .before .before .before .before .before .before .before .before
+
+abbrev start·expand·After-join-arg3 : (t : ℕ) → expand-lts.After-join-arg3 (expand-claims t) (expand-at t) expand.Post → expand-lts.Start (expand-claims t) (expand-at t) expand.Post
+start·expand·After-join-arg3 t c = c .before .before .before .before .before .before .before .before .before .before .before .before .before .before .before .before .before .before .before .before .before .before .before .before .before .before .before .before .before .before .before .before .before .before .before
+
+abbrev p0·expand·After-join-arg3 : (t : ℕ) → expand-lts.After-join-arg3 (expand-claims t) (expand-at t) expand.Post → expand-lts.After-p0 (expand-claims t) (expand-at t) expand.Post
+p0·expand·After-join-arg3 t c = c .before .before .before .before .before .before .before .before .before .before .before .before .before .before .before .before .before .before .before .before .before .before .before .before .before .before .before .before
+
+abbrev sides-at·expand·After-join-arg3 : (t : ℕ) → expand-lts.After-join-arg3 (expand-claims t) (expand-at t) expand.Post → expand-lts.After-sides-at (expand-claims t) (expand-at t) expand.Post
+sides-at·expand·After-join-arg3 t c = c .before .before .before .before .before .before .before .before .before .before .before .before .before .before .before .before .before .before .before .before .before .before .before .before .before .before .before .before .before .before
+
+abbrev restrict·expand·After-join-arg3 : (t : ℕ) → expand-lts.After-join-arg3 (expand-claims t) (expand-at t) expand.Post → expand-lts.After-restrict (expand-claims t) (expand-at t) expand.Post
+restrict·expand·After-join-arg3 t c = c .before .before .before .before .before .before .before .before .before .before .before .before .before .before .before .before .before .before .before .before .before .before .before
+
+abbrev restrict2·expand·After-join-arg3 : (t : ℕ) → expand-lts.After-join-arg3 (expand-claims t) (expand-at t) expand.Post → expand-lts.After-restrict2 (expand-claims t) (expand-at t) expand.Post
+restrict2·expand·After-join-arg3 t c = c .before .before .before .before .before .before .before .before .before
+
+abbrev answer·expand·After-join-arg3 : (t : ℕ) → expand-lts.After-join-arg3 (expand-claims t) (expand-at t) expand.Post → expand-lts.After-answer (expand-claims t) (expand-at t) expand.Post
+answer·expand·After-join-arg3 t c = c .before .before .before .before .before .before .before .before .before .before .before .before .before .before .before
+
+abbrev start·expand·After-refused : (t : ℕ) → expand-lts.After-refused (expand-claims t) (expand-at t) expand.Post → expand-lts.Start (expand-claims t) (expand-at t) expand.Post
+start·expand·After-refused t c = c .before .before .before .before .before .before .before .before
+
+abbrev join·expand·After-slice-known12 : (t : ℕ) → expand-lts.After-slice-known12 (expand-claims t) (expand-at t) expand.Post → expand-lts.After-join (expand-claims t) (expand-at t) expand.Post
+join·expand·After-slice-known12 t c = c .before .before .before .before .before .before
+
+abbrev restrict2·expand·After-slice-known12 : (t : ℕ) → expand-lts.After-slice-known12 (expand-claims t) (expand-at t) expand.Post → expand-lts.After-restrict2 (expand-claims t) (expand-at t) expand.Post
+restrict2·expand·After-slice-known12 t c = c .before .before .before .before .before .before .before .before .before .before .before .before .before .before .before .before
+
+abbrev restrict·expand·After-slice-known12 : (t : ℕ) → expand-lts.After-slice-known12 (expand-claims t) (expand-at t) expand.Post → expand-lts.After-restrict (expand-claims t) (expand-at t) expand.Post
+restrict·expand·After-slice-known12 t c = c .before .before .before .before .before .before .before .before .before .before .before .before .before .before .before .before .before .before .before .before .before .before .before .before .before .before .before .before .before .before
+
+abbrev start·expand·After-slice-known12 : (t : ℕ) → expand-lts.After-slice-known12 (expand-claims t) (expand-at t) expand.Post → expand-lts.Start (expand-claims t) (expand-at t) expand.Post
+start·expand·After-slice-known12 t c = c .before .before .before .before .before .before .before .before .before .before .before .before .before .before .before .before .before .before .before .before .before .before .before .before .before .before .before .before .before .before .before .before .before .before .before .before .before .before .before .before .before .before
+
+abbrev p0·expand·After-slice-known12 : (t : ℕ) → expand-lts.After-slice-known12 (expand-claims t) (expand-at t) expand.Post → expand-lts.After-p0 (expand-claims t) (expand-at t) expand.Post
+p0·expand·After-slice-known12 t c = c .before .before .before .before .before .before .before .before .before .before .before .before .before .before .before .before .before .before .before .before .before .before .before .before .before .before .before .before .before .before .before .before .before .before .before
+
+abbrev sides-at·expand·After-slice-known12 : (t : ℕ) → expand-lts.After-slice-known12 (expand-claims t) (expand-at t) expand.Post → expand-lts.After-sides-at (expand-claims t) (expand-at t) expand.Post
+sides-at·expand·After-slice-known12 t c = c .before .before .before .before .before .before .before .before .before .before .before .before .before .before .before .before .before .before .before .before .before .before .before .before .before .before .before .before .before .before .before .before .before .before .before .before .before
+
+abbrev answer·expand·After-slice-known12 : (t : ℕ) → expand-lts.After-slice-known12 (expand-claims t) (expand-at t) expand.Post → expand-lts.After-answer (expand-claims t) (expand-at t) expand.Post
+answer·expand·After-slice-known12 t c = c .before .before .before .before .before .before .before .before .before .before .before .before .before .before .before .before .before .before .before .before .before .before
+
+abbrev start·restrict·After-above-top-arg2 : (t : ℕ) → restrict-lts.After-above-top-arg2 (restrict-claims t) (restrict-at t) restrict.Post → restrict-lts.Start (restrict-claims t) (restrict-at t) restrict.Post
+start·restrict·After-above-top-arg2 t c = c .before .before .before .before .before .before .before
+
+abbrev start·restrict·After-slice-known5 : (t : ℕ) → restrict-lts.After-slice-known5 (restrict-claims t) (restrict-at t) restrict.Post → restrict-lts.Start (restrict-claims t) (restrict-at t) restrict.Post
+start·restrict·After-slice-known5 t c = c .before .before .before .before .before .before .before .before .before .before .before .before
+
+abbrev above-top·restrict·After-slice-known5 : (t : ℕ) → restrict-lts.After-slice-known5 (restrict-claims t) (restrict-at t) restrict.Post → restrict-lts.After-above-top (restrict-claims t) (restrict-at t) restrict.Post
+above-top·restrict·After-slice-known5 t c = c .before .before .before .before
+
+abbrev start·restrict·After-at-top-arg2 : (t : ℕ) → restrict-lts.After-at-top-arg2 (restrict-claims t) (restrict-at t) restrict.Post → restrict-lts.Start (restrict-claims t) (restrict-at t) restrict.Post
+start·restrict·After-at-top-arg2 t c = c .before .before .before .before .before .before .before .before .before
+
+abbrev start·restrict·After-slice-known7 : (t : ℕ) → restrict-lts.After-slice-known7 (restrict-claims t) (restrict-at t) restrict.Post → restrict-lts.Start (restrict-claims t) (restrict-at t) restrict.Post
+start·restrict·After-slice-known7 t c = c .before .before .before .before .before .before .before .before .before .before .before .before .before .before
+
+abbrev at-top·restrict·After-slice-known7 : (t : ℕ) → restrict-lts.After-slice-known7 (restrict-claims t) (restrict-at t) restrict.Post → restrict-lts.After-at-top (restrict-claims t) (restrict-at t) restrict.Post
+at-top·restrict·After-slice-known7 t c = c .before .before .before .before
+
+abbrev start·restrict·After-recall-arg : (t : ℕ) → restrict-lts.After-recall-arg (restrict-claims t) (restrict-at t) restrict.Post → restrict-lts.Start (restrict-claims t) (restrict-at t) restrict.Post
+start·restrict·After-recall-arg t c = c .before .before .before .before .before .before .before .before
+
+abbrev start·restrict·After-placed : (t : ℕ) → restrict-lts.After-placed (restrict-claims t) (restrict-at t) restrict.Post → restrict-lts.Start (restrict-claims t) (restrict-at t) restrict.Post
+start·restrict·After-placed t c = c .before .before .before .before .before .before .before .before .before .before .before .before .before
+
+abbrev recall·restrict·After-placed : (t : ℕ) → restrict-lts.After-placed (restrict-claims t) (restrict-at t) restrict.Post → restrict-lts.After-recall (restrict-claims t) (restrict-at t) restrict.Post
+recall·restrict·After-placed t c = c .before .before .before .before
+
+abbrev start·restrict·After-expand-arg3 : (t : ℕ) → restrict-lts.After-expand-arg3 (restrict-claims t) (restrict-at t) restrict.Post → restrict-lts.Start (restrict-claims t) (restrict-at t) restrict.Post
+start·restrict·After-expand-arg3 t c = c .before .before .before .before .before .before .before .before .before .before .before .before .before .before
+
+abbrev if1·restrict·After-expand-arg3 : (t : ℕ) → restrict-lts.After-expand-arg3 (restrict-claims t) (restrict-at t) restrict.Post → restrict-lts.Else1 (restrict-claims t) (restrict-at t) restrict.Post
+if1·restrict·After-expand-arg3 t c = c .before .before .before .before .before .before .before .before .before
+
+abbrev if2·restrict·After-expand-arg3 : (t : ℕ) → restrict-lts.After-expand-arg3 (restrict-claims t) (restrict-at t) restrict.Post → restrict-lts.Else2 (restrict-claims t) (restrict-at t) restrict.Post
+if2·restrict·After-expand-arg3 t c = c .before .before .before .before .before .before .before
+
+abbrev expand·restrict·After-slice-known10 : (t : ℕ) → restrict-lts.After-slice-known10 (restrict-claims t) (restrict-at t) restrict.Post → restrict-lts.After-expand (restrict-claims t) (restrict-at t) restrict.Post
+expand·restrict·After-slice-known10 t c = c .before .before .before .before .before .before
+
+expand-sides-at-requires : (t : ℕ) → expand-lts.Need-sides-at-requires (expand-claims t) (expand-at t) expand.Post
+expand-sides-at-requires t c κs =
+    let p = (start·expand·After-sides-at-arg t c) .pre in
+    ((p .1 .1 .0 .2, omega (arith, p .1 .0 .within, p .1 .0 .words), omega (arith, p .1 .0 .within, p .1 .0 .small)), (omega (arith, p .1 .1 .1 .0), omega (arith, p .1 .1 .1 .2)))
+
+expand-enum-told : (t : ℕ) → expand-lts.Need-enum-told (expand-claims t) (expand-at t) expand.Post
+expand-enum-told t c = search needs
+
+expand-refused-requires : (t : ℕ) → expand-lts.Need-refused-requires (expand-claims t) (expand-at t) expand.Post
+expand-refused-requires t c κs = search needs
+
+expand-enum-known-p0 : (t : ℕ) → expand-lts.Need-enum-known-p0 (expand-claims t) (expand-at t) expand.Post
+expand-enum-known-p0 t c = search needs
+
+expand-restrict-requires : (t : ℕ) → expand-lts.Need-restrict-requires (expand-claims t) (expand-at t) expand.Post
+expand-restrict-requires t c κs =
+    let p = (start·expand·After-restrict-arg3 t c) .pre in
+    let K = sides-two ((p0·expand·After-restrict-arg3 t c) .p0 .given .1) ((sides-at·expand·After-restrict-arg3 t c) .sides-at .ensures) in
+    (omega (arith, p .0, K .zero-below), (p .1 .0, ((p .1 .1 .0 .0, p .1 .1 .0 .1, K .zero-within, p .1 .1 .0 .3, p .1 .1 .0 .4), (K .ztop, omega (arith, K .zero-below, p .1 .1 .1 .1)))))
+
+expand-enum-known-answer : (t : ℕ) → expand-lts.Need-enum-known-answer (expand-claims t) (expand-at t) expand.Post
+expand-enum-known-answer t c = search needs
+
+expand-enum-told-2 : (t : ℕ) → expand-lts.Need-enum-told-2 (expand-claims t) (expand-at t) expand.Post
+expand-enum-told-2 t c = search needs
+
+expand-same-length : (t : ℕ) → expand-lts.Need-same-length (expand-claims t) (expand-at t) expand.Post
+expand-same-length t c = search needs
+
+expand-same-length-2 : (t : ℕ) → expand-lts.Need-same-length-2 (expand-claims t) (expand-at t) expand.Post
+expand-same-length-2 t c = search needs
+
+expand-same-length-3 : (t : ℕ) → expand-lts.Need-same-length-3 (expand-claims t) (expand-at t) expand.Post
+expand-same-length-3 t c = search needs
+
+expand-returns : (t : ℕ) → expand-lts.Need-returns (expand-claims t) (expand-at t) expand.Post
+expand-returns t c =
+    let a = (start·expand·After-enum-told2 t c) .args in
+    let p = (start·expand·After-enum-told2 t c) .pre in
+    step-first (a .call) _ _ (a .level) (a .store) (a .nodes .now) (a .lookup .now) (a .cache .now)
+    (split-item (a .call) (a .store .count) (a .nodes .now) (a .level) (p .1 .1 .0 .2) (p .1 .1 .0 .0) (p .1 .1 .0 .1) (p .1 .1 .0 .3) (p .1 .1 .0 .4) (a .lookup .now) (p .1 .1 .1 .0) (p .1 .1 .1 .2) (sides-two ((p0·expand·After-enum-told2 t c) .p0 .given .1) ((sides-at·expand·After-enum-told2 t c) .sides-at .ensures)))
+    ((restrict·expand·After-enum-told2 t c) .restrict .ensures) _ (c .enum-told2 .given .1)
+
+expand-restrict-requires-2 : (t : ℕ) → expand-lts.Need-restrict-requires-2 (expand-claims t) (expand-at t) expand.Post
+expand-restrict-requires-2 t c κs =
+    let p = (start·expand·After-restrict-arg6 t c) .pre in
+    let K = sides-two ((p0·expand·After-restrict-arg6 t c) .p0 .given .1) ((sides-at·expand·After-restrict-arg6 t c) .sides-at .ensures) in
+    let L = (restrict·expand·After-restrict-arg6 t c) .restrict .ensures .kept in (
+      omega (arith, p .0, K .one-below),
+      (
+        kept-roomy L (p .1 .0),
+        (
+          (p .1 .1 .0 .0, p .1 .1 .0 .1, omega (arith, K .one-within, L .grows), p .1 .1 .0 .3, p .1 .1 .0 .4),
+          (omega (arith, K .otop, kept-top L _ (K .one-within)), omega (arith, K .one-below, p .1 .1 .1 .1)),
+        ),
+      ),
+    )
+
+expand-join-requires : (t : ℕ) → expand-lts.Need-join-requires (expand-claims t) (expand-at t) expand.Post
+expand-join-requires t c κs =
+    let p = (start·expand·After-join-arg3 t c) .pre in
+    let K = sides-two ((p0·expand·After-join-arg3 t c) .p0 .given .1) ((sides-at·expand·After-join-arg3 t c) .sides-at .ensures) in
+    let L = (restrict·expand·After-join-arg3 t c) .restrict .ensures in
+    let M = (restrict2·expand·After-join-arg3 t c) .restrict2 .ensures in
+    (kept-roomy (kept-trans (L .kept) (M .kept)) (p .1 .0), (omega (arith, p .1 .1 .1 .2), p .1 .1 .1 .1, omega (arith, L .handle _ ((answer·expand·After-join-arg3 t c) .answer .given .1), M .kept .grows), M .handle))
+
+expand-same-length-4 : (t : ℕ) → expand-lts.Need-same-length-4 (expand-claims t) (expand-at t) expand.Post
+expand-same-length-4 t c = search needs
+
+expand-returns-2 : (t : ℕ) → expand-lts.Need-returns-2 (expand-claims t) (expand-at t) expand.Post
+expand-returns-2 t c =
+    let a = (start·expand·After-refused t c) .args in
+    let p = (start·expand·After-refused t c) .pre in
+    ran-broken (a .store) (a .nodes .now) (a .lookup .now) (a .cache .now) (p .1 .0) (a .call) (c .refused .result) (c .refused .ensures .0) (c .refused .ensures .1)
+    (λ B H. sides-broken ((c .before) .enum-told .given .1) ((c .before .before .before) .sides-at .ensures) B (a .lookup .now) H)
+
+expand-same-length-5 : (t : ℕ) → expand-lts.Need-same-length-5 (expand-claims t) (expand-at t) expand.Post
+expand-same-length-5 t c = (join·expand·After-slice-known12 t c) .join .kept .1 .0 ∙ (restrict2·expand·After-slice-known12 t c) .restrict2 .kept .1 .1 .1 .0 ∙ (restrict·expand·After-slice-known12 t c) .restrict .kept .1 .1 .1 .0
+
+expand-same-length-6 : (t : ℕ) → expand-lts.Need-same-length-6 (expand-claims t) (expand-at t) expand.Post
+expand-same-length-6 t c = (join·expand·After-slice-known12 t c) .join .kept .1 .1 .0 ∙ (restrict2·expand·After-slice-known12 t c) .restrict2 .kept .1 .1 .1 .1 .0 ∙ (restrict·expand·After-slice-known12 t c) .restrict .kept .1 .1 .1 .1 .0
+
+expand-same-length-7 : (t : ℕ) → expand-lts.Need-same-length-7 (expand-claims t) (expand-at t) expand.Post
+expand-same-length-7 t c = (join·expand·After-slice-known12 t c) .join .kept .1 .1 .1 .0 ∙ (restrict2·expand·After-slice-known12 t c) .restrict2 .kept .1 .1 .1 .1 .1 .0 ∙ (restrict·expand·After-slice-known12 t c) .restrict .kept .1 .1 .1 .1 .1 .0
+
+expand-returns-3 : (t : ℕ) → expand-lts.Need-returns-3 (expand-claims t) (expand-at t) expand.Post
+expand-returns-3 t c =
+    let a = (start·expand·After-slice-known12 t c) .args in
+    let p = (start·expand·After-slice-known12 t c) .pre in
+    step-joined (a .call) _ _ (a .level) (a .store) (a .nodes .now) (a .lookup .now) (a .cache .now)
+    (split-item (a .call) (a .store .count) (a .nodes .now) (a .level) (p .1 .1 .0 .2) (p .1 .1 .0 .0) (p .1 .1 .0 .1) (p .1 .1 .0 .3) (p .1 .1 .0 .4) (a .lookup .now) (p .1 .1 .1 .0) (p .1 .1 .1 .2) (sides-two ((p0·expand·After-slice-known12 t c) .p0 .given .1) ((sides-at·expand·After-slice-known12 t c) .sides-at .ensures)))
+    ((restrict·expand·After-slice-known12 t c) .restrict .ensures) _ ((answer·expand·After-slice-known12 t c) .answer .given .1) ((restrict2·expand·After-slice-known12 t c) .restrict2 .ensures) ((join·expand·After-slice-known12 t c) .join .ensures)
+
+restrict-above-top-requires : (t : ℕ) → restrict-lts.Need-above-top-requires (restrict-claims t) (restrict-at t) restrict.Post
+restrict-above-top-requires t c κs =
+    let p = (start·restrict·After-above-top-arg2 t c) .pre in
+    (p .1 .0, (p .1 .1 .0, omega (arith, p .1 .1 .1 .0, (c .before .before) .if1 .taken)))
+
+restrict-same-length : (t : ℕ) → restrict-lts.Need-same-length (restrict-claims t) (restrict-at t) restrict.Post
+restrict-same-length t c = search needs
+
+restrict-same-length-2 : (t : ℕ) → restrict-lts.Need-same-length-2 (restrict-claims t) (restrict-at t) restrict.Post
+restrict-same-length-2 t c = search needs
+
+restrict-returns : (t : ℕ) → restrict-lts.Need-returns (restrict-claims t) (restrict-at t) restrict.Post
+restrict-returns t c =
+    let a = (start·restrict·After-slice-known5 t c) .args in
+    plain-ran (of (a .call)) (a .store) (a .nodes .now) (a .lookup .now) (a .cache .now) ((above-top·restrict·After-slice-known5 t c) .above-top .ensures)
+
+restrict-at-top-requires : (t : ℕ) → restrict-lts.Need-at-top-requires (restrict-claims t) (restrict-at t) restrict.Post
+restrict-at-top-requires t c κs =
+    let p = (start·restrict·After-at-top-arg2 t c) .pre in
+    (p .1 .0, (p .1 .1 .0, omega (arith, p .1 .1 .1 .0, (c .before .before) .if2 .taken)))
+
+restrict-same-length-3 : (t : ℕ) → restrict-lts.Need-same-length-3 (restrict-claims t) (restrict-at t) restrict.Post
+restrict-same-length-3 t c = search needs
+
+restrict-same-length-4 : (t : ℕ) → restrict-lts.Need-same-length-4 (restrict-claims t) (restrict-at t) restrict.Post
+restrict-same-length-4 t c = search needs
+
+restrict-returns-2 : (t : ℕ) → restrict-lts.Need-returns-2 (restrict-claims t) (restrict-at t) restrict.Post
+restrict-returns-2 t c =
+    let a = (start·restrict·After-slice-known7 t c) .args in
+    plain-ran (of (a .call)) (a .store) (a .nodes .now) (a .lookup .now) (a .cache .now) ((at-top·restrict·After-slice-known7 t c) .at-top .ensures)
+
+restrict-recall-requires : (t : ℕ) → restrict-lts.Need-recall-requires (restrict-claims t) (restrict-at t) restrict.Post
+restrict-recall-requires t c κs =
+    let p = (start·restrict·After-recall-arg t c) .pre in
+    omega (arith, p .1 .0 .within, p .1 .0 .small)
+
+restrict-enum-known-handle : (t : ℕ) → restrict-lts.Need-enum-known-handle (restrict-claims t) (restrict-at t) restrict.Post
+restrict-enum-known-handle t c = search needs
+
+restrict-placed-requires : (t : ℕ) → restrict-lts.Need-placed-requires (restrict-claims t) (restrict-at t) restrict.Post
+restrict-placed-requires t c κs = search needs
+
+restrict-same-length-5 : (t : ℕ) → restrict-lts.Need-same-length-5 (restrict-claims t) (restrict-at t) restrict.Post
+restrict-same-length-5 t c = search needs
+
+restrict-returns-3 : (t : ℕ) → restrict-lts.Need-returns-3 (restrict-claims t) (restrict-at t) restrict.Post
+restrict-returns-3 t c =
+    let a = (start·restrict·After-placed t c) .args in
+    let p = (start·restrict·After-placed t c) .pre in
+    ran-recalled (a .store) (a .nodes .now) (a .lookup .now) (a .cache .now) (p .1 .0) (a .call) (c .placed .result) (c .placed .ensures .0) _ (c .placed .ensures .1)
+    (p .1 .1 .0 .0) ((c .before .before) .handle .given .1) ((recall·restrict·After-placed t c) .recall .ensures)
+
+restrict-enum-told : (t : ℕ) → restrict-lts.Need-enum-told (restrict-claims t) (restrict-at t) restrict.Post
+restrict-enum-told t c = search needs
+
+restrict-expand-requires : (t : ℕ) → restrict-lts.Need-expand-requires (restrict-claims t) (restrict-at t) restrict.Post
+restrict-expand-requires t c κs =
+    let p = (start·restrict·After-expand-arg3 t c) .pre in
+    (omega (arith, p .0), (p .1 .0, (p .1 .1 .0, (p .1 .1 .1 .0, p .1 .1 .1 .1, omega (arith, (if1·restrict·After-expand-arg3 t c) .if1 .left, (if2·restrict·After-expand-arg3 t c) .if2 .left)))))
+
+restrict-same-length-6 : (t : ℕ) → restrict-lts.Need-same-length-6 (restrict-claims t) (restrict-at t) restrict.Post
+restrict-same-length-6 t c = search needs
+
+restrict-same-length-7 : (t : ℕ) → restrict-lts.Need-same-length-7 (restrict-claims t) (restrict-at t) restrict.Post
+restrict-same-length-7 t c = search needs
+
+restrict-same-length-8 : (t : ℕ) → restrict-lts.Need-same-length-8 (restrict-claims t) (restrict-at t) restrict.Post
+restrict-same-length-8 t c = search needs
+
+restrict-returns-4 : (t : ℕ) → restrict-lts.Need-returns-4 (restrict-claims t) (restrict-at t) restrict.Post
+restrict-returns-4 t c = (expand·restrict·After-slice-known10 t c) .expand .ensures
+
+pub +expand+restrict-spec : {M : Type 1} → statement M
++expand+restrict-spec = close μ-expand μ-restrict (λ t. expand-lts.spec (expand-claims t)
+    (expand-at t)
+    expand.Post
+    (expand-sides-at-requires t)
+    (expand-enum-told t)
+    (expand-refused-requires t)
+    (expand-enum-known-p0 t)
+    (expand-restrict-requires t)
+    (expand-enum-known-answer t)
+    (expand-enum-told-2 t)
+    (expand-same-length t)
+    (expand-same-length-2 t)
+    (expand-same-length-3 t)
+    (expand-returns t)
+    (expand-restrict-requires-2 t)
+    (expand-join-requires t)
+    (expand-same-length-4 t)
+    (expand-returns-2 t)
+    (expand-same-length-5 t)
+    (expand-same-length-6 t)
+    (expand-same-length-7 t)
+    (expand-returns-3 t))
+    λ t. restrict-lts.spec (restrict-claims t)
+    (restrict-at t)
+    restrict.Post
+    (restrict-above-top-requires t)
+    (restrict-same-length t)
+    (restrict-same-length-2 t)
+    (restrict-returns t)
+    (restrict-at-top-requires t)
+    (restrict-same-length-3 t)
+    (restrict-same-length-4 t)
+    (restrict-returns-2 t)
+    (restrict-recall-requires t)
+    (restrict-enum-known-handle t)
+    (restrict-placed-requires t)
+    (restrict-same-length-5 t)
+    (restrict-returns-3 t)
+    (restrict-enum-told t)
+    (restrict-expand-requires t)
+    (restrict-same-length-6 t)
+    (restrict-same-length-7 t)
+    (restrict-same-length-8 t)
+    (restrict-returns-4 t)

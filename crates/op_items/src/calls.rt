@@ -1,0 +1,85 @@
+// Subset1, Subset0 and Change: what refuses them, the recursion, and the end of the call.
+ghost use Prim.Native.Nat.{_≤_};
+ghost use Rattle.op_promise.specs.Promise.{OperationCall};
+use op_cache::Call;
+use crate::recursion::restrict;
+use op_promise::Test;
+use op_promise::tested;
+use store_undo::finish;
+use store::node::top_of;
+use store::record::Placed;
+use store::record::Refusal;
+use store::record::Store;
+
+// An operation on a family and an item.
+fn of_item(
+    op: u32,
+    store: Store,
+    nodes: &mut [u32],
+    lookup: &mut [u32],
+    cache: &mut [u32],
+    p: u32,
+    item: u32,
+) -> Placed
+    requires { ⌜ (1 ≤ op) × (op ≤ 3) ⌝ }
+    ensures { λ r. ⌜ OperationCall op p item store (now (nodes .entry)) (now (lookup .entry)) (now (cache .entry)) r (now (nodes .exit)) (now (lookup .exit)) (now (cache .exit)) ⌝ }
+{
+    let found = tested(op, store, nodes.len(), lookup.len(), p, item);
+    if let Test::Refuses(refusal) = found {
+        return store.refused(refusal);
+    }
+    let count = store.count;
+    let level = top_of(nodes, count, p);
+    if 512 < level {
+        return store.refused(Refusal::Damaged);
+    }
+    let call = Call {
+        op: op,
+        p: p,
+        q: item,
+    };
+    let placed = restrict(call, level, store, nodes, lookup, cache);
+    finish(placed, count, nodes, lookup, cache)
+}
+
+// The members of p with the item, the item taken out.
+pub fn subset1(
+    store: Store,
+    nodes: &mut [u32],
+    lookup: &mut [u32],
+    cache: &mut [u32],
+    p: u32,
+    item: u32,
+) -> Placed
+    ensures { λ r. ⌜ OperationCall 1 p item store (now (nodes .entry)) (now (lookup .entry)) (now (cache .entry)) r (now (nodes .exit)) (now (lookup .exit)) (now (cache .exit)) ⌝ }
+{
+    of_item(1, store, nodes, lookup, cache, p, item)
+}
+
+// The members of p without the item.
+pub fn subset0(
+    store: Store,
+    nodes: &mut [u32],
+    lookup: &mut [u32],
+    cache: &mut [u32],
+    p: u32,
+    item: u32,
+) -> Placed
+    ensures { λ r. ⌜ OperationCall 2 p item store (now (nodes .entry)) (now (lookup .entry)) (now (cache .entry)) r (now (nodes .exit)) (now (lookup .exit)) (now (cache .exit)) ⌝ }
+{
+    of_item(2, store, nodes, lookup, cache, p, item)
+}
+
+// The members of p with the item put in where absent and taken out where present.
+pub fn change(
+    store: Store,
+    nodes: &mut [u32],
+    lookup: &mut [u32],
+    cache: &mut [u32],
+    p: u32,
+    item: u32,
+) -> Placed
+    ensures { λ r. ⌜ OperationCall 3 p item store (now (nodes .entry)) (now (lookup .entry)) (now (cache .entry)) r (now (nodes .exit)) (now (lookup .exit)) (now (cache .exit)) ⌝ }
+{
+    of_item(3, store, nodes, lookup, cache, p, item)
+}

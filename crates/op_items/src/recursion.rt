@@ -1,0 +1,88 @@
+// Subset1 (1), Subset0 (2) and Change (3): the recursion on the two sides; the top item falls at each call.
+ghost use mathlib.Core.Path.{_≡_};
+ghost use Prim.Native.Nat.{_+_, _<_, _≤_};
+ghost use Rattle.store.specs.Words.{itemLimit, topAt};
+ghost use Rattle.store.specs.Cache.{named};
+ghost use Rattle.store.specs.Inner.{Roomy, Ran};
+use op_cache::Call;
+use op_cache::Recalled;
+use op_cache::recall;
+use op_step::join;
+use store::node::Sides;
+use store::node::sides_at;
+use store::record::PlaceAnswer;
+use store::record::Placed;
+use store::record::Refusal;
+use store::record::Store;
+use crate::terminal::above_top;
+use crate::terminal::at_top;
+
+// The operation on a family whose top is the level: above and at the top at once, else the cache, then the two sides.
+pub fn restrict(
+    call: Call,
+    level: u32,
+    store: Store,
+    nodes: &mut [u32],
+    lookup: &mut [u32],
+    cache: &mut [u32],
+) -> Placed
+    requires { ⌜ Roomy store (now nodes) (now lookup) ⌝ }
+    requires { ⌜ (1 ≤ call .op) × (call .op ≤ 3) × (call .p ≤ store .count + 1) × (1 ≤ call .q) × (call .q ≤ itemLimit) ⌝ }
+    requires { ⌜ (level ≡ topAt (now nodes) (call .p)) × (level ≤ itemLimit) ⌝ }
+    ensures { λ r. ⌜ Ran (λ B. named (call .op) B (call .p) (call .q)) store (now (nodes .entry)) (now (lookup .entry)) (now (cache .entry)) r (now (nodes .exit)) (now (lookup .exit)) (now (cache .exit)) ⌝ }
+{
+    if level < call.q {
+        return above_top(call, store, nodes, lookup);
+    }
+    if level == call.q {
+        return at_top(call, store, nodes, lookup);
+    }
+    if let Recalled::Hit(handle) = recall(cache, store.count, call) {
+        return store.placed(handle);
+    }
+    expand(call, level, store, nodes, lookup, cache)
+}
+
+// The same by its two sides, and the node of the two results.
+fn expand(
+    call: Call,
+    level: u32,
+    store: Store,
+    nodes: &mut [u32],
+    lookup: &mut [u32],
+    cache: &mut [u32],
+) -> Placed
+    requires { ⌜ Roomy store (now nodes) (now lookup) ⌝ }
+    requires { ⌜ (1 ≤ call .op) × (call .op ≤ 3) × (call .p ≤ store .count + 1) × (1 ≤ call .q) × (call .q ≤ itemLimit) ⌝ }
+    requires { ⌜ (level ≡ topAt (now nodes) (call .p)) × (level ≤ itemLimit) × (call .q < level) ⌝ }
+    ensures { λ r. ⌜ Ran (λ B. named (call .op) B (call .p) (call .q)) store (now (nodes .entry)) (now (lookup .entry)) (now (cache .entry)) r (now (nodes .exit)) (now (lookup .exit)) (now (cache .exit)) ⌝ }
+{
+    match sides_at(nodes, store.count, call.p, level) {
+        Sides::Broken => store.refused(Refusal::Damaged),
+        Sides::Two {
+            zero: p0,
+            one: p1,
+            ztop: top0,
+            otop: top1,
+        } => {
+            let below = Call {
+                op: call.op,
+                p: p0,
+                q: call.q,
+            };
+            let first = restrict(below, top0, store, nodes, lookup, cache);
+            let answer = first.answer;
+            let PlaceAnswer::Handle(zero) = answer else {
+                return first;
+            };
+            let after = first.store;
+            let above = Call {
+                op: call.op,
+                p: p1,
+                q: call.q,
+            };
+            let second = restrict(above, top1, after, nodes, lookup, cache);
+            join(second, nodes, lookup, cache, call, level, zero)
+        }
+    }
+}

@@ -1,0 +1,56 @@
+// Subset1 (1), Subset0 (2) and Change (3): an item above the top, and the top itself.
+ghost use mathlib.Core.Path.{_≡_};
+ghost use Prim.Native.Nat.{_+_, _<_, _≤_};
+ghost use Rattle.store.specs.Words.{itemLimit, topAt};
+ghost use Rattle.store.specs.Cache.{named};
+ghost use Rattle.store.specs.Inner.{Roomy};
+ghost use Rattle.op_cache.specs.Inner.{RanPlain};
+use op_cache::Call;
+use store_node::getnode::get_node;
+use store::node::Sides;
+use store::node::sides_at;
+use store::record::Placed;
+use store::record::Refusal;
+use store::record::Store;
+
+// An item above the top of p: no member holds it.
+pub fn above_top(call: Call, store: Store, nodes: &mut [u32], lookup: &mut [u32]) -> Placed
+    requires { ⌜ Roomy store (now nodes) (now lookup) ⌝ }
+    requires { ⌜ (1 ≤ call .op) × (call .op ≤ 3) × (call .p ≤ store .count + 1) × (1 ≤ call .q) × (call .q ≤ itemLimit) ⌝ }
+    requires { ⌜ topAt (now nodes) (call .p) < call .q ⌝ }
+    ensures { λ r. ⌜ RanPlain (λ B. named (call .op) B (call .p) (call .q)) store (now (nodes .entry)) (now (lookup .entry)) r (now (nodes .exit)) (now (lookup .exit)) ⌝ }
+{
+    if call.op == 1 {
+        return store.placed(0);
+    }
+    if call.op == 2 {
+        return store.placed(call.p);
+    }
+    get_node(store, nodes, lookup, call.q, 0, call.p)
+}
+
+// The top of p itself: its two sides are at hand.
+pub fn at_top(call: Call, store: Store, nodes: &mut [u32], lookup: &mut [u32]) -> Placed
+    requires { ⌜ Roomy store (now nodes) (now lookup) ⌝ }
+    requires { ⌜ (1 ≤ call .op) × (call .op ≤ 3) × (call .p ≤ store .count + 1) × (1 ≤ call .q) × (call .q ≤ itemLimit) ⌝ }
+    requires { ⌜ topAt (now nodes) (call .p) ≡ call .q ⌝ }
+    ensures { λ r. ⌜ RanPlain (λ B. named (call .op) B (call .p) (call .q)) store (now (nodes .entry)) (now (lookup .entry)) r (now (nodes .exit)) (now (lookup .exit)) ⌝ }
+{
+    match sides_at(nodes, store.count, call.p, call.q) {
+        Sides::Broken => store.refused(Refusal::Damaged),
+        Sides::Two {
+            zero,
+            one,
+            ztop: _,
+            otop: _,
+        } => {
+            if call.op == 1 {
+                return store.placed(one);
+            }
+            if call.op == 2 {
+                return store.placed(zero);
+            }
+            get_node(store, nodes, lookup, call.q, one, zero)
+        }
+    }
+}

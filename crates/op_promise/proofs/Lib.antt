@@ -1,0 +1,2 @@
+-- The laws of `op_promise`.
+pub mod Refusing

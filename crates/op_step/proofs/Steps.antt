@@ -1,0 +1,149 @@
+-- One step of the recursion, the same for every operation: the family is the node of two families that the same operation names below, so placing the two and then the node places it.
+-- A refusal on the way stands, since no book on the way is longer than the last; the cache stays true, since every book on the way only grew.
+use Prim.Native.Nat.{ℕ, _+_, _*_, _/_, _≤_, _<_}
+use mathlib.Core.Path.{_≡_, refl, sym, ap, _∙_}
+use mathlib.Core.List.{List}
+use native.Mathlib.Omega.{arith}
+use lib.ListN.{length, getD}
+use Rattle.family.specs.Family.{Family, top, mk}
+use Rattle.family.specs.Book.{at, place, made, Grown}
+use Rattle.family.proofs.Books.{grown-at, grown-length}
+use Rattle.family.proofs.Placing.{place-grown, place-mk, made-grown, room-first, room-second}
+use Rattle.store.specs.declared.record.Store.{Store}
+use Rattle.store.specs.declared.record.Refusal.{Refusal}
+use Rattle.store.specs.declared.record.PlaceAnswer.{PlaceAnswer}
+use Rattle.store.specs.declared.record.PlaceAnswer.the-variants.{Handle, Refused}
+use Rattle.store.specs.declared.record.Placed.{Placed}
+use Rattle.store.specs.Words.{itemLimit}
+use Rattle.store.specs.Cache.{named, Takes, Truth, True}
+use Rattle.store.specs.Inner.{Holds, Handed, Answer, Kept, NodeIt, Ran}
+use Rattle.store.proofs.Held.{inside}
+use Rattle.store.proofs.Growing.{kept-trans}
+use Rattle.store.proofs.Endings.{not-both, handed-of, refused-on}
+use Rattle.store.proofs.Calls.{by-answer}
+use Rattle.op_cache.specs.declared.Call.{Call}
+use Rattle.op_step.specs.Inner.{RememberedAnswer, Joined}
+use Rattle.op_cache.proofs.Naming.{named-grown}
+use Rattle.op_cache.proofs.Remembering.{true-grown, true-remembered}
+
+-- the family that a call names in a book
+abbrev pub of : Call → List Family → Family
+of call B = named (call .op) B (call .p) (call .q)
+
+-- operands that the call takes
+pub record Taken (call : Call) (n : ℕ) : Type 0 where
+  pub operation : (1 ≤ call .op) × (call .op ≤ 6)
+  pub first : call .p < n + 2
+  pub second : (call .op < 4 → (1 ≤ call .q) × (call .q ≤ itemLimit)) × (4 ≤ call .op → call .q < n + 2)
+
+-- a call by its two calls below a level
+pub record Split (call below above : Call) (level : ℕ) (n : ℕ) (nodes lookup : List ℕ) : Type 0 where
+  pub taken : Taken call n
+  pub other : Taken above n
+  pub is : (B : List Family) → Holds B n nodes lookup → of call B ≡ mk level (of below B) (of above B)
+  pub low : (B : List Family) → Holds B n nodes lookup → top (of below B) < level
+  pub high : (B : List Family) → Holds B n nodes lookup → top (of above B) < level
+
+of-grown : {B C : List Family} {n : ℕ} {nodes lookup : List ℕ} (call : Call) → Taken call n → Holds B n nodes lookup → Grown B C → of call C ≡ of call B
+of-grown call t H g = named-grown g (call .op) (call .p) (call .q) (inside H (call .p) (t .first)) (λ l. inside H (call .q) (t .second .1 l))
+
+-- the cache's word for a call whose result was handed over
+truth-of : {B : List Family} {n m h : ℕ} {nodes lookup nodes′ lookup′ : List ℕ} (call : Call) → Taken call n → Holds B n nodes lookup → Handed (place B (of call B)) (of call B) h m nodes′ lookup′
+    → Truth (place B (of call B)) (call .op) (call .p) (call .q) h
+truth-of {B} {h = h} call t H G =
+    let g = place-grown B (of call B) in
+    let l = grown-length g in
+    record {
+      operation = t .operation;
+      first = omega (arith, inside H (call .p) (t .first));
+      second = (λ m. t .second .0 m, λ m. omega (arith, inside H (call .q) (t .second .1 m)));
+      result = inside (G .holds) h (G .within);
+      means = G .means ∙ sym (of-grown call t H g);
+    }
+
+module _ (call below above : Call) (level : ℕ) (s : Store) (nodes lookup cache : List ℕ) (K : Split call below above level (s .count) nodes lookup)
+    {m₁ : Placed} {nodes₁ lookup₁ cache₁ : List ℕ} (R : Ran (of below) s nodes lookup cache m₁ nodes₁ lookup₁ cache₁) where
+  -- the first result refused
+  pub step-first : (x : Refusal) → m₁ .answer ≡ Refused x → Ran (of call) s nodes lookup cache m₁ nodes₁ lookup₁ cache₁
+  step-first x e =
+      record {
+        kept = R .kept;
+        handle = R .handle;
+        long-cache = R .long-cache;
+        rest = R .rest;
+        sound = λ B H t. refused-on x e (rw (K .is B H) (room-first B level (of below B) (of above B))) (R .sound B H t);
+        cached = λ B H t h d. not-both h x d e;
+      }
+
+  module _ (z : ℕ) (ez : m₁ .answer ≡ Handle z) {m₂ : Placed} {nodes₂ lookup₂ cache₂ : List ℕ} (S : Ran (of above) (m₁ .store) nodes₁ lookup₁ cache₁ m₂ nodes₂ lookup₂ cache₂) where
+    module _ {B : List Family} (H : Holds B (s .count) nodes lookup) (t : True B cache) where
+      given : Handed (place B (of below B)) (of below B) z (m₁ .store .count) nodes₁ lookup₁
+      given = handed-of ez (R .sound B H t)
+
+      same : of above (place B (of below B)) ≡ of above B
+      same = of-grown above (K .other) H (place-grown B (of below B))
+
+      second : Answer (place (place B (of below B)) (of above B)) (of above B) (s .capacity) (m₂ .store .count) nodes₂ lookup₂ (m₂ .answer)
+      second = rw (same, R .kept .same-capacity) at (S .sound (place B (of below B)) (given .holds) (R .cached B H t z ez))
+
+      second-cache : (o : ℕ) → m₂ .answer ≡ Handle o → True (place (place B (of below B)) (of above B)) cache₂
+      second-cache o e = rw same at (S .cached (place B (of below B)) (given .holds) (R .cached B H t z ez) o e)
+
+      -- the zero side, in the book after both
+      still : at (place (place B (of below B)) (of above B)) z ≡ of below B
+      still = grown-at (place-grown (place B (of below B)) (of above B)) z (inside (given .holds) z (given .within)) ∙ given .means
+
+      whole : place B (of call B) ≡ made (place (place B (of below B)) (of above B)) level (of below B) (of above B)
+      whole = ap (λ F. place B F) (K .is B H) ∙ place-mk B level (of below B) (of above B)
+
+      whole-grown : Grown (place (place B (of below B)) (of above B)) (place B (of call B))
+      whole-grown = rw whole (made-grown (place (place B (of below B)) (of above B)) level (of below B) (of above B))
+
+    chained : Kept s nodes lookup (m₂ .store) nodes₂ lookup₂
+    chained = kept-trans (R .kept) (S .kept)
+
+    -- the second result refused
+    step-second : (x : Refusal) → m₂ .answer ≡ Refused x → Ran (of call) s nodes lookup cache m₂ nodes₂ lookup₂ cache₂
+    step-second x e =
+        record {
+          kept = chained;
+          handle = S .handle;
+          long-cache = S .long-cache ∙ R .long-cache;
+          rest = λ k l. S .rest k (rw (R .long-cache) l) ∙ R .rest k l;
+          sound = λ B H t. refused-on x e (rw (K .is B H) (room-second B level (of below B) (of above B))) (second H t);
+          cached = λ B H t h d. not-both h x d e;
+        }
+
+    -- both given: the node
+    module _ (o : ℕ) (eo : m₂ .answer ≡ Handle o) {r : Placed} {nodes₃ lookup₃ cache₃ : List ℕ} (N : NodeIt (m₂ .store) nodes₂ lookup₂ level z o r nodes₃ lookup₃)
+        (M : RememberedAnswer cache₂ call (r .answer) cache₃) where
+      third : {B : List Family} → Holds B (s .count) nodes lookup → True B cache → Answer (place B (of call B)) (of call B) (s .capacity) (r .store .count) nodes₃ lookup₃ (r .answer)
+      third {B} H t =
+          let G = handed-of eo (second H t) in
+          let ea : at (place (place B (of below B)) (of above B)) z ≡ of below B = still H t in
+          let A = N .sound (place (place B (of below B)) (of above B)) (G .holds) (omega (arith, ap top ea, K .low B H)) (omega (arith, ap top (G .means), K .high B H)) in
+          rw (whole H t, K .is B H) (rw (ea, G .means, S .kept .same-capacity ∙ R .kept .same-capacity) at A)
+
+      step-done : Ran (of call) s nodes lookup cache r nodes₃ lookup₃ cache₃
+      step-done =
+          record {
+            kept = kept-trans chained (N .kept);
+            handle = N .handle;
+            long-cache = lasts (r .answer) M ∙ S .long-cache ∙ R .long-cache;
+            rest = λ k l. stays k (rw (S .long-cache ∙ R .long-cache) l) ∙ S .rest k (rw (R .long-cache) l) ∙ R .rest k l;
+            sound = λ B H t. third H t;
+            cached = λ B H t h e. true-remembered (true-grown (whole-grown H t) (second-cache H t o eo)) (truth-of call (K .taken) H (handed-of e (third H t))) (M .gave h e);
+          }
+        where
+          lasts : (a : PlaceAnswer) → RememberedAnswer cache₂ call a cache₃ → length cache₃ ≡ length cache₂
+          lasts (Handle h) M = M .gave h refl .long
+          lasts (Refused x) M = ap length (M .refused x refl)
+
+          stays : (k : ℕ) → length cache₂ / 4 * 4 ≤ k → getD cache₃ k 0 ≡ getD cache₂ k 0
+          stays k l = by-answer (r .answer) (λ h e. M .gave h e .rest k l) (λ x e. ap (λ X. getD X k 0) (M .refused x e))
+
+    pub step-joined : {r : Placed} {nodes₃ lookup₃ cache₃ : List ℕ} → Joined m₂ nodes₂ lookup₂ cache₂ call level z r nodes₃ lookup₃ cache₃ → Ran (of call) s nodes lookup cache r nodes₃ lookup₃ cache₃
+    step-joined J =
+        by-answer (m₂ .answer)
+        (λ o e. step-done o e (J .made o e) (J .remembered o e))
+        (λ x e. let q = J .passed x e in rw (q .0, q .1, q .2, q .3) (step-second x e))

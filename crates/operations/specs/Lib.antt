@@ -1,3 +1,0 @@
--- What the contracts of `operations` cite.
-pub mod Promise
-pub mod Tests

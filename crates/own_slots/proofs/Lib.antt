@@ -1,2 +1,0 @@
--- The laws of `own_slots`.
-pub mod OwnSlots

@@ -1,2 +1,0 @@
--- What the contracts of `own_slots` cite.
-pub mod Own

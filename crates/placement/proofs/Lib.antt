@@ -1,2 +1,0 @@
--- The laws of `placement`.
-pub mod Placements

@@ -1,2 +1,0 @@
--- What the contracts of `placement` cite.
-pub mod Placement

@@ -1,0 +1,3 @@
+-- The laws of `query_has`.
+pub mod Descending
+pub mod Asking

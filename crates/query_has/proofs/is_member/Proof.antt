@@ -1,0 +1,106 @@
+-- `is_member` goes one way down; on that way the rest is a member exactly when the combination is one of p.
+-- The measure is what is left of 512 steps.
+use borrow.Author.Needs.{needs}
+use Prim.Native.Nat.{ℕ, _+_, _*_, _-_, _≤_, _<_}
+use mathlib.Core.Path.{_≡_, refl, sym, ap, _∙_}
+use native.Mathlib.Omega.{arith}
+use Rattle.family.specs.Combination.{itemsOf}
+use Rattle.family.proofs.Words.{items-combined}
+use Rattle.query_has.proofs.Descending.{Along, along-start, along-ends, along-outside, along-end, along-step}
+use Rattle.query_has.proofs.is_member.Statement.{statement}
+use Rattle.query_has.proofs.is_member.Tie as tie
+
+abbrev Inv-loop : tie.InvT-loop
+Inv-loop nodes count p way₀ left₀ way left = Along nodes count p (itemsOf (way₀ .rest .words)) (way .at) (itemsOf (way .rest .words)) left
+
+abbrev μ-loop : tie.MeasureT-loop
+μ-loop nodes count p way₀ left₀ way left = left
+
+abbrev start·Else2 : tie.Else2 Inv-loop μ-loop → tie.Start Inv-loop μ-loop
+start·Else2 c = c .before .before .before .before
+
+abbrev start·Else3 : tie.Else3 Inv-loop μ-loop → tie.Start Inv-loop μ-loop
+start·Else3 c = c .before .before .before .before .before
+
+abbrev start·After-step : tie.After-step Inv-loop μ-loop → tie.Start Inv-loop μ-loop
+start·After-step c = c .before .before .before .before .before .before
+
+abbrev loop·After-step : tie.After-step Inv-loop μ-loop → tie.At-loop Inv-loop μ-loop
+loop·After-step c = c .before .before .before .before
+
+abbrev start·After-ends : tie.After-ends Inv-loop μ-loop → tie.Start Inv-loop μ-loop
+start·After-ends c = c .before .before .before .before
+
+abbrev start·Then2 : tie.Then2 Inv-loop μ-loop → tie.Start Inv-loop μ-loop
+start·Then2 c = c .before .before .before .before
+
+abbrev start·Then3 : tie.Then3 Inv-loop μ-loop → tie.Start Inv-loop μ-loop
+start·Then3 c = c .before .before .before .before .before
+
+loop-holds : tie.Need-loop-holds Inv-loop μ-loop
+loop-holds c = along-start ((c .before) .args .nodes .now) ((c .before) .args .count) ((c .before) .args .p) _ ((c .before) .pre .0)
+
+ends-requires : tie.Need-ends-requires Inv-loop μ-loop
+ends-requires c κs = search needs
+
+add-if3 : tie.Need-add-if3 Inv-loop μ-loop
+add-if3 c = omega (arith, (start·Else2 c) .pre .2)
+
+cast-step : tie.Need-cast-step Inv-loop μ-loop
+cast-step c = omega (arith, (start·Else3 c) .pre .2, c .if3 .left)
+
+mul-step : tie.Need-mul-step Inv-loop μ-loop
+mul-step c = omega (arith, (start·Else3 c) .pre .2, c .if3 .left)
+
+step-requires : tie.Need-step-requires Inv-loop μ-loop
+step-requires c κs = omega (arith, (start·Else3 c) .pre .1, (start·Else3 c) .pre .2, (c .before .before) .if1 .left, c .if3 .left)
+
+sub-left : tie.Need-sub-left Inv-loop μ-loop
+sub-left c = omega (arith, (c .before .before) .if2 .left)
+
+loop-less : tie.Need-loop-less Inv-loop μ-loop
+loop-less c = omega (arith, (c .before .before) .if2 .left)
+
+loop-again : tie.Need-loop-again Inv-loop μ-loop
+loop-again c =
+    let a = (start·After-step c) .args in
+    let l = (loop·After-step c) .loop in
+    along-step (a .nodes .now) (a .count) (a .p) _ (l .way .at) (itemsOf (l .way .rest .words)) (l .left) (l .inv) (omega (arith, (c .before .before .before) .if1 .left))
+    (items-combined (l .way .rest .words) .falling) _ _ (c .step .ensures)
+
+returns : tie.Need-returns Inv-loop μ-loop
+returns c =
+    let a = (start·After-ends c) .args in
+    let l = (c .before .before) .loop in
+    along-ends (a .nodes .now) (a .count) (a .p) _ (l .way .at) (itemsOf (l .way .rest .words)) (l .left) (l .inv) ((c .before) .if1 .taken) _ (c .ends .ensures)
+
+returns-2 : tie.Need-returns-2 Inv-loop μ-loop
+returns-2 c =
+    let a = (start·Then2 c) .args in
+    let l = (c .before .before) .loop in
+    along-end (a .nodes .now) (a .count) (a .p) _ (l .way .at) (itemsOf (l .way .rest .words)) (l .left) (l .inv) (omega (arith, (c .before) .if1 .left)) (c .if2 .taken)
+
+returns-3 : tie.Need-returns-3 Inv-loop μ-loop
+returns-3 c =
+    let a = (start·Then3 c) .args in
+    let l = (c .before .before .before) .loop in
+    along-outside (a .nodes .now) (a .count) (a .p) _ (l .way .at) (itemsOf (l .way .rest .words)) (l .left) (l .inv) (c .if3 .taken)
+
+pub is-member-spec : {M : Type 1} → statement M
+is-member-spec =
+    tie.close
+    (tie.spec
+    Inv-loop
+    μ-loop
+    loop-holds
+    ends-requires
+    add-if3
+    cast-step
+    mul-step
+    step-requires
+    sub-left
+    loop-less
+    loop-again
+    returns
+    returns-2
+    returns-3)

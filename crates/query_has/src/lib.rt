@@ -1,0 +1,112 @@
+// Has: whether a combination is a member.
+ghost use mathlib.Core.Path.{_≡_};
+ghost use mathlib.Core.Bool.{false};
+ghost use Prim.Native.Nat.{_+_, _*_, _≤_};
+ghost use lib.ListN.{length};
+ghost use Rattle.family.specs.Combination.{isNone, itemsOf};
+ghost use Rattle.query_has.specs.Promise.{HasCall};
+ghost use Rattle.query_has.specs.Inner.{Memberly, Stepped};
+use combination::Combination;
+use store::record::Refusal;
+use store::record::Store;
+
+// What Has answers.
+pub enum HasAnswer {
+    Yes,
+    No,
+    Refused(Refusal),
+}
+
+// What Has gives back.
+pub struct Asked {
+    pub store: Store,
+    pub answer: HasAnswer,
+}
+
+// A handle on the way down, and the items still to be met.
+pub struct Way {
+    pub at: u32,
+    pub rest: Combination,
+}
+
+// The way from the node whose words start at `base`: to its one child where the item is to be met, else to its zero child.
+fn step(nodes: &[u32], base: usize, rest: Combination) -> Way
+    requires { ⌜ base + 3 ≤ length (now nodes) ⌝ }
+    ensures { λ r. ⌜ Stepped (now (nodes .entry)) base (itemsOf (rest .words)) (r .at) (itemsOf (r .rest .words)) ⌝ }
+{
+    let item = nodes[base];
+    if rest.contains(item) {
+        return Way {
+            at: nodes[base + 2],
+            rest: rest.without(item),
+        };
+    }
+    Way {
+        at: nodes[base + 1],
+        rest: rest,
+    }
+}
+
+// Whether the end of a way is {{}} with no item left to be met.
+fn ends(at: u32, rest: Combination) -> bool
+    ensures { λ r. ⌜ (at ≡ 1 → r ≡ isNone (itemsOf (rest .words))) × ((at ≡ 1 → ⊥) → r ≡ false) ⌝ }
+{
+    if at != 1 {
+        return false;
+    }
+    rest.is_empty()
+}
+
+// Whether the combination is a member of p: one way down, at most 512 nodes.
+fn is_member(nodes: &[u32], count: u32, p: u32, combination: Combination) -> bool
+    requires { ⌜ (p ≤ count + 1) × (3 * count ≤ length (now nodes)) × (count ≤ 1000000) ⌝ }
+    ensures { λ r. ⌜ Memberly (now (nodes .entry)) count p (itemsOf (combination .words)) r ⌝ }
+{
+    let mut way = Way {
+        at: p,
+        rest: combination,
+    };
+    let mut left: u32 = 512;
+    loop {
+        let at = way.at;
+        if at < 2 {
+            break ends(at, way.rest);
+        }
+        if left == 0 {
+            break false;
+        }
+        if count + 1 < at {
+            break false;
+        }
+        way = step(nodes, 3 * (at - 2) as usize, way.rest);
+        left = left - 1;
+    }
+}
+
+// Whether the combination is a member of p.
+pub fn has(store: Store, nodes: &[u32], lookup: &[u32], p: u32, combination: Combination) -> Asked
+    ensures { λ r. ⌜ HasCall store (now (nodes .entry)) (now (lookup .entry)) p (itemsOf (combination .words)) r ⌝ }
+{
+    if !store.fits(nodes.len(), lookup.len()) {
+        return Asked {
+            store: store,
+            answer: HasAnswer::Refused(Refusal::Damaged),
+        };
+    }
+    if !store.holds(p) {
+        return Asked {
+            store: store,
+            answer: HasAnswer::Refused(Refusal::Handle),
+        };
+    }
+    if is_member(nodes, store.count, p, combination) {
+        return Asked {
+            store: store,
+            answer: HasAnswer::Yes,
+        };
+    }
+    Asked {
+        store: store,
+        answer: HasAnswer::No,
+    }
+}

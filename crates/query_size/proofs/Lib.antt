@@ -1,0 +1,2 @@
+-- The laws of `query_size`.
+pub mod Answering

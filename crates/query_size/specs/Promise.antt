@@ -1,0 +1,52 @@
+-- The promise of Size: document 01, 'Calls' and 'Numbers and trade words'.
+use Prim.Native.Nat.{ℕ, _-_}
+use mathlib.Core.Path.{_≡_}
+use mathlib.Core.Bool.{false, cond}
+use mathlib.Core.List.{List, [], _++_}
+use lib.Dec.{eqb, ltb}
+use lib.ListN.{length, drop}
+use Rattle.family.specs.Family.{Family, size}
+use Rattle.family.specs.Book.{at}
+use Rattle.store.specs.declared.record.Store.{Store}
+use Rattle.store.specs.declared.record.Refusal.the-variants.{Damaged}
+use Rattle.store.specs.Capacity.{fitting}
+use Rattle.store.specs.Refusals.{refusalNumber}
+use Rattle.store.specs.Scratch.{scratchTests}
+use Rattle.store.specs.Words.{bookOf}
+use Rattle.store.specs.Sound.{Sound}
+use Rattle.query_size.specs.declared.SizeAnswer.{SizeAnswer}
+use Rattle.query_size.specs.declared.SizeAnswer.the-variants.{Members, Refused}
+use Rattle.query_size.specs.declared.Measured.{Measured}
+use Rattle.query_sizes.specs.NodeSizes.{most, sizesOf}
+
+-- what Size gives besides the record: the refusal's number, 0 where there is none, and the size, 0 where it is refused
+pub record SizeGiven : Type 0 where
+  pub refusal : ℕ
+  pub size : ℕ
+
+abbrev pub sizeGivenBy : SizeAnswer → SizeGiven
+sizeGivenBy (Members n) = record { refusal = 0; size = n }
+sizeGivenBy (Refused r) = record { refusal = refusalNumber r; size = 0 }
+
+-- 4 and 7, "one 64-bit word per node held", then "6: size above 18,446,744,073,709,551,615"
+unfoldable pub sizeRefusal : List Family → ℕ → ℕ → ℕ
+sizeRefusal B p words = cond (eqb (scratchTests B p words) 0) (cond (ltb most (size (at B p))) 6 0) (scratchTests B p words)
+
+-- "Size gives the number of members", for the book that the store holds
+unfoldable pub sizeAnswer : List Family → ℕ → ℕ → SizeGiven
+sizeAnswer B p words = record { refusal = sizeRefusal B p words; size = cond (eqb (sizeRefusal B p words) 0) (size (at B p)) 0 }
+
+-- the scratch after Size: "After 6, Size has filled its scratch as on success"; after 4 and 7 it stays
+unfoldable pub sizeScratch : List Family → ℕ → List ℕ → List ℕ
+sizeScratch B p scratch = cond (eqb (scratchTests B p (length scratch)) 0) (sizesOf B ++ drop (length B - 2) scratch) scratch
+
+-- Size's promise. It changes no word but its scratch, and hands the record back as it came.
+pub record SizeCall (s : Store) (nodes lookup : List ℕ) (p : ℕ) (scratch : List ℕ) (r : Measured) (scratch′ : List ℕ) : Type 0 where
+  -- a certain 10
+  pub misfit : fitting (s .capacity) (s .count) (length nodes) (length lookup) ≡ false → (r .answer ≡ Refused Damaged) × (scratch′ ≡ scratch)
+  -- a sound store; no cache is lent
+  pub answer-is : Sound s nodes lookup [] → sizeGivenBy (r .answer) ≡ sizeAnswer (bookOf nodes (s .count)) p (length scratch)
+  pub scratch-is : Sound s nodes lookup [] → scratch′ ≡ sizeScratch (bookOf nodes (s .count)) p scratch
+  -- any store
+  pub store-is : r .store ≡ s
+  pub long : length scratch′ ≡ length scratch

@@ -1,0 +1,3 @@
+-- The laws of `query_sizes`.
+pub mod Summing
+pub mod Brims

@@ -1,0 +1,30 @@
+-- What the functions below Size promise each other. A reader of the promise can pass this page over.
+use Prim.Native.Nat.{ℕ, _+_, _-_, _≤_, _<_, min}
+use mathlib.Core.Path.{_≡_}
+use mathlib.Core.Bool.{Bool, cond}
+use mathlib.Core.List.{List}
+use lib.Dec.{ltb}
+use lib.ListN.{length, getD}
+use Rattle.family.specs.Family.{Family, size}
+use Rattle.family.specs.Book.{at}
+use Rattle.store.specs.Inner.{Holds}
+use Rattle.query_sizes.specs.NodeSizes.{most}
+
+-- the size of a handle by its word
+unfoldable pub sizeAt : List ℕ → ℕ → ℕ
+sizeAt sizes h = cond (ltb h 2) h (getD sizes (h - 2) 0)
+
+-- the words of the first j of n nodes are their sizes
+abbrev pub SizesTo : List ℕ → ℕ → ℕ → List ℕ → Type 0
+SizesTo nodes n j sizes = (B : List Family) (lookup : List ℕ) → Holds B n nodes lookup → (k : ℕ) → k < j → getD sizes k 0 ≡ min (size (at B (k + 2))) most
+
+-- the first j words are filled, the later ones as they were
+pub record Filled (nodes : List ℕ) (n j : ℕ) (sizes sizes′ : List ℕ) : Type 0 where
+  pub long : length sizes′ ≡ length sizes
+  pub rest : (k : ℕ) → j ≤ k → getD sizes′ k 0 ≡ getD sizes k 0
+  pub each : SizesTo nodes n j sizes′
+
+-- whether the size of p, whose word is 2^64 - 1, is above that
+pub record Exceeding (nodes sizes : List ℕ) (n p : ℕ) (r : Bool) : Type 0 where
+  pub is : (B : List Family) (lookup : List ℕ) → Holds B n nodes lookup → ((k : ℕ) → k < n → getD sizes k 0 ≡ min (size (at B (k + 2))) most) → most ≤ size (at B p)
+      → r ≡ ltb most (size (at B p))

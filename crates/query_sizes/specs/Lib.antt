@@ -1,0 +1,3 @@
+-- What the contracts of `query_sizes` cite.
+pub mod NodeSizes
+pub mod Inner

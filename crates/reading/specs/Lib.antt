@@ -1,3 +1,0 @@
--- What the contracts of `reading` cite.
-pub mod Records
-pub mod Inner

@@ -1,2 +1,0 @@
--- The laws of `record_reading`.
-pub mod Taking

@@ -1,2 +1,0 @@
--- What the contracts of `record_reading` cite.
-pub mod Reading

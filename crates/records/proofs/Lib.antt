@@ -1,2 +1,0 @@
--- The laws of reading and writing records.
-pub mod Laying

@@ -1,3 +1,0 @@
--- What the contracts of `report` cite.
-pub mod Ends
-pub mod Report

@@ -1,0 +1,3 @@
+-- The laws of `report_add`.
+pub mod Placings
+pub mod Makings

@@ -1,0 +1,115 @@
+-- A call that places, on a sound store: it leaves what the definition `placed` says of the book that the words hold.
+-- Its promise has two ways here, no room and placed; the words of the placed book mean that book.
+use Prim.Native.Nat.{ℕ, zero, suc, _+_, _-_, _≤_, _<_}
+use mathlib.Core.Path.{_≡_, refl, sym, ap, _∙_}
+use mathlib.Core.Bool.{Bool, true, false, cond, _&&_}
+use mathlib.Core.List.{List, [], _∷_}
+use native.Mathlib.Omega.{arith}
+use lib.Dec.{eqb, ltb, leb}
+use lib.ListN.{length}
+use borrow.Author.Tests.{lt-ltb, le-ltb, le-leb}
+use Rattle.words.proofs.Cases.{by-test, clash}
+use Rattle.family.specs.Family.{Family, Within}
+use Rattle.family.specs.Operation.{change, combine}
+use Rattle.family.specs.Book.{at, number, place, Held, Book}
+use Rattle.family.proofs.Books.{held-at}
+use Rattle.family.proofs.Placing.{book-place}
+use Rattle.family.proofs.Restrict.{within-change}
+use Rattle.family.proofs.Combine.{within-combine}
+use Rattle.store.specs.declared.record.Store.{Store}
+use Rattle.store.specs.declared.record.Placed.{Placed}
+use Rattle.store.specs.Refusals.{givenBy}
+use Rattle.store.specs.Words.{itemLimit, bookOf, nodesWith, lookupOf}
+use Rattle.store.specs.Cache.{restrict, rule, named}
+use Rattle.store.specs.Sound.{Sound}
+use Rattle.store.specs.Placing.{tooLarge, placeAnswer, placeBook}
+use Rattle.store.specs.Promise.{Left, leaves, placing, PlaceCall}
+use Rattle.store.proofs.Decoding.{sound-holds}
+use Rattle.store.proofs.Recovering.{book-of-words}
+use Rattle.op_promise.specs.Promise.{isItem, operationRefusal, OperationCall}
+use Rattle.report_add.specs.Promise.{Added, placed, answerOf, After}
+
+-- the two ways that a call has which nothing refuses before it places
+module _ (F : Family) (s : Store) (nodes lookup : List ℕ) where
+  way-full : tooLarge (s .capacity) (bookOf nodes (s .count)) F ≡ true
+      → placing 0 F s nodes lookup ≡ record { given = record { refusal = 5; handle = 0 }; store = s; nodes = nodes; lookup = lookup }
+  unfolding placing placeAnswer
+  way-full t = rw t
+
+  way-placed : tooLarge (s .capacity) (bookOf nodes (s .count)) F ≡ false
+      → placing 0 F s nodes lookup ≡ record {
+        given = record { refusal = 0; handle = number (place (bookOf nodes (s .count)) F) F };
+        store = record { capacity = s .capacity; count = length (place (bookOf nodes (s .count)) F) - 2 };
+        nodes = nodesWith (s .capacity) (place (bookOf nodes (s .count)) F) nodes;
+        lookup = lookupOf (length lookup) (place (bookOf nodes (s .count)) F);
+      }
+  unfolding placing placeAnswer placeBook
+  way-placed t = rw t
+
+  placed-full : tooLarge (s .capacity) (bookOf nodes (s .count)) F ≡ true → placed (s .capacity) (bookOf nodes (s .count)) F ≡ record { full = true; book = bookOf nodes (s .count); family = F }
+  unfolding placed
+  placed-full t = rw t
+
+  placed-new : tooLarge (s .capacity) (bookOf nodes (s .count)) F ≡ false
+      → placed (s .capacity) (bookOf nodes (s .count)) F ≡ record { full = false; book = place (bookOf nodes (s .count)) F; family = F }
+  unfolding placed
+  placed-new t = rw t
+
+item-taken : (count p v : ℕ) → p ≤ count + 1 → 0 < v → v ≤ 512 → operationRefusal 3 count p v ≡ 0
+unfolding operationRefusal isItem
+item-taken count p v lp n l = rw (le-ltb (count + 1) p lp, lt-ltb 0 v n, le-leb v 512 l)
+
+module _ {s : Store} {nodes lookup cache : List ℕ} (S : Sound s nodes lookup cache) where
+  book : Book itemLimit (bookOf nodes (s .count))
+  book = sound-holds S .book
+
+  pub handle-inside : (p : ℕ) → p ≤ s .count + 1 → p < length (bookOf nodes (s .count))
+  handle-inside p l = omega (arith, sound-holds S .size)
+
+  pub handle-within : (p : ℕ) → p ≤ s .count + 1 → Within itemLimit (at (bookOf nodes (s .count)) p)
+  handle-within p l = book .within (at (bookOf nodes (s .count)) p) (held-at (bookOf nodes (s .count)) book p (handle-inside p l))
+
+  module _ {F : Family} {r : Placed} {nodes′ lookup′ cache′ : List ℕ} (w : Within itemLimit F) (P : PlaceCall 0 F s nodes lookup cache r nodes′ lookup′ cache′) where
+    full-after : tooLarge (s .capacity) (bookOf nodes (s .count)) F ≡ true → After (s .capacity) r nodes′ lookup′ cache′ (record { full = true; book = bookOf nodes (s .count); family = F })
+    full-after t =
+        let L = P .on-sound S .leaves-is ∙ way-full F s nodes lookup t in
+        record {
+          sound = P .on-sound S .sound;
+          capacity-is = P .capacity;
+          book-is = ap (λ l. bookOf (l .nodes) (l .store .count)) L;
+          answer-is = ap (λ l. l .given) L;
+          held = λ e. clash refl e;
+        }
+
+    new-after : tooLarge (s .capacity) (bookOf nodes (s .count)) F ≡ false → After (s .capacity) r nodes′ lookup′ cache′ (record { full = false; book = place (bookOf nodes (s .count)) F; family = F })
+    new-after t =
+        let L = P .on-sound S .leaves-is ∙ way-placed F s nodes lookup t in
+        let k = book-place (bookOf nodes (s .count)) F book w in
+        record {
+          sound = P .on-sound S .sound;
+          capacity-is = P .capacity;
+          book-is = ap (λ l. bookOf (l .nodes) (l .store .count)) L ∙ book-of-words (place (bookOf nodes (s .count)) F) (k .0) (s .capacity) nodes;
+          answer-is = ap (λ l. l .given) L;
+          held = λ e. k .1;
+        }
+
+    pub placed-after : After (s .capacity) r nodes′ lookup′ cache′ (placed (s .capacity) (bookOf nodes (s .count)) F)
+    placed-after =
+        by-test (tooLarge (s .capacity) (bookOf nodes (s .count)) F)
+        (λ t. rw (placed-full F s nodes lookup t) (full-after t))
+        (λ t. rw (placed-new F s nodes lookup t) (new-after t))
+
+  module _ {r : Placed} {nodes′ lookup′ cache′ : List ℕ} (p : ℕ) (lp : p ≤ s .count + 1) where
+    -- Change
+    pub change-after : (v : ℕ) → 0 < v → v ≤ 512 → OperationCall 3 p v s nodes lookup cache r nodes′ lookup′ cache′
+        → After (s .capacity) r nodes′ lookup′ cache′ (placed (s .capacity) (bookOf nodes (s .count)) (change v (at (bookOf nodes (s .count)) p)))
+    unfolding named restrict
+    change-after v n l P = placed-after (within-change v _ n l (handle-within p lp)) (rw (item-taken (s .count) p v lp n l) at P)
+
+    -- Union, Intsec and Diff
+    pub combine-after : (op : ℕ) → 4 ≤ op → (rule op false false ≡ false) → (q : ℕ) → q ≤ s .count + 1 → OperationCall op p q s nodes lookup cache r nodes′ lookup′ cache′
+        → After (s .capacity) r nodes′ lookup′ cache′ (placed (s .capacity) (bookOf nodes (s .count)) (combine (rule op) (at (bookOf nodes (s .count)) p) (at (bookOf nodes (s .count)) q)))
+    unfolding named operationRefusal
+    combine-after op n f q lq P =
+        placed-after (within-combine (rule op) f _ _ (handle-within p lp) (handle-within q lq))
+        (rw (le-ltb (s .count + 1) p lp, le-ltb (s .count + 1) q lq, le-ltb op 4 n) at P)

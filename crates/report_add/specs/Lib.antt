@@ -1,0 +1,3 @@
+-- What the contracts of `report_add` cite.
+pub mod Promise
+pub mod Inner

@@ -1,0 +1,160 @@
+-- The two calls of the closing sums, and the four sizes; or `report full`.
+-- The laws of `Closings` have one case for each way out.
+use borrow.Author.Needs.{needs}
+use native.Mathlib.Omega.{arith}
+use Rattle.report_close.proofs.Closings.{sums-first, sums-second, sums-written}
+use borrow.Author.Needs.{needs}
+use Rattle.report_close.proofs.close_sums.Statement.{statement}
+use Rattle.report_close.proofs.close_sums.Tie as tie
+
+intsec-requires : tie.Need-intsec-requires
+intsec-requires c κs = search needs
+
+enum-known-first-answer : tie.Need-enum-known-first-answer
+enum-known-first-answer c = search needs
+
+enum-told : tie.Need-enum-told
+enum-told c = search needs
+
+slice-aggregate-put-word : tie.Need-slice-aggregate-put-word
+slice-aggregate-put-word c = search needs
+
+put-word-requires : tie.Need-put-word-requires
+put-word-requires c κs = search needs
+
+same-length : tie.Need-same-length
+same-length c = search needs
+
+same-length-2 : tie.Need-same-length-2
+same-length-2 c = search needs
+
+same-length-3 : tie.Need-same-length-3
+same-length-3 c = search needs
+
+same-length-4 : tie.Need-same-length-4
+same-length-4 c = search needs
+
+diff-requires : tie.Need-diff-requires
+diff-requires c κs = search needs
+
+enum-known-second-answer : tie.Need-enum-known-second-answer
+enum-known-second-answer c = search needs
+
+enum-told-2 : tie.Need-enum-told-2
+enum-told-2 c = search needs
+
+slice-aggregate-put-word-2 : tie.Need-slice-aggregate-put-word-2
+slice-aggregate-put-word-2 c = search needs
+
+same-length-5 : tie.Need-same-length-5
+same-length-5 c = search needs
+
+same-length-6 : tie.Need-same-length-6
+same-length-6 c = search needs
+
+same-length-7 : tie.Need-same-length-7
+same-length-7 c = search needs
+
+same-length-8 : tie.Need-same-length-8
+same-length-8 c = search needs
+
+same-length-9 : tie.Need-same-length-9
+same-length-9 c = search needs
+
+same-length-10 : tie.Need-same-length-10
+same-length-10 c = search needs
+
+same-length-11 : tie.Need-same-length-11
+same-length-11 c = search needs
+
+same-length-12 : tie.Need-same-length-12
+same-length-12 c = search needs
+
+same-length-13 : tie.Need-same-length-13
+same-length-13 c = search needs
+
+abbrev intsec·After-slice-known9 : tie.After-slice-known9 → tie.After-intsec
+intsec·After-slice-known9 c = c .before .before .before .before .before .before .before .before .before .before .before .before .before
+
+abbrev enum-told·After-slice-known9 : tie.After-slice-known9 → tie.After-enum-told
+enum-told·After-slice-known9 c = c .before .before .before .before .before
+
+abbrev start·After-put-word-arg4 : tie.After-put-word-arg4 → tie.Start
+start·After-put-word-arg4 c = c .before .before .before .before .before .before .before .before .before .before .before .before .before .before .before .before .before .before .before .before .before .before .before .before .before .before .before .before .before .before .before .before
+
+abbrev intsec·After-slice-known13 : tie.After-slice-known13 → tie.After-intsec
+intsec·After-slice-known13 c = c .before .before .before .before .before .before .before .before .before .before .before .before .before .before .before .before .before .before .before .before .before .before .before .before .before .before
+
+abbrev first-answer·After-slice-known13 : tie.After-slice-known13 → tie.After-first-answer
+first-answer·After-slice-known13 c = c .before .before .before .before .before .before .before .before .before .before .before .before .before .before .before .before .before .before
+
+abbrev diff·After-slice-known13 : tie.After-slice-known13 → tie.After-diff
+diff·After-slice-known13 c = c .before .before .before .before .before .before .before .before .before .before .before .before .before
+
+abbrev enum-told2·After-slice-known13 : tie.After-slice-known13 → tie.After-enum-told2
+enum-told2·After-slice-known13 c = c .before .before .before .before .before
+
+abbrev start·After-put-sizes-arg4 : tie.After-put-sizes-arg4 → tie.Start
+start·After-put-sizes-arg4 c = c .before .before .before .before .before .before .before .before .before .before .before .before .before .before .before .before .before .before .before .before .before .before .before .before .before .before .before .before .before .before .before .before .before .before .before
+
+abbrev intsec·After-slice-known15 : tie.After-slice-known15 → tie.After-intsec
+intsec·After-slice-known15 c = c .before .before .before .before .before .before .before .before .before .before .before .before .before .before .before .before .before .before .before .before .before .before .before .before .before .before .before .before .before .before .before
+
+abbrev first-answer·After-slice-known15 : tie.After-slice-known15 → tie.After-first-answer
+first-answer·After-slice-known15 c = c .before .before .before .before .before .before .before .before .before .before .before .before .before .before .before .before .before .before .before .before .before .before .before
+
+abbrev diff·After-slice-known15 : tie.After-slice-known15 → tie.After-diff
+diff·After-slice-known15 c = c .before .before .before .before .before .before .before .before .before .before .before .before .before .before .before .before .before .before
+
+abbrev second-answer·After-slice-known15 : tie.After-slice-known15 → tie.After-second-answer
+second-answer·After-slice-known15 c = c .before .before .before .before .before .before .before .before .before .before
+
+abbrev put-sizes·After-slice-known15 : tie.After-slice-known15 → tie.After-put-sizes
+put-sizes·After-slice-known15 c = c .before .before .before .before
+
+returns : tie.Need-returns
+returns c = sums-first _ _ ((intsec·After-slice-known9 c) .intsec .ensures) _ ((enum-told·After-slice-known9 c) .enum-told .given .1) ((c .before .before) .put-word .ensures)
+
+put-word-requires-2 : tie.Need-put-word-requires-2
+put-word-requires-2 c κs = omega (arith, (start·After-put-word-arg4 c) .pre)
+
+returns-2 : tie.Need-returns-2
+returns-2 c = sums-second _ _ ((intsec·After-slice-known13 c) .intsec .ensures) ((first-answer·After-slice-known13 c) .first-answer .given .1) ((diff·After-slice-known13 c) .diff .ensures) _ ((enum-told2·After-slice-known13 c) .enum-told2 .given .1) ((c .before .before) .put-word2 .ensures)
+
+put-sizes-requires : tie.Need-put-sizes-requires
+put-sizes-requires c κs = (start·After-put-sizes-arg4 c) .pre
+
+returns-3 : tie.Need-returns-3
+returns-3 c = sums-written _ _ ((intsec·After-slice-known15 c) .intsec .ensures) ((first-answer·After-slice-known15 c) .first-answer .given .1) ((diff·After-slice-known15 c) .diff .ensures) ((second-answer·After-slice-known15 c) .second-answer .given .1) ((put-sizes·After-slice-known15 c) .put-sizes .ensures)
+
+pub close-sums-spec : {M : Type 1} → statement M
+close-sums-spec =
+    tie.close
+    (tie.spec
+    intsec-requires
+    enum-known-first-answer
+    enum-told
+    slice-aggregate-put-word
+    put-word-requires
+    same-length
+    same-length-2
+    same-length-3
+    same-length-4
+    returns
+    diff-requires
+    enum-known-second-answer
+    enum-told-2
+    slice-aggregate-put-word-2
+    put-word-requires-2
+    same-length-5
+    same-length-6
+    same-length-7
+    same-length-8
+    returns-2
+    put-sizes-requires
+    same-length-9
+    same-length-10
+    same-length-11
+    same-length-12
+    same-length-13
+    returns-3)

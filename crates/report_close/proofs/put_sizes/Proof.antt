@@ -1,0 +1,62 @@
+-- The sizes of four families, written.
+-- Size leaves the store's words, and the scratch its length.
+use borrow.Author.Needs.{needs}
+use mathlib.Core.Path.{_∙_}
+use Rattle.report_close.proofs.Closings.{as-long, sizes-written}
+use borrow.Author.Needs.{needs}
+use Rattle.report_close.proofs.put_sizes.Statement.{statement}
+use Rattle.report_close.proofs.put_sizes.Tie as tie
+
+size-of-requires : tie.Need-size-of-requires
+size-of-requires c κs = search needs
+
+size-of-requires-2 : tie.Need-size-of-requires-2
+size-of-requires-2 c κs = search needs
+
+size-of-requires-3 : tie.Need-size-of-requires-3
+size-of-requires-3 c κs = search needs
+
+size-of-requires-4 : tie.Need-size-of-requires-4
+size-of-requires-4 c κs = search needs
+
+put-sums-requires : tie.Need-put-sums-requires
+put-sums-requires c κs = search needs
+
+same-length : tie.Need-same-length
+same-length c = search needs
+
+same-length-2 : tie.Need-same-length-2
+same-length-2 c = search needs
+
+abbrev size-of·After-slice-known7 : tie.After-slice-known7 → tie.After-size-of
+size-of·After-slice-known7 c = c .before .before .before .before .before .before .before .before .before .before .before .before .before .before .before .before .before .before
+
+abbrev size-of2·After-slice-known7 : tie.After-slice-known7 → tie.After-size-of2
+size-of2·After-slice-known7 c = c .before .before .before .before .before .before .before .before .before .before .before .before .before .before
+
+abbrev size-of3·After-slice-known7 : tie.After-slice-known7 → tie.After-size-of3
+size-of3·After-slice-known7 c = c .before .before .before .before .before .before .before .before .before .before
+
+abbrev size-of4·After-slice-known7 : tie.After-slice-known7 → tie.After-size-of4
+size-of4·After-slice-known7 c = c .before .before .before .before .before .before
+
+returns : tie.Need-returns
+returns c =
+    sizes-written ((size-of·After-slice-known7 c) .size-of .ensures)
+    (as-long ((size-of·After-slice-known7 c) .size-of .kept .1 .1 .1 .1 .0) ((size-of2·After-slice-known7 c) .size-of2 .ensures))
+    (as-long ((size-of2·After-slice-known7 c) .size-of2 .kept .1 .1 .1 .1 .0 ∙ (size-of·After-slice-known7 c) .size-of .kept .1 .1 .1 .1 .0) ((size-of3·After-slice-known7 c) .size-of3 .ensures))
+    (as-long ((size-of3·After-slice-known7 c) .size-of3 .kept .1 .1 .1 .1 .0 ∙ (size-of2·After-slice-known7 c) .size-of2 .kept .1 .1 .1 .1 .0 ∙ (size-of·After-slice-known7 c) .size-of .kept .1 .1 .1 .1 .0) ((size-of4·After-slice-known7 c) .size-of4 .ensures))
+    ((c .before .before) .put-sums .ensures)
+
+pub put-sizes-spec : {M : Type 1} → statement M
+put-sizes-spec =
+    tie.close
+    (tie.spec
+    size-of-requires
+    size-of-requires-2
+    size-of-requires-3
+    size-of-requires-4
+    put-sums-requires
+    same-length
+    same-length-2
+    returns)

@@ -1,0 +1,3 @@
+-- What the contracts of `report_close` cite.
+pub mod Inner
+pub mod Report

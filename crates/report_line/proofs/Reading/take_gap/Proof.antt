@@ -1,0 +1,30 @@
+-- Behind the letter or an item comes a space, the newline, or a byte that spoils the line.
+-- Each test of the code is one of the grammar's; the items stay.
+use borrow.Author.Needs.{needs}
+use Rattle.report_line.proofs.States.{state-is, progress-is, gap-space, gap-newline, gap-other}
+use borrow.Author.Needs.{needs}
+use Rattle.report_line.proofs.Reading.take_gap.Statement.{statement}
+use Rattle.report_line.proofs.Reading.take_gap.Tie as tie
+
+at-stage-requires : tie.Need-at-stage-requires
+at-stage-requires c κs = search needs
+
+at-stage-requires-2 : tie.Need-at-stage-requires-2
+at-stage-requires-2 c κs = search needs
+
+spoiled-requires : tie.Need-spoiled-requires
+spoiled-requires c κs = search needs
+
+returns : tie.Need-returns
+returns c = let e = c .at-stage .ensures in progress-is (state-is (e .0) (e .1) (e .2) (e .3) (e .4)) (gap-space _ _ _ ((c .before) .if1 .taken))
+
+returns-2 : tie.Need-returns-2
+returns-2 c = let e = c .at-stage2 .ensures in progress-is (state-is (e .0) (e .1) (e .2) (e .3) (e .4)) (gap-newline _ _ _ ((c .before .before) .if1 .left) ((c .before) .if2 .taken))
+
+returns-3 : tie.Need-returns-3
+returns-3 c = progress-is (c .spoiled .ensures) (gap-other _ _ _ ((c .before .before) .if1 .left) ((c .before) .if2 .left))
+
+pub take-gap-spec : {M : Type 1} → statement M
+take-gap-spec =
+    tie.close
+    (tie.spec at-stage-requires returns at-stage-requires-2 returns-2 spoiled-requires returns-3)

@@ -1,0 +1,94 @@
+-- Reading a line: the progress that each test of the code leads to is the one that the grammar names.
+-- Each law is one test, or two, of the grammar's definition decided by what the code tested.
+use Prim.Native.Nat.{ℕ, _+_, _-_, _*_, _≤_, _<_}
+use mathlib.Core.Path.{_≡_, refl, sym, ap, _∙_}
+use mathlib.Core.Bool.{Bool, true, false, cond, _&&_}
+use mathlib.Core.List.{List, [], _∷_}
+use native.Mathlib.Omega.{arith}
+use lib.Dec.{eqb, ltb, leb}
+use lib.ListN.{replicate}
+use borrow.Author.Tests.{eq-eqb, ne-eqb, le-leb, lt-leb}
+use Rattle.family.specs.Combination.{insert, isFree, including, holds, itemsOf}
+use Rattle.family.proofs.Words.{one-record, is-including, free-zero, free-high, free-held, free-item}
+use Rattle.combination.specs.declared.Combination.{Combination}
+use Rattle.report_line.specs.declared.Side.{Side}
+use Rattle.report_line.specs.declared.Side.the-variants.{Passed, Returned}
+use Rattle.report_line.specs.declared.Stage.{Stage}
+use Rattle.report_line.specs.declared.Reading.{Reading}
+use Rattle.report_line.specs.Line.{Progress, letter, space, number, whole, malformed, first, gap, opened, isDigit, grown, closed, advance, State, step, progressOf, stateOf}
+
+-- the state of a reading, by its fields
+pub state-is : {r : Reading} {st : Stage} {sd : Side} {c : Combination} {n l : ℕ} → r .stage ≡ st → r .side ≡ sd → r .items ≡ c → r .item ≡ n → r .left ≡ l
+    → stateOf r ≡ record { progress = progressOf st sd (itemsOf (c .words)) n; left = l }
+state-is a b c d e = λ i. record { progress = progressOf (a i) (b i) (itemsOf (c i .words)) (d i); left = e i }
+
+-- the same state, its progress named otherwise
+pub progress-is : {s : State} {p q : Progress} {l : ℕ} → s ≡ record { progress = p; left = l } → q ≡ p → s ≡ record { progress = q; left = l }
+progress-is {l = l} e d = e ∙ ap (λ p. record { progress = p; left = l }) (sym d)
+
+pub no-items : itemsOf (replicate 16 0) ≡ []
+no-items = one-record [] (record { falling = tt; low = omega arith }) .means
+
+module _ (b : ℕ) where
+  pub first-passed : b ≡ 80 → first b ≡ letter Passed []
+  first-passed e = rw (eq-eqb b 80 e)
+
+  pub first-returned : (b ≡ 80 → ⊥) → b ≡ 82 → first b ≡ letter Returned []
+  first-returned d e = rw (ne-eqb b 80 d, eq-eqb b 82 e)
+
+  pub first-other : (b ≡ 80 → ⊥) → (b ≡ 82 → ⊥) → first b ≡ malformed
+  first-other d e = rw (ne-eqb b 80 d, ne-eqb b 82 e)
+
+module _ (s : Side) (c : List ℕ) (b : ℕ) where
+  pub gap-space : b ≡ 32 → gap s c b ≡ space s c
+  gap-space e = rw (eq-eqb b 32 e)
+
+  pub gap-newline : (b ≡ 32 → ⊥) → b ≡ 10 → gap s c b ≡ whole s c
+  gap-newline d e = rw (ne-eqb b 32 d, eq-eqb b 10 e)
+
+  pub gap-other : (b ≡ 32 → ⊥) → (b ≡ 10 → ⊥) → gap s c b ≡ malformed
+  gap-other d e = rw (ne-eqb b 32 d, ne-eqb b 10 e)
+
+  pub opened-low : b < 49 → opened s c b ≡ malformed
+  opened-low l = rw (lt-leb 49 b l)
+
+  pub opened-high : 57 < b → opened s c b ≡ malformed
+  opened-high l = rw (le-leb 49 b (omega arith), lt-leb b 57 l)
+
+  pub opened-digit : (n : ℕ) → 49 ≤ b → b ≤ 57 → n ≡ b - 48 → opened s c b ≡ number s c n
+  opened-digit n l h e = rw (le-leb 49 b l, le-leb b 57 h, e)
+
+  module _ (n : ℕ) where
+    pub number-low : b < 48 → advance (number s c n) b ≡ closed s c n b
+    number-low l = rw (lt-leb 48 b l)
+
+    pub number-high : 57 < b → advance (number s c n) b ≡ closed s c n b
+    number-high l = rw (le-leb 48 b (omega arith), lt-leb b 57 l)
+
+    pub number-digit : (d : ℕ) → 48 ≤ b → b ≤ 57 → d ≡ b - 48 → advance (number s c n) b ≡ grown s c (10 * n + d)
+    number-digit d l h e = rw (le-leb 48 b l, le-leb b 57 h, e)
+
+    pub closed-not : isFree 512 n c ≡ false → closed s c n b ≡ malformed
+    closed-not e = rw e
+
+    pub closed-free : isFree 512 n c ≡ true → closed s c n b ≡ gap s (including 512 n c) b
+    closed-free e = rw (e, is-including n c e)
+
+module _ (s : Side) (c : List ℕ) (n : ℕ) where
+  pub grown-high : 512 < n → grown s c n ≡ malformed
+  grown-high l = rw (lt-leb n 512 l)
+
+  pub grown-low : n ≤ 512 → grown s c n ≡ number s c n
+  grown-low l = rw (le-leb n 512 l)
+
+-- the next byte: none is left, or one is
+pub step-none : (s : State) (b : ℕ) → s .left ≡ 0 → step s b ≡ record { progress = malformed; left = s .left }
+step-none s b e = let f : s .left - 1 ≡ s .left = omega arith in rw (eq-eqb (s .left) 0 e, f)
+
+pub step-some : (s : State) (b : ℕ) → (s .left ≡ 0 → ⊥) → step s b ≡ record { progress = advance (s .progress) b; left = s .left - 1 }
+step-some s b d = rw (ne-eqb (s .left) 0 d)
+
+-- what the stage decides
+pub at-stage : {s : State} {l : ℕ} (r : Reading) (b : ℕ) {st : Stage} → r .stage ≡ st → s ≡ record { progress = advance (progressOf st (r .side) (itemsOf (r .items .words)) (r .item)) b; left = l }
+    → s ≡ record { progress = advance (stateOf r .progress) b; left = l }
+at-stage r b e d = progress-is d (ap (λ st. advance (progressOf st (r .side) (itemsOf (r .items .words)) (r .item)) b) e)

@@ -1,0 +1,2 @@
+-- What the contracts of `report_line` cite.
+pub mod Line

@@ -1,0 +1,348 @@
+-- A log taken byte by byte: what each function leaves keeps the log that the definitions name.
+-- Families held before a call keep their handles, so the other family's handle stays; the rest is by the tally's fields.
+use Prim.Native.Nat.{ℕ, zero, suc, _+_, _-_, _*_, _/_, _≤_, _<_, min}
+use mathlib.Core.Path.{_≡_, refl, sym, ap, subst, _∙_}
+use mathlib.Core.Bool.{Bool, true, false, cond}
+use mathlib.Core.List.{List, [], _∷_, _++_, foldl, foldl-append}
+use native.Mathlib.Omega.{arith}
+use lib.Dec.{ltb, leb}
+use lib.ListN.{length, getD, take}
+use lib.Seq.{take-suc, take-all}
+use types.Run.{OneOf, miss}
+use denote.Enum.Declared.{tagOf}
+use borrow.Author.Tests.{le-ltb, lt-leb}
+use Rattle.family.specs.Family.{Family, empty}
+use Rattle.family.specs.Operation.{union}
+use Rattle.family.specs.Combination.{itemsOf}
+use Rattle.family.specs.Book.{start, at, Grown}
+use Rattle.family.proofs.Books.{grown-at, grown-length}
+use Rattle.words.specs.Words.{zeroed}
+use Rattle.store.specs.declared.record.Store.{Store}
+use Rattle.store.specs.declared.record.Refusal.{Refusal}
+use Rattle.store.specs.declared.record.PlaceAnswer.the-variants.{Handle, Refused as NoHandle}
+use Rattle.store.specs.declared.record.Placed.{Placed}
+use Rattle.store_fresh.specs.declared.Freshened.{Freshened}
+use Rattle.store.specs.Capacity.{capacityOf}
+use Rattle.store.specs.Words.{bookOf}
+use Rattle.store.specs.Sound.{Sound}
+use Rattle.store_fresh.specs.Promise.{FreshCall, FreshLeft, freshLeaves, freshOf}
+use Rattle.store.proofs.Decoding.{sound-holds}
+use Rattle.store.proofs.Sounds.{fresh-sound}
+use Rattle.query_sizes.specs.NodeSizes.{most}
+use Rattle.report_line.specs.declared.Side.{Side}
+use Rattle.report_line.specs.declared.Side.the-variants.{Passed, Returned}
+use Rattle.report_line.specs.declared.Stage.{Stage}
+use Rattle.report_line.proofs.Stage.{the-type as the-stage}
+use Rattle.report_line.specs.declared.Reading.{Reading}
+use Rattle.report_log.specs.declared.tally.Ending.{Ending}
+use Rattle.report_log.specs.declared.tally.Ending.the-variants.{Going, Refused, Full}
+use Rattle.report_log.specs.declared.tally.Tally.{Tally}
+use Rattle.report_log.proofs.tally.Ending.{the-type as the-ending}
+use Rattle.report_line.specs.Line.{Progress, State, begin, step, progressOf, stateOf}
+use Rattle.report_add.specs.Promise.{Added, next, made, added, After, AddCall}
+use Rattle.report_log.specs.Log.{Lot, Taken, withPassed, withReturned, takeLine, Log, opening, counted, readOn, whileGoing, logByte, feed, capped, Keeps, OpenCall, TakeCall}
+use Rattle.report_log.specs.Inner.{TallyIs, familyOf, LineEnd, LineIt}
+use Rattle.report_add.proofs.Makings.{Gives, gives, refused-full, next-grown, made-grown}
+
+-- opening
+freshly : (nodes lookup cache : List ℕ) → 3 ≤ length nodes → capacityOf (length nodes) + 1 ≤ length lookup
+    → freshOf nodes lookup cache ≡ record {
+      refusal = 0;
+      store = record { capacity = capacityOf (length nodes); count = 0 };
+      nodes = zeroed 0 (3 * capacityOf (length nodes)) nodes;
+      lookup = zeroed 0 (length lookup) lookup;
+      cache = zeroed 0 (length cache / 4 * 4) cache;
+    }
+unfolding freshOf
+freshly nodes lookup cache l h = rw (le-ltb (length nodes) 3 l, lt-leb (length lookup) (capacityOf (length nodes)) (omega arith))
+
+pub opened : {nodes lookup cache : List ℕ} {f : Freshened} {nodes′ lookup′ cache′ : List ℕ} → FreshCall nodes lookup cache f nodes′ lookup′ cache′ → {s : Store} {p q n : ℕ} {e : Ending} {t : Tally}
+    → f .store ≡ s → p ≡ 0 → q ≡ 0 → n ≡ 0 → e ≡ Going → TallyIs s p q n e t → OpenCall nodes lookup t nodes′ lookup′ cache′
+unfolding bookOf
+opened {nodes} {lookup} {cache} {f} {nodes′} {lookup′} {cache′} C {s} {p} {q} {n} {e} {t} es ep eq en ee T = record { keeps = go }
+  where
+    go : 3 ≤ length nodes → capacityOf (length nodes) + 1 ≤ length lookup → Keeps (capacityOf (length nodes)) t nodes′ lookup′ cache′ opening
+    go l h =
+        let L = C .leaves-is ∙ freshly nodes lookup cache l h in
+        let x : t .store ≡ record { capacity = capacityOf (length nodes); count = 0 } = T .store-is ∙ sym es ∙ ap (λ y. y .store) L in
+        let en : nodes′ ≡ zeroed 0 (3 * capacityOf (length nodes)) nodes = ap (λ y. y .nodes) L in
+        let el : lookup′ ≡ zeroed 0 (length lookup) lookup = ap (λ y. y .lookup) L in
+        let ec : cache′ ≡ zeroed 0 (length cache / 4 * 4) cache = ap (λ y. y .cache) L in
+        record {
+          sound = rw (x, en, el, ec) (fresh-sound nodes lookup cache (omega arith));
+          capacity-is = ap (λ y. y .capacity) x;
+          book-is = ap (λ y. bookOf nodes′ (y .count)) x;
+          passed-held = omega (arith, T .passed-is);
+          passed-is = ap (λ y. at (bookOf nodes′ (y .count)) (t .passed)) x ∙ ap (λ k. at start k) (T .passed-is ∙ ep);
+          returned-held = omega (arith, T .returned-is);
+          returned-is = ap (λ y. at (bookOf nodes′ (y .count)) (t .returned)) x ∙ ap (λ k. at start k) (T .returned-is ∙ eq);
+          lines-is = T .lines-is ∙ en₀;
+          line-is = T .line-is;
+          ending-is = T .ending-is ∙ ee;
+        }
+      where
+        en₀ : n ≡ capped 0
+        en₀ = en
+
+-- the line read on, the lot as it was
+pub read-keeps : {capacity : ℕ} {t : Tally} {nodes lookup cache : List ℕ} {g : Log} → Keeps capacity t nodes lookup cache g → {s : State} {e : Ending} (r : Tally)
+    → r .store ≡ t .store → r .passed ≡ t .passed → r .returned ≡ t .returned → r .lines ≡ t .lines → stateOf (r .reading) ≡ s → r .ending ≡ e
+    → Keeps capacity r nodes lookup cache (record { lot = g .lot; lines = g .lines; line = s; ending = e })
+read-keeps {nodes = nodes} K r a b c d f h =
+    record {
+      sound = rw a (K .sound);
+      capacity-is = ap (λ x. x .capacity) a ∙ K .capacity-is;
+      book-is = ap (λ x. bookOf nodes (x .count)) a ∙ K .book-is;
+      passed-held = rw (a, b) (K .passed-held);
+      passed-is = rw (a, b) (K .passed-is);
+      returned-held = rw (a, c) (K .returned-held);
+      returned-is = rw (a, c) (K .returned-is);
+      lines-is = d ∙ K .lines-is;
+      line-is = f;
+      ending-is = h;
+    }
+
+-- a line added
+pub added-grown : (capacity : ℕ) (B : List Family) (F : Family) (c : List ℕ) → Grown B (added capacity B F c .book)
+added-grown capacity B F c = next-grown capacity (union F) (made capacity B c) (made-grown capacity B c)
+
+pub record Stays (n : ℕ) (B : List Family) (q : ℕ) (F : Family) : Type 0 where
+  pub held : q ≤ n + 1
+  pub means : at B q ≡ F
+
+pub stays : {capacity : ℕ} {s : Store} {nodes lookup cache : List ℕ} → Sound s nodes lookup cache → {m : Placed} {nodes′ lookup′ cache′ : List ℕ} {a : Added} → After capacity m nodes′ lookup′ cache′ a
+    → Grown (bookOf nodes (s .count)) (a .book) → (q : ℕ) (F : Family) → q ≤ s .count + 1 → at (bookOf nodes (s .count)) q ≡ F → Stays (m .store .count) (bookOf nodes′ (m .store .count)) q F
+stays S A g q F l e =
+    let z = sound-holds S .size in
+    record {
+      held = omega (arith, grown-length g, z, ap length (A .book-is), sound-holds (A .sound) .size);
+      means = ap (λ B. at B q) (A .book-is) ∙ grown-at g q (omega arith) ∙ e;
+    }
+
+module _ {capacity : ℕ} {t : Tally} {nodes lookup cache : List ℕ} {g : Log} (K : Keeps capacity t nodes lookup cache g) {m : Placed} {nodes′ lookup′ cache′ : List ℕ} where
+  -- the promise of adding, on the log's own book and families
+  for-passed : {c : List ℕ} → AddCall (t .store) nodes lookup cache (t .passed) c m nodes′ lookup′ cache′ → After capacity m nodes′ lookup′ cache′ (added capacity (g .lot .book) (g .lot .passed) c)
+  for-passed C = rw (K .capacity-is, K .passed-is, K .book-is) at (C .on-sound (K .sound) (K .passed-held))
+
+  for-returned : {c : List ℕ} → AddCall (t .store) nodes lookup cache (t .returned) c m nodes′ lookup′ cache′ → After capacity m nodes′ lookup′ cache′ (added capacity (g .lot .book) (g .lot .returned) c)
+  for-returned C = rw (K .capacity-is, K .returned-is, K .book-is) at (C .on-sound (K .sound) (K .returned-held))
+
+  module _ {a : Added} (A : After capacity m nodes′ lookup′ cache′ a) (w : Grown (g .lot .book) (a .book)) where
+    same : (q : ℕ) (F : Family) → q ≤ t .store .count + 1 → at (bookOf nodes (t .store .count)) q ≡ F → Stays (m .store .count) (bookOf nodes′ (m .store .count)) q F
+    same q F l e = stays (K .sound) A (rw (K .book-is) w) q F l e
+
+    -- the store was full: the families stay
+    pub full-keeps : {r : Tally} → TallyIs (m .store) (t .passed) (t .returned) (t .lines) Full r
+        → Keeps capacity r nodes′ lookup′ cache′ (record { lot = record { book = a .book; passed = g .lot .passed; returned = g .lot .returned }; lines = g .lines; line = begin; ending = Full })
+    full-keeps T =
+        let p = same (t .passed) (g .lot .passed) (K .passed-held) (K .passed-is) in
+        let q = same (t .returned) (g .lot .returned) (K .returned-held) (K .returned-is) in
+        record {
+          sound = rw (T .store-is) (A .sound);
+          capacity-is = ap (λ x. x .capacity) (T .store-is) ∙ A .capacity-is;
+          book-is = ap (λ x. bookOf nodes′ (x .count)) (T .store-is) ∙ A .book-is;
+          passed-held = rw (T .store-is, T .passed-is) (p .held);
+          passed-is = rw (T .store-is, T .passed-is) (p .means);
+          returned-held = rw (T .store-is, T .returned-is) (q .held);
+          returned-is = rw (T .store-is, T .returned-is) (q .means);
+          lines-is = T .lines-is ∙ K .lines-is;
+          line-is = T .line-is;
+          ending-is = T .ending-is;
+        }
+
+    -- one line more: the handles of the two families, whichever changed
+    pub more-keeps : {r : Tally} {p q n : ℕ} {P R : Family} → Stays (m .store .count) (bookOf nodes′ (m .store .count)) p P → Stays (m .store .count) (bookOf nodes′ (m .store .count)) q R
+        → n ≡ capped (suc (t .lines)) → TallyIs (m .store) p q n Going r
+        → Keeps capacity r nodes′ lookup′ cache′ (record { lot = record { book = a .book; passed = P; returned = R }; lines = suc (g .lines); line = begin; ending = Going })
+    more-keeps p q e T =
+        record {
+          sound = rw (T .store-is) (A .sound);
+          capacity-is = ap (λ x. x .capacity) (T .store-is) ∙ A .capacity-is;
+          book-is = ap (λ x. bookOf nodes′ (x .count)) (T .store-is) ∙ A .book-is;
+          passed-held = rw (T .store-is, T .passed-is) (p .held);
+          passed-is = rw (T .store-is, T .passed-is) (p .means);
+          returned-held = rw (T .store-is, T .returned-is) (q .held);
+          returned-is = rw (T .store-is, T .returned-is) (q .means);
+          lines-is = T .lines-is ∙ e ∙ omega (arith, K .lines-is);
+          line-is = T .line-is;
+          ending-is = T .ending-is;
+        }
+
+    pub given-stays : (h : ℕ) → m .answer ≡ Handle h → Stays (m .store .count) (bookOf nodes′ (m .store .count)) h (a .family)
+    given-stays h e = let G = gives A h e in record { held = G .inside; means = G .means }
+
+-- what is counted, by whether the store was full
+module _ (g : Log) (a : Added) where
+  passed-full : a .full ≡ true
+      → record { lot = record { book = a .book; passed = g .lot .passed; returned = g .lot .returned }; lines = g .lines; line = begin; ending = Full } ≡ counted g (withPassed (g .lot) a)
+  passed-full e = rw e
+
+  passed-more : a .full ≡ false
+      → record { lot = record { book = a .book; passed = a .family; returned = g .lot .returned }; lines = suc (g .lines); line = begin; ending = Going } ≡ counted g (withPassed (g .lot) a)
+  passed-more e = rw e
+
+  returned-full : a .full ≡ true
+      → record { lot = record { book = a .book; passed = g .lot .passed; returned = g .lot .returned }; lines = g .lines; line = begin; ending = Full } ≡ counted g (withReturned (g .lot) a)
+  returned-full e = rw e
+
+  returned-more : a .full ≡ false
+      → record { lot = record { book = a .book; passed = g .lot .passed; returned = a .family }; lines = suc (g .lines); line = begin; ending = Going } ≡ counted g (withReturned (g .lot) a)
+  returned-more e = rw e
+
+module _ {t : Tally} {nodes lookup cache c : List ℕ} {m : Placed} {nodes′ lookup′ cache′ : List ℕ} {r : Tally} where
+  take-passed-full : AddCall (t .store) nodes lookup cache (t .passed) c m nodes′ lookup′ cache′ → (x : Refusal) → m .answer ≡ NoHandle x → TallyIs (m .store) (t .passed) (t .returned) (t .lines) Full r
+      → LineIt t nodes lookup cache Passed c r nodes′ lookup′ cache′
+  take-passed-full C x e T =
+      record {
+        keeps = λ capacity g K.
+            let A = for-passed K C in
+            subst (λ y. Keeps capacity r nodes′ lookup′ cache′ y) (passed-full g (added capacity (g .lot .book) (g .lot .passed) c) (refused-full A x e)) (full-keeps K A (added-grown capacity (g .lot .book) (g .lot .passed) c) T);
+      }
+
+  take-returned-full : AddCall (t .store) nodes lookup cache (t .returned) c m nodes′ lookup′ cache′ → (x : Refusal) → m .answer ≡ NoHandle x → TallyIs (m .store) (t .passed) (t .returned) (t .lines) Full r
+      → LineIt t nodes lookup cache Returned c r nodes′ lookup′ cache′
+  take-returned-full C x e T =
+      record {
+        keeps = λ capacity g K.
+            let A = for-returned K C in
+            subst (λ y. Keeps capacity r nodes′ lookup′ cache′ y) (returned-full g (added capacity (g .lot .book) (g .lot .returned) c) (refused-full A x e)) (full-keeps K A (added-grown capacity (g .lot .book) (g .lot .returned) c) T);
+      }
+
+  take-passed-more : AddCall (t .store) nodes lookup cache (t .passed) c m nodes′ lookup′ cache′ → {h n : ℕ} → m .answer ≡ Handle h → n ≡ capped (suc (t .lines)) → TallyIs (m .store) h (t .returned) n Going r
+      → LineIt t nodes lookup cache Passed c r nodes′ lookup′ cache′
+  take-passed-more C {h} e en T =
+      record {
+        keeps = λ capacity g K.
+            let A = for-passed K C in
+            let w = added-grown capacity (g .lot .book) (g .lot .passed) c in
+            subst (λ y. Keeps capacity r nodes′ lookup′ cache′ y) (passed-more g (added capacity (g .lot .book) (g .lot .passed) c) (gives A h e .going))
+            (more-keeps K A w (given-stays K A w h e) (same K A w (t .returned) (g .lot .returned) (K .returned-held) (K .returned-is)) en T);
+      }
+
+  take-returned-more : AddCall (t .store) nodes lookup cache (t .returned) c m nodes′ lookup′ cache′ → {h n : ℕ} → m .answer ≡ Handle h → n ≡ capped (suc (t .lines)) → TallyIs (m .store) (t .passed) h n Going r
+      → LineIt t nodes lookup cache Returned c r nodes′ lookup′ cache′
+  take-returned-more C {h} e en T =
+      record {
+        keeps = λ capacity g K.
+            let A = for-returned K C in
+            let w = added-grown capacity (g .lot .book) (g .lot .returned) c in
+            subst (λ y. Keeps capacity r nodes′ lookup′ cache′ y) (returned-more g (added capacity (g .lot .book) (g .lot .returned) c) (gives A h e .going))
+            (more-keeps K A w (same K A w (t .passed) (g .lot .passed) (K .passed-held) (K .passed-is)) (given-stays K A w h e) en T);
+      }
+
+-- the tally behind a line, by what adding it gave
+module _ {t : Tally} {m : Placed} {r : Tally} where
+  pub end-full : (d : Side) (x : Refusal) → m .answer ≡ NoHandle x → TallyIs (m .store) (t .passed) (t .returned) (t .lines) Full r → LineEnd t d m r
+  end-full Passed x e T = record { is = λ nodes lookup cache c nodes′ lookup′ cache′ C. take-passed-full C x e T }
+  end-full Returned x e T = record { is = λ nodes lookup cache c nodes′ lookup′ cache′ C. take-returned-full C x e T }
+
+  pub end-passed : {d : Side} {h n : ℕ} → d ≡ Passed → m .answer ≡ Handle h → n ≡ capped (suc (t .lines)) → TallyIs (m .store) h (t .returned) n Going r → LineEnd t d m r
+  end-passed ed e en T = rw ed record { is = λ nodes lookup cache c nodes′ lookup′ cache′ C. take-passed-more C e en T }
+
+  pub end-returned : {d : Side} {h n : ℕ} → d ≡ Returned → m .answer ≡ Handle h → n ≡ capped (suc (t .lines)) → TallyIs (m .store) (t .passed) h n Going r → LineEnd t d m r
+  end-returned ed e en T = rw ed record { is = λ nodes lookup cache c nodes′ lookup′ cache′ C. take-returned-more C e en T }
+
+pub line-added : {t : Tally} {nodes lookup cache : List ℕ} {f : ℕ} {c : List ℕ} {m : Placed} {r : Tally} {nodes′ lookup′ cache′ : List ℕ} (d : Side) → f ≡ familyOf d t
+    → AddCall (t .store) nodes lookup cache f c m nodes′ lookup′ cache′ → LineEnd t d m r → LineIt t nodes lookup cache d c r nodes′ lookup′ cache′
+line-added d e C E = E .is _ _ _ _ _ _ _ (rw e at C)
+
+-- one byte more of the line, whatever the ending was
+pub record NextIt (t : Tally) (nodes lookup cache : List ℕ) (b : ℕ) (r : Tally) (nodes′ lookup′ cache′ : List ℕ) : Type 0 where
+  pub keeps : (capacity : ℕ) (g : Log) → Keeps capacity t nodes lookup cache g → Keeps capacity r nodes′ lookup′ cache′ (readOn capacity g (step (g .line) b) (step (g .line) b .progress))
+
+module _ {t : Tally} {nodes lookup cache : List ℕ} (b : ℕ) (next : Reading) (e : stateOf next ≡ step (stateOf (t .reading)) b) where
+  read-is : {capacity : ℕ} {g : Log} → Keeps capacity t nodes lookup cache g → stateOf next ≡ step (g .line) b
+  read-is K = e ∙ ap (λ s. step s b) (K .line-is)
+
+  staged : {capacity : ℕ} {g : Log} → Keeps capacity t nodes lookup cache g → {st : Stage} → next .stage ≡ st → step (g .line) b .progress ≡ progressOf st (next .side) (itemsOf (next .items .words)) (next .item)
+  staged K d = sym (ap (λ s. s .progress) (read-is K)) ∙ ap (λ x. progressOf x (next .side) (itemsOf (next .items .words)) (next .item)) d
+
+  pub next-whole : {r : Tally} {nodes′ lookup′ cache′ : List ℕ} → next .stage ≡ Stage.Whole → LineIt t nodes lookup cache (next .side) (itemsOf (next .items .words)) r nodes′ lookup′ cache′ → NextIt t nodes lookup cache b r nodes′ lookup′ cache′
+  next-whole {r} {nodes′} {lookup′} {cache′} d L =
+      record { keeps = λ capacity g K. subst (λ p. Keeps capacity r nodes′ lookup′ cache′ (readOn capacity g (step (g .line) b) p)) (sym (staged K d)) (L .keeps capacity g K) }
+
+pub next-read : {t : Tally} {nodes lookup cache : List ℕ} (b : ℕ) (next : Reading) → stateOf next ≡ step (stateOf (t .reading)) b → {st : Stage} → next .stage ≡ st → {r : Tally} (end : Ending)
+    → (r .store ≡ t .store) × (r .passed ≡ t .passed) × (r .returned ≡ t .returned) × (r .lines ≡ t .lines) × (r .reading ≡ next) × (r .ending ≡ end)
+    → ((capacity : ℕ) (g : Log) (s : State) (d : Side) (c : List ℕ) (n : ℕ) → readOn capacity g s (progressOf st d c n) ≡ record { lot = g .lot; lines = g .lines; line = s; ending = end })
+    → NextIt t nodes lookup cache b r nodes lookup cache
+next-read {t} {nodes} {lookup} {cache} b next e {st} d {r} end f h =
+    record {
+      keeps = λ capacity g K.
+          subst (λ x. Keeps capacity r nodes lookup cache x)
+          (sym (h capacity g (step (g .line) b) (next .side) (itemsOf (next .items .words)) (next .item)) ∙ sym (ap (λ p. readOn capacity g (step (g .line) b) p) (staged b next e K d)))
+          (read-keeps K r (f .0) (f .1) (f .2) (f .3) (ap stateOf (f .4) ∙ read-is b next e K) (f .5));
+    }
+
+-- the stages at which a line goes on: blank, letter, space, number
+abbrev going : List ℕ
+going = 0 ∷ 1 ∷ 2 ∷ 3 ∷ []
+
+going-on : (st : Stage) → OneOf going (tagOf the-stage st) → (capacity : ℕ) (g : Log) (s : State) (d : Side) (c : List ℕ) (n : ℕ)
+    → readOn capacity g s (progressOf st d c n) ≡ record { lot = g .lot; lines = g .lines; line = s; ending = Going }
+going-on Stage.Blank k capacity g s d c n = refl
+going-on Stage.Letter k capacity g s d c n = refl
+going-on Stage.Space k capacity g s d c n = refl
+going-on Stage.Number k capacity g s d c n = refl
+going-on Stage.Whole k capacity g s d c n = absurd (miss going 4 tt k)
+going-on Stage.Malformed k capacity g s d c n = absurd (miss going 5 tt k)
+
+pub next-going : {t : Tally} {nodes lookup cache : List ℕ} (b : ℕ) (next : Reading) → stateOf next ≡ step (stateOf (t .reading)) b → OneOf going (tagOf the-stage (next .stage)) → {r : Tally}
+    → (r .store ≡ t .store) × (r .passed ≡ t .passed) × (r .returned ≡ t .returned) × (r .lines ≡ t .lines) × (r .reading ≡ next) × (r .ending ≡ Going) → NextIt t nodes lookup cache b r nodes lookup cache
+next-going b next e k f = next-read b next e refl Going f (going-on (next .stage) k)
+
+stopped : (x : Ending) → OneOf (1 ∷ 2 ∷ []) (tagOf the-ending x) → (u w : Log) → whileGoing x u w ≡ w
+stopped Ending.Going k u w = absurd (miss (1 ∷ 2 ∷ []) 0 tt k)
+stopped Ending.Refused k u w = refl
+stopped Ending.Full k u w = refl
+
+-- one byte, by whether the log goes on
+module _ {t : Tally} {nodes lookup cache : List ℕ} {b : ℕ} where
+  pub byte-going : {r : Tally} {nodes′ lookup′ cache′ : List ℕ} → t .ending ≡ Going → NextIt t nodes lookup cache b r nodes′ lookup′ cache′ → TakeCall t nodes lookup cache (b ∷ []) r nodes′ lookup′ cache′
+  unfolding logByte
+  byte-going {r} {nodes′} {lookup′} {cache′} e N =
+      record {
+        keeps = λ capacity g K.
+            subst (λ x. Keeps capacity r nodes′ lookup′ cache′ (whileGoing x (readOn capacity g (step (g .line) b) (step (g .line) b .progress)) g)) (sym e ∙ K .ending-is) (N .keeps capacity g K);
+      }
+
+  -- a log that ended, either way
+  pub byte-ended : OneOf (1 ∷ 2 ∷ []) (tagOf the-ending (t .ending)) → TakeCall t nodes lookup cache (b ∷ []) t nodes lookup cache
+  unfolding logByte
+  byte-ended k =
+      record {
+        keeps = λ capacity g K.
+            subst (λ y. Keeps capacity t nodes lookup cache y)
+            (sym (stopped (t .ending) k (readOn capacity g (step (g .line) b) (step (g .line) b .progress)) g) ∙ ap (λ y. whileGoing y (readOn capacity g (step (g .line) b) (step (g .line) b .progress)) g) (K .ending-is)) K;
+      }
+
+-- a piece, byte by byte
+pub record Taking (t₀ : Tally) (nodes₀ lookup₀ cache₀ piece nodes lookup cache : List ℕ) (t : Tally) (i : ℕ) : Type 0 where
+  pub low : i ≤ length piece
+  pub long : length nodes ≡ length nodes₀
+  pub long-lookup : length lookup ≡ length lookup₀
+  pub long-cache : length cache ≡ length cache₀
+  pub taken : TakeCall t₀ nodes₀ lookup₀ cache₀ (take i piece) t nodes lookup cache
+
+pub taking-start : (t : Tally) (nodes lookup cache piece : List ℕ) (i : ℕ) → i ≡ 0 → Taking t nodes lookup cache piece nodes lookup cache t i
+taking-start t nodes lookup cache piece i e = record { low = omega arith; long = refl; long-lookup = refl; long-cache = refl; taken = rw e record { keeps = λ capacity g K. K } }
+
+module _ {t₀ : Tally} {nodes₀ lookup₀ cache₀ piece nodes lookup cache : List ℕ} {t : Tally} {i : ℕ} (I : Taking t₀ nodes₀ lookup₀ cache₀ piece nodes lookup cache t i) where
+  pub taking-again : {r : Tally} {nodes′ lookup′ cache′ : List ℕ} → i < length piece → TakeCall t nodes lookup cache (getD piece i 0 ∷ []) r nodes′ lookup′ cache′
+      → length nodes′ ≡ length nodes → length lookup′ ≡ length lookup → length cache′ ≡ length cache → Taking t₀ nodes₀ lookup₀ cache₀ piece nodes′ lookup′ cache′ r (i + 1)
+  taking-again {r} {nodes′} {lookup′} {cache′} l C a b c =
+      let s : i + 1 ≡ suc i = omega arith in
+      record {
+        low = omega arith;
+        long = a ∙ I .long;
+        long-lookup = b ∙ I .long-lookup;
+        long-cache = c ∙ I .long-cache;
+        taken = record {
+          keeps = λ capacity g K.
+              subst (λ x. Keeps capacity r nodes′ lookup′ cache′ x)
+              (sym (ap (λ x. feed capacity g x) (ap (λ k. take k piece) s ∙ take-suc piece i 0 l) ∙ foldl-append (logByte capacity) g (take i piece) (getD piece i 0 ∷ [])))
+              (C .keeps capacity (feed capacity g (take i piece)) (I .taken .keeps capacity g K));
+        };
+      }
+
+  pub taking-end : length piece ≤ i → TakeCall t₀ nodes₀ lookup₀ cache₀ piece t nodes lookup cache
+  taking-end l = rw (take-all i piece l) at (I .taken)

@@ -1,0 +1,55 @@
+-- The tally behind a line: the store was full and nothing else changes, or the handle of the line's family is the new one.
+-- The laws of `Logs` have one case for each way out.
+use borrow.Author.Needs.{needs}
+use Rattle.report_log.proofs.Logs.{end-full, end-passed, end-returned}
+use Rattle.report_log.proofs.taking.line_end.Statement.{statement}
+use Rattle.report_log.proofs.taking.line_end.Tie as tie
+
+enum-known-answer : tie.Need-enum-known-answer
+enum-known-answer c = search needs
+
+enum-told : tie.Need-enum-told
+enum-told c = search needs
+
+tally-of-requires : tie.Need-tally-of-requires
+tally-of-requires c κs = search needs
+
+returns : tie.Need-returns
+returns c = end-full _ _ ((c .before) .enum-told .given .1) (c .tally-of .ensures)
+
+bumped-requires : tie.Need-bumped-requires
+bumped-requires c κs = search needs
+
+enum-told-2 : tie.Need-enum-told-2
+enum-told-2 c = search needs
+
+tally-of-requires-2 : tie.Need-tally-of-requires-2
+tally-of-requires-2 c κs = search needs
+
+enum-told-3 : tie.Need-enum-told-3
+enum-told-3 c = search needs
+
+tally-of-requires-3 : tie.Need-tally-of-requires-3
+tally-of-requires-3 c κs = search needs
+
+returns-2 : tie.Need-returns-2
+returns-2 c = end-passed ((c .before) .enum-told2 .given .1) ((c .before .before .before .before .before) .answer .given .1) ((c .before .before .before) .bumped .ensures) (c .tally-of2 .ensures)
+
+returns-3 : tie.Need-returns-3
+returns-3 c = end-returned ((c .before) .enum-told3 .given .1) ((c .before .before .before .before .before) .answer .given .1) ((c .before .before .before) .bumped .ensures) (c .tally-of3 .ensures)
+
+pub line-end-spec : {M : Type 1} → statement M
+line-end-spec =
+    tie.close
+    (tie.spec
+    enum-known-answer
+    enum-told
+    tally-of-requires
+    returns
+    bumped-requires
+    enum-told-2
+    tally-of-requires-2
+    enum-told-3
+    tally-of-requires-3
+    returns-2
+    returns-3)

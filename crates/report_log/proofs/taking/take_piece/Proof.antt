@@ -1,0 +1,75 @@
+-- A piece is taken byte by byte.
+-- Before each turn the bytes up to i are taken.
+use borrow.Author.Needs.{needs}
+use Prim.Native.Nat.{_-_}
+use mathlib.Core.Path.{refl}
+use lib.ListN.{length}
+use native.Mathlib.Omega.{arith}
+use Rattle.report_log.proofs.Logs.{Taking, taking-start, taking-again, taking-end}
+use Rattle.report_log.proofs.taking.take_piece.Statement.{statement}
+use Rattle.report_log.proofs.taking.take_piece.Tie as tie
+
+abbrev Inv-loop : tie.InvT-loop
+Inv-loop nodes₀ lookup₀ cache₀ piece taken₀ i₀ nodes lookup cache taken i = Taking taken₀ nodes₀ lookup₀ cache₀ piece nodes lookup cache taken i
+
+abbrev μ-loop : tie.MeasureT-loop
+μ-loop nodes₀ lookup₀ cache₀ piece taken₀ i₀ nodes lookup cache taken i = length piece - i
+
+abbrev start·After-slice-known6 : tie.After-slice-known6 Inv-loop μ-loop → tie.Start Inv-loop μ-loop
+start·After-slice-known6 c = c .before .before .before .before .before .before .before .before .before .before .before .before .before .before .before .before .before
+
+abbrev loop-test·After-slice-known6 : tie.After-slice-known6 Inv-loop μ-loop → tie.In-loop Inv-loop μ-loop
+loop-test·After-slice-known6 c = c .before .before .before .before .before .before .before .before .before .before .before
+
+abbrev loop·After-slice-known6 : tie.After-slice-known6 Inv-loop μ-loop → tie.At-loop Inv-loop μ-loop
+loop·After-slice-known6 c = c .before .before .before .before .before .before .before .before .before .before .before .before
+
+abbrev take-byte·After-slice-known6 : tie.After-slice-known6 Inv-loop μ-loop → tie.After-take-byte Inv-loop μ-loop
+take-byte·After-slice-known6 c = c .before .before .before .before .before .before
+
+loop-holds : tie.Need-loop-holds Inv-loop μ-loop
+loop-holds c = taking-start _ _ _ _ _ _ refl
+
+shared-slice-read-take-byte : tie.Need-shared-slice-read-take-byte Inv-loop μ-loop
+shared-slice-read-take-byte c = search needs
+
+take-byte-requires : tie.Need-take-byte-requires Inv-loop μ-loop
+take-byte-requires c κs = search needs
+
+add-i : tie.Need-add-i Inv-loop μ-loop
+add-i c = record { fits = omega (arith, (start·After-slice-known6 c) .good .1 .1 .1 .1 .0, (loop-test·After-slice-known6 c) .loop-test .taken) }
+
+loop-less : tie.Need-loop-less Inv-loop μ-loop
+loop-less c = search needs
+
+loop-again : tie.Need-loop-again Inv-loop μ-loop
+loop-again c = taking-again ((loop·After-slice-known6 c) .loop .inv) ((loop-test·After-slice-known6 c) .loop-test .taken) ((take-byte·After-slice-known6 c) .take-byte .ensures) ((take-byte·After-slice-known6 c) .take-byte .kept .1 .0) ((take-byte·After-slice-known6 c) .take-byte .kept .1 .1 .0) ((take-byte·After-slice-known6 c) .take-byte .kept .1 .1 .1 .0)
+
+same-length : tie.Need-same-length Inv-loop μ-loop
+same-length c = (c .before) .loop .inv .long
+
+same-length-2 : tie.Need-same-length-2 Inv-loop μ-loop
+same-length-2 c = (c .before) .loop .inv .long-lookup
+
+same-length-3 : tie.Need-same-length-3 Inv-loop μ-loop
+same-length-3 c = (c .before) .loop .inv .long-cache
+
+returns : tie.Need-returns Inv-loop μ-loop
+returns c = taking-end ((c .before) .loop .inv) (c .loop-test .left)
+
+pub take-piece-spec : {M : Type 1} → statement M
+take-piece-spec =
+    tie.close
+    (tie.spec
+    Inv-loop
+    μ-loop
+    loop-holds
+    shared-slice-read-take-byte
+    take-byte-requires
+    add-i
+    loop-less
+    loop-again
+    same-length
+    same-length-2
+    same-length-3
+    returns)

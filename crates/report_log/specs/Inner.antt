@@ -1,0 +1,35 @@
+-- What the functions below `take_piece` promise each other. A reader of the promises can pass this page over.
+use Prim.Native.Nat.{ℕ}
+use mathlib.Core.Path.{_≡_}
+use mathlib.Core.List.{List}
+use Rattle.store.specs.declared.record.Store.{Store}
+use Rattle.store.specs.declared.record.Placed.{Placed}
+use Rattle.report_line.specs.declared.Side.{Side}
+use Rattle.report_line.specs.declared.Side.the-variants.{Passed, Returned}
+use Rattle.report_log.specs.declared.tally.Ending.{Ending}
+use Rattle.report_log.specs.declared.tally.Tally.{Tally}
+use Rattle.report_add.specs.Promise.{AddCall}
+use Rattle.report_line.specs.Line.{begin, stateOf}
+use Rattle.report_log.specs.Log.{Log, takeLine, counted, Keeps}
+
+-- a tally by its fields, behind the end of a line
+pub record TallyIs (s : Store) (passed returned lines : ℕ) (e : Ending) (t : Tally) : Type 0 where
+  pub store-is : t .store ≡ s
+  pub passed-is : t .passed ≡ passed
+  pub returned-is : t .returned ≡ returned
+  pub lines-is : t .lines ≡ lines
+  pub line-is : stateOf (t .reading) ≡ begin
+  pub ending-is : t .ending ≡ e
+
+-- a whole line taken
+pub record LineIt (t : Tally) (nodes lookup cache : List ℕ) (d : Side) (c : List ℕ) (r : Tally) (nodes′ lookup′ cache′ : List ℕ) : Type 0 where
+  pub keeps : (capacity : ℕ) (g : Log) → Keeps capacity t nodes lookup cache g → Keeps capacity r nodes′ lookup′ cache′ (counted g (takeLine capacity (g .lot) d c))
+
+-- the family that a line of a side goes to
+abbrev pub familyOf : Side → Tally → ℕ
+familyOf Passed t = t .passed
+familyOf Returned t = t .returned
+
+-- the tally behind a line of a side, by what adding it gave
+pub record LineEnd (t : Tally) (d : Side) (m : Placed) (r : Tally) : Type 0 where
+  pub is : (nodes lookup cache c nodes′ lookup′ cache′ : List ℕ) → AddCall (t .store) nodes lookup cache (familyOf d t) c m nodes′ lookup′ cache′ → LineIt t nodes lookup cache d c r nodes′ lookup′ cache′

@@ -1,0 +1,3 @@
+-- What the contracts of `report_log` cite.
+pub mod Log
+pub mod Inner

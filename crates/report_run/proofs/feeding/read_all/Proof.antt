@@ -1,0 +1,90 @@
+-- Pieces are read and taken until the input or the log ends.
+-- Before each turn all that was read is taken; the count of turns falls.
+use borrow.Author.Needs.{needs}
+use Prim.Native.Nat.{_<_}
+use mathlib.Core.Path.{_∙_}
+use native.Mathlib.Omega.{arith}
+use Rattle.report_run.proofs.Onward.{Onward, onward-start, onward-again}
+use Rattle.report_run.proofs.feeding.read_all.Statement.{statement}
+use Rattle.report_run.proofs.feeding.read_all.Tie as tie
+
+abbrev Inv-loop : tie.InvT-loop
+Inv-loop fd most nodes₀ lookup₀ cache₀ turn₀ turns₀ nodes lookup cache turn turns = Onward (turn₀ .tally) nodes₀ lookup₀ cache₀ nodes lookup cache (turn .tally)
+
+abbrev μ-loop : tie.MeasureT-loop
+μ-loop fd most nodes₀ lookup₀ cache₀ turn₀ turns₀ nodes lookup cache turn turns = turns
+
+abbrev read-piece·At-match-keys2 : tie.At-match-keys2 Inv-loop μ-loop → tie.After-read-piece Inv-loop μ-loop
+read-piece·At-match-keys2 c = c .before .before .before .before .before .before .before
+
+abbrev loop·At-match-keys2 : tie.At-match-keys2 Inv-loop μ-loop → tie.At-loop Inv-loop μ-loop
+loop·At-match-keys2 c = c .before .before .before .before .before .before .before .before .before .before .before .before
+
+abbrev loop·After-enum-told : tie.After-enum-told Inv-loop μ-loop → tie.At-loop Inv-loop μ-loop
+loop·After-enum-told c = c .before .before .before .before .before .before .before .before .before .before .before .before .before
+
+abbrev read-piece·After-enum-told : tie.After-enum-told Inv-loop μ-loop → tie.After-read-piece Inv-loop μ-loop
+read-piece·After-enum-told c = c .before .before .before .before .before .before .before .before
+
+loop-holds : tie.Need-loop-holds Inv-loop μ-loop
+loop-holds c = onward-start _ _ _ _
+
+read-piece-requires : tie.Need-read-piece-requires Inv-loop μ-loop
+read-piece-requires c κs = search needs
+
+enum-told : tie.Need-enum-told Inv-loop μ-loop
+enum-told c = search needs
+
+same-length : tie.Need-same-length Inv-loop μ-loop
+same-length c = (read-piece·At-match-keys2 c) .read-piece .kept .1 .1 .1 .0 ∙ (loop·At-match-keys2 c) .loop .inv .long
+
+same-length-2 : tie.Need-same-length-2 Inv-loop μ-loop
+same-length-2 c = (read-piece·At-match-keys2 c) .read-piece .kept .1 .1 .1 .1 .0 ∙ (loop·At-match-keys2 c) .loop .inv .long-lookup
+
+same-length-3 : tie.Need-same-length-3 Inv-loop μ-loop
+same-length-3 c = (read-piece·At-match-keys2 c) .read-piece .kept .1 .1 .1 .1 .1 .0 ∙ (loop·At-match-keys2 c) .loop .inv .long-cache
+
+returns : tie.Need-returns Inv-loop μ-loop
+returns c = onward-again ((loop·At-match-keys2 c) .loop .inv) ((read-piece·At-match-keys2 c) .read-piece .ensures) ((read-piece·At-match-keys2 c) .read-piece .kept .1 .1 .1 .0) ((read-piece·At-match-keys2 c) .read-piece .kept .1 .1 .1 .1 .0) ((read-piece·At-match-keys2 c) .read-piece .kept .1 .1 .1 .1 .1 .0) .follows
+
+sub-turns : tie.Need-sub-turns Inv-loop μ-loop
+sub-turns c = search needs
+
+loop-less : tie.Need-loop-less Inv-loop μ-loop
+loop-less c = search needs
+
+loop-again : tie.Need-loop-again Inv-loop μ-loop
+loop-again c = onward-again ((loop·After-enum-told c) .loop .inv) ((read-piece·After-enum-told c) .read-piece .ensures) ((read-piece·After-enum-told c) .read-piece .kept .1 .1 .1 .0) ((read-piece·After-enum-told c) .read-piece .kept .1 .1 .1 .1 .0) ((read-piece·After-enum-told c) .read-piece .kept .1 .1 .1 .1 .1 .0)
+
+same-length-4 : tie.Need-same-length-4 Inv-loop μ-loop
+same-length-4 c = (c .before) .loop .inv .long
+
+same-length-5 : tie.Need-same-length-5 Inv-loop μ-loop
+same-length-5 c = (c .before) .loop .inv .long-lookup
+
+same-length-6 : tie.Need-same-length-6 Inv-loop μ-loop
+same-length-6 c = (c .before) .loop .inv .long-cache
+
+returns-2 : tie.Need-returns-2 Inv-loop μ-loop
+returns-2 c = (c .before) .loop .inv .follows
+
+pub read-all-spec : {M : Type 1} → statement M
+read-all-spec =
+    tie.close
+    (tie.spec
+    Inv-loop
+    μ-loop
+    loop-holds
+    read-piece-requires
+    enum-told
+    same-length
+    same-length-2
+    same-length-3
+    returns
+    sub-turns
+    loop-less
+    loop-again
+    same-length-4
+    same-length-5
+    same-length-6
+    returns-2)

@@ -1,0 +1,46 @@
+-- A read of the front of a buffer, or of all of it.
+-- The part is shorter than the buffer.
+use borrow.Author.Needs.{needs}
+use native.Mathlib.Omega.{arith}
+use mathlib.Core.Path.{sym}
+use lib.Seq.{length-take-le}
+use borrow.Author.Needs.{needs}
+use Rattle.report_run.proofs.feeding.read_some.Statement.{statement}
+use Rattle.report_run.proofs.feeding.read_some.Tie as tie
+
+slice-relend-prefix-read : tie.Need-slice-relend-prefix-read
+slice-relend-prefix-read c = search needs
+
+read-requires : tie.Need-read-requires
+read-requires c κs = search needs
+
+same-length : tie.Need-same-length
+same-length c = search needs
+
+returns : tie.Need-returns
+returns c = search needs
+
+read-requires-2 : tie.Need-read-requires-2
+read-requires-2 c κs = search needs
+
+same-length-2 : tie.Need-same-length-2
+same-length-2 c = search needs
+
+returns-2 : tie.Need-returns-2
+returns-2 c = search needs
+
+slice-aggregate-read : tie.Need-slice-aggregate-read
+slice-aggregate-read c = sym (length-take-le ((c .before .before .before) .args .most) _ (omega (arith, (c .before) .if1 .taken)))
+
+pub read-some-spec : {M : Type 1} → statement M
+read-some-spec =
+    tie.close
+    (tie.spec
+    slice-relend-prefix-read
+    slice-aggregate-read
+    read-requires
+    same-length
+    returns
+    read-requires-2
+    same-length-2
+    returns-2)

@@ -1,0 +1,98 @@
+-- The digits of a number: those of its tenth, then its last one.
+-- The number falls by the division, and its digits are one more than those of its tenth.
+use borrow.Author.Needs.{needs}
+use native.Mathlib.Omega.{arith}
+use mathlib.Core.Path.{_∙_}
+use Prim.Native.Nat.{_/_}
+use Rattle.report_text.proofs.Writings.{one-digit, one-more, spelled-small, spelled-more}
+use Prim.Native.Nat.{ℕ, _<_}
+use borrow.Fn.Kinds.{In}
+use borrow.Fn.PlainCycle.{Measures, is, falls, and}
+use Rattle.report_text.proofs.spell.Reads as spell
+use Rattle.report_text.proofs.spell.Kinds as spell-kinds
+use Rattle.report_text.proofs.+spell.Lts-spell as spell-lts
+use Rattle.report_text.proofs.put_byte.Reads as put-byte-reads
+use Rattle.report_text.proofs.+spell.{statement}
+use Rattle.report_text.proofs.+spell.Tie.{close}
+
+abbrev μ-spell : Measures 1 spell-kinds.ps ℕ
+μ-spell κs a = a .1 .1 .0
+
+abbrev spell-at : ℕ → In 1 spell-kinds.ps
+spell-at t = and 1 spell-kinds.ps (is 1 spell-kinds.ps μ-spell t) spell.Pre
+
+abbrev spell-below : ℕ → In 1 spell-kinds.ps
+spell-below t = and 1 spell-kinds.ps (falls 1 spell-kinds.ps _<_ μ-spell t) spell.Pre
+
+abbrev spell-claims : ℕ → spell-lts.Claims
+spell-claims t = (put-byte-reads.Asked, put-byte-reads.Learnt, spell-below t, spell.Post)
+
+abbrev start·spell·After-slice-known2 : (t : ℕ) → spell-lts.After-slice-known2 (spell-claims t) (spell-at t) spell.Post → spell-lts.Start (spell-claims t) (spell-at t) spell.Post
+start·spell·After-slice-known2 t c = c .before .before .before .before .before .before
+
+abbrev if1·spell·After-slice-known2 : (t : ℕ) → spell-lts.After-slice-known2 (spell-claims t) (spell-at t) spell.Post → spell-lts.Then1 (spell-claims t) (spell-at t) spell.Post
+if1·spell·After-slice-known2 t c = c .before .before .before .before
+
+abbrev start·spell·After-put-byte-arg2 : (t : ℕ) → spell-lts.After-put-byte-arg2 (spell-claims t) (spell-at t) spell.Post → spell-lts.Start (spell-claims t) (spell-at t) spell.Post
+start·spell·After-put-byte-arg2 t c = c .before .before .before .before .before .before .before
+
+abbrev if1·spell·After-put-byte-arg2 : (t : ℕ) → spell-lts.After-put-byte-arg2 (spell-claims t) (spell-at t) spell.Post → spell-lts.Else1 (spell-claims t) (spell-at t) spell.Post
+if1·spell·After-put-byte-arg2 t c = c .before .before .before .before .before
+
+abbrev spell·spell·After-slice-known4 : (t : ℕ) → spell-lts.After-slice-known4 (spell-claims t) (spell-at t) spell.Post → spell-lts.After-spell (spell-claims t) (spell-at t) spell.Post
+spell·spell·After-slice-known4 t c = c .before .before .before .before .before .before
+
+abbrev start·spell·After-slice-known4 : (t : ℕ) → spell-lts.After-slice-known4 (spell-claims t) (spell-at t) spell.Post → spell-lts.Start (spell-claims t) (spell-at t) spell.Post
+start·spell·After-slice-known4 t c = c .before .before .before .before .before .before .before .before .before .before
+
+abbrev if1·spell·After-slice-known4 : (t : ℕ) → spell-lts.After-slice-known4 (spell-claims t) (spell-at t) spell.Post → spell-lts.Else1 (spell-claims t) (spell-at t) spell.Post
+if1·spell·After-slice-known4 t c = c .before .before .before .before .before .before .before .before
+
+spell-cast-put-byte : (t : ℕ) → spell-lts.Need-cast-put-byte (spell-claims t) (spell-at t) spell.Post
+spell-cast-put-byte t c = search needs
+
+spell-add-put-byte : (t : ℕ) → spell-lts.Need-add-put-byte (spell-claims t) (spell-at t) spell.Post
+spell-add-put-byte t c = search needs
+
+spell-put-byte-requires : (t : ℕ) → spell-lts.Need-put-byte-requires (spell-claims t) (spell-at t) spell.Post
+spell-put-byte-requires t c κs = omega (arith, (c .before .before .before) .pre .1, one-digit ((c .before .before .before) .args .n) ((c .before) .if1 .taken))
+
+spell-same-length : (t : ℕ) → spell-lts.Need-same-length (spell-claims t) (spell-at t) spell.Post
+spell-same-length t c = search needs
+
+spell-returns : (t : ℕ) → spell-lts.Need-returns (spell-claims t) (spell-at t) spell.Post
+spell-returns t c = spelled-small ((start·spell·After-slice-known2 t c) .args .n) ((if1·spell·After-slice-known2 t c) .if1 .taken) ((c .before .before) .put-byte .ensures)
+
+spell-spell-requires : (t : ℕ) → spell-lts.Need-spell-requires (spell-claims t) (spell-at t) spell.Post
+spell-spell-requires t c κs = (omega (arith, (c .before .before .before) .pre .0, (c .before) .if1 .left), omega (arith, (c .before .before .before) .pre .1, one-more ((c .before .before .before) .args .n) ((c .before) .if1 .left)))
+
+spell-cast-put-byte-2 : (t : ℕ) → spell-lts.Need-cast-put-byte-2 (spell-claims t) (spell-at t) spell.Post
+spell-cast-put-byte-2 t c = search needs
+
+spell-add-put-byte-2 : (t : ℕ) → spell-lts.Need-add-put-byte-2 (spell-claims t) (spell-at t) spell.Post
+spell-add-put-byte-2 t c = search needs
+
+spell-put-byte-requires-2 : (t : ℕ) → spell-lts.Need-put-byte-requires-2 (spell-claims t) (spell-at t) spell.Post
+spell-put-byte-requires-2 t c κs = omega (arith, (start·spell·After-put-byte-arg2 t c) .pre .1, one-more ((start·spell·After-put-byte-arg2 t c) .args .n) ((if1·spell·After-put-byte-arg2 t c) .if1 .left), (c .before .before .before) .spell .ensures .end, (c .before .before .before) .spell .kept .0)
+
+spell-same-length-2 : (t : ℕ) → spell-lts.Need-same-length-2 (spell-claims t) (spell-at t) spell.Post
+spell-same-length-2 t c = (c .before .before) .put-byte2 .kept .0 ∙ (spell·spell·After-slice-known4 t c) .spell .kept .0
+
+spell-returns-2 : (t : ℕ) → spell-lts.Need-returns-2 (spell-claims t) (spell-at t) spell.Post
+spell-returns-2 t c = spelled-more ((start·spell·After-slice-known4 t c) .args .n) ((if1·spell·After-slice-known4 t c) .if1 .left) ((spell·spell·After-slice-known4 t c) .spell .ensures) ((c .before .before) .put-byte2 .ensures)
+
+pub +spell-spec : {M : Type 1} → statement M
++spell-spec = close μ-spell λ t. spell-lts.spec (spell-claims t)
+    (spell-at t)
+    spell.Post
+    (spell-cast-put-byte t)
+    (spell-add-put-byte t)
+    (spell-put-byte-requires t)
+    (spell-same-length t)
+    (spell-returns t)
+    (spell-spell-requires t)
+    (spell-cast-put-byte-2 t)
+    (spell-add-put-byte-2 t)
+    (spell-put-byte-requires-2 t)
+    (spell-same-length-2 t)
+    (spell-returns-2 t)

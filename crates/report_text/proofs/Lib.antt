@@ -1,0 +1,2 @@
+-- The laws of `report_text`.
+pub mod Writings

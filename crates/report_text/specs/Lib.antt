@@ -1,0 +1,2 @@
+-- What the contracts of `report_text` cite.
+pub mod Text

@@ -1,0 +1,64 @@
+-- `calls` is safe and ends: the measure is the number of calls that are left.
+-- Each turn keeps the lengths of the lent words.
+use mathlib.Core.Path.{_≡_}
+use lib.ListN.{length}
+use borrow.Author.Needs.{needs}
+use Rattle.run_fill.proofs.making.calls.Statement.{statement}
+use Rattle.run_fill.proofs.making.calls.Tie as tie
+
+abbrev Inv-loop : tie.InvT-loop
+Inv-loop unions number nodes₀ lookup₀ cache₀ at₀ left₀ nodes lookup cache at left = (length nodes ≡ length nodes₀) × (length lookup ≡ length lookup₀) × (length cache ≡ length cache₀)
+
+abbrev μ-loop : tie.MeasureT-loop
+μ-loop unions number nodes₀ lookup₀ cache₀ at₀ left₀ nodes lookup cache at left = left
+
+loop-holds : tie.Need-loop-holds Inv-loop μ-loop
+loop-holds c = search needs
+
+next-requires : tie.Need-next-requires Inv-loop μ-loop
+next-requires c κs = search needs
+
+run-call-requires : tie.Need-run-call-requires Inv-loop μ-loop
+run-call-requires c κs = search needs
+
+after-requires : tie.Need-after-requires Inv-loop μ-loop
+after-requires c κs = search needs
+
+sub-left : tie.Need-sub-left Inv-loop μ-loop
+sub-left c = search needs
+
+loop-less : tie.Need-loop-less Inv-loop μ-loop
+loop-less c = search needs
+
+loop-again : tie.Need-loop-again Inv-loop μ-loop
+loop-again c = search needs
+
+same-length : tie.Need-same-length Inv-loop μ-loop
+same-length c = search needs
+
+same-length-2 : tie.Need-same-length-2 Inv-loop μ-loop
+same-length-2 c = search needs
+
+same-length-3 : tie.Need-same-length-3 Inv-loop μ-loop
+same-length-3 c = search needs
+
+returns : tie.Need-returns Inv-loop μ-loop
+returns c = search needs
+
+pub calls-spec : {M : Type 1} → statement M
+calls-spec =
+    tie.close
+    (tie.spec
+    Inv-loop
+    μ-loop
+    loop-holds
+    next-requires
+    run-call-requires
+    after-requires
+    sub-left
+    loop-less
+    loop-again
+    same-length
+    same-length-2
+    same-length-3
+    returns)

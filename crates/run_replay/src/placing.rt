@@ -1,0 +1,151 @@
+// The lines of the six operations.
+use crate::draw::Drawn;
+use crate::draw::at_most;
+use crate::draw::handle;
+use crate::draw::item;
+use crate::lend::Lent;
+use crate::output::answer;
+use crate::output::lent_two;
+use crate::output::record;
+use crate::output::refused;
+use crate::output::sum_line;
+use crate::output::text;
+use crate::output::word;
+use crate::sums::cleared;
+use crate::sums::of_words;
+use op_families::calls::diff;
+use op_families::calls::intsec;
+use op_families::calls::union;
+use op_items::calls::change;
+use op_items::calls::subset0;
+use op_items::calls::subset1;
+use store::record::PlaceAnswer;
+use store::record::Placed;
+use store::record::Refusal;
+use store::record::Store;
+
+// An operation by its number, 1 to 6, and its two operands.
+pub struct Operation {
+    pub op: u32,
+    pub p: u32,
+    pub q: u32,
+}
+
+// Writes the name of an operation.
+fn name(op: u32) {
+    match op {
+        1 => text(b"Subset1"),
+        2 => text(b"Subset0"),
+        3 => text(b"Change"),
+        4 => text(b"Union"),
+        5 => text(b"Intsec"),
+        _ => text(b"Diff"),
+    }
+}
+
+// Runs an operation.
+fn run(
+    call: Operation,
+    store: Store,
+    nodes: &mut [u32],
+    lookup: &mut [u32],
+    cache: &mut [u32],
+) -> Placed {
+    let op = call.op;
+    match op {
+        1 => subset1(store, nodes, lookup, cache, call.p, call.q),
+        2 => subset0(store, nodes, lookup, cache, call.p, call.q),
+        3 => change(store, nodes, lookup, cache, call.p, call.q),
+        4 => union(store, nodes, lookup, cache, call.p, call.q),
+        5 => intsec(store, nodes, lookup, cache, call.p, call.q),
+        _ => diff(store, nodes, lookup, cache, call.p, call.q),
+    }
+}
+
+// Writes a refusal, and of the lent cache words: after 5 whether the whole groups are 0, else whether all are as before.
+fn refused_with(refusal: Refusal, cache: &[u32], before: u32) {
+    refused(refusal);
+    match refusal {
+        Refusal::Full => {
+            text(b" cleared");
+            answer(cleared(cache));
+        }
+        _ => {
+            text(b" stays");
+            answer(of_words(1, cache) == before);
+        }
+    }
+}
+
+// Writes what a call that places gave; `before` is the sum of the lent cache words before the call.
+pub fn given(placed: Placed, cache: &[u32], before: u32) {
+    let answer = placed.answer;
+    match answer {
+        PlaceAnswer::Handle(handle) => word(handle),
+        PlaceAnswer::Refused(refusal) => refused_with(refusal, cache, before),
+    }
+    record(placed.store);
+}
+
+// The sum of the node words and the lookup.
+pub fn words(nodes: &[u32], lookup: &[u32]) -> u32 {
+    of_words(of_words(1, nodes), lookup)
+}
+
+// Writes an operation, and how much is lent to it.
+fn call_text(call: Operation, slots: usize, part: usize) {
+    name(call.op);
+    word(call.p);
+    word(call.q);
+    lent_two(slots, part);
+}
+
+// Runs an operation and writes its line.
+pub fn line(
+    call: Operation,
+    lent: Lent,
+    nodes: &mut [u32],
+    lookup: &mut [u32],
+    cache: &mut [u32],
+) -> Placed {
+    let slots = at_most(lent.slots, lookup.len());
+    let part = at_most(lent.cache, cache.len());
+    let before = of_words(1, &cache[0..part]);
+    let placed = run(
+        call,
+        lent.record,
+        nodes,
+        &mut lookup[0..slots],
+        &mut cache[0..part],
+    );
+    call_text(call, slots, part);
+    given(placed, &cache[0..part], before);
+    sum_line(words(nodes, lookup));
+    placed
+}
+
+// The operation that is drawn.
+pub fn drawn_operation(op: u32, drawn: Drawn, items: u32, count: u32) -> Operation {
+    let p = handle(drawn.a, count);
+    if op < 4 {
+        return Operation {
+            op: op,
+            p: p,
+            q: item(drawn.b, items),
+        };
+    }
+    Operation {
+        op: op,
+        p: p,
+        q: handle(drawn.b, count),
+    }
+}
+
+// The record for the next call: the one given back with a handle, else the one before.
+pub fn next_record(placed: Placed, before: Store) -> Store {
+    let answer = placed.answer;
+    match answer {
+        PlaceAnswer::Handle(_) => placed.store,
+        PlaceAnswer::Refused(_) => before,
+    }
+}

@@ -1,2 +1,0 @@
--- What the contracts of `soundness` cite.
-pub mod Tests

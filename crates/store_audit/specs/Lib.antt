@@ -1,0 +1,3 @@
+-- What the contracts of `store_audit` cite.
+pub mod Promise
+pub mod Inner

@@ -1,0 +1,2 @@
+-- The laws of `store_fresh`.
+pub mod Freshly

@@ -1,0 +1,2 @@
+-- What the contracts of `store_fresh` cite.
+pub mod Promise

@@ -1,0 +1,54 @@
+-- The promise of Fresh: document 01, 'Calls' and 'Numbers and trade words'.
+use Prim.Native.Nat.{ℕ, _*_, _/_}
+use mathlib.Core.Path.{_≡_}
+use mathlib.Core.Bool.{Bool, cond}
+use mathlib.Core.List.{List}
+use lib.Dec.{ltb, leb}
+use lib.ListN.{length}
+use Rattle.words.specs.Words.{zeroed}
+use Rattle.store.specs.declared.record.Store.{Store}
+use Rattle.store_fresh.specs.declared.FreshAnswer.{FreshAnswer}
+use Rattle.store_fresh.specs.declared.FreshAnswer.the-variants.{Done, Refused}
+use Rattle.store_fresh.specs.declared.Freshened.{Freshened}
+use Rattle.store.specs.Capacity.{capacityOf}
+use Rattle.store.specs.Refusals.{refusalNumber}
+
+-- the number of Fresh's answer, 0 where it is not refused
+abbrev pub freshNumber : FreshAnswer → ℕ
+freshNumber Done = 0
+freshNumber (Refused r) = refusalNumber r
+
+-- all that Fresh leaves: the refusal's number, the record, and every lent word
+pub record FreshLeft : Type 0 where
+  pub refusal : ℕ
+  pub store : Store
+  pub nodes : List ℕ
+  pub lookup : List ℕ
+  pub cache : List ℕ
+
+abbrev pub freshLeaves : Freshened → List ℕ → List ℕ → List ℕ → FreshLeft
+freshLeaves r nodes lookup cache = record { refusal = freshNumber (r .answer); store = r .store; nodes = nodes; lookup = lookup; cache = cache }
+
+-- "a refused Fresh gives capacity 0 and count 0", and touches nothing
+abbrev pub freshRefused : ℕ → List ℕ → List ℕ → List ℕ → FreshLeft
+freshRefused n nodes lookup cache = record { refusal = n; store = record { capacity = 0; count = 0 }; nodes = nodes; lookup = lookup; cache = cache }
+
+-- "Fresh zeroes the node words of the capacity, the lookup and the whole cache groups, and touches nothing else"; 1: "fewer than 3 node words"; 2: "lookup length at most the capacity"
+unfoldable pub freshOf : List ℕ → List ℕ → List ℕ → FreshLeft
+freshOf nodes lookup cache =
+    let capacity = capacityOf (length nodes) in
+    cond (ltb (length nodes) 3)
+    (freshRefused 1 nodes lookup cache)
+    (cond (leb (length lookup) capacity)
+    (freshRefused 2 nodes lookup cache)
+    (record {
+      refusal = 0;
+      store = record { capacity = capacity; count = 0 };
+      nodes = zeroed 0 (3 * capacity) nodes;
+      lookup = zeroed 0 (length lookup) lookup;
+      cache = zeroed 0 (length cache / 4 * 4) cache;
+    }))
+
+-- Fresh's promise: one equation for every input.
+pub record FreshCall (nodes lookup cache : List ℕ) (r : Freshened) (nodes′ lookup′ cache′ : List ℕ) : Type 0 where
+  pub leaves-is : freshLeaves r nodes′ lookup′ cache′ ≡ freshOf nodes lookup cache

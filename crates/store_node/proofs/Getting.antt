@@ -1,0 +1,131 @@
+-- Each way out of `get_node`: the zero side itself where the one side is {}, else what `make` gave.
+-- Adding the node to the book is what placing the family of the item and the two sides does, once both sides are held.
+use Prim.Native.Nat.{ℕ, _+_, _≤_, _<_}
+use mathlib.Core.Path.{_≡_, refl, sym, ap, _∙_}
+use mathlib.Core.Bool.{true}
+use mathlib.Core.List.{List, [], _∷_, _++_}
+use native.Mathlib.Omega.{arith}
+use lib.Dec.{T}
+use lib.ListN.{length, length-append}
+use Rattle.family.specs.Family.{Family, empty, node, top, inhabited, mk, Within}
+use Rattle.family.specs.Book.{at, number, Held, add, made}
+use Rattle.family.proofs.Books.{add-same, add-new, held-at}
+use Rattle.family.proofs.Diagrams.{mk-node}
+use Rattle.store.specs.declared.record.Store.{Store}
+use Rattle.store.specs.declared.record.Refusal.the-variants.{Full, Damaged}
+use Rattle.store.specs.declared.record.PlaceAnswer.{PlaceAnswer}
+use Rattle.store.specs.declared.record.PlaceAnswer.the-variants.{Handle, Refused}
+use Rattle.store.specs.declared.record.Placed.{Placed}
+use Rattle.store_node.specs.declared.unique.Made.{Made}
+use Rattle.store_node.specs.declared.unique.Made.the-variants.{Found, New, Full as NoRoom, Damaged as Bad}
+use Rattle.store_node.specs.declared.unique.Making.{Making}
+use Rattle.store.specs.Words.{itemLimit}
+use Rattle.store.specs.Inner.{Roomy, Holds, Handed, Answer, gave, full, Kept, NodeIt}
+use Rattle.store_node.specs.Inner.{MadeOf, found, new, MadeIt}
+use Rattle.store.proofs.Held.{at-0, within, positive-one, inside, held}
+use Rattle.store.proofs.Growing.{kept-self}
+
+pub handle-is : {g h : ℕ} → Handle g ≡ Handle h → g ≡ h
+handle-is e = cc
+
+pub refused-not {ℓ} : {A : Type ℓ} {a : PlaceAnswer} (h : ℕ) → a ≡ Refused Full → a ≡ Handle h → A
+refused-not h e d = absurd (let z : _≡_ {A = ℕ} 0 1 = cc in omega arith)
+
+pub damaged-not {ℓ} : {A : Type ℓ} {a : PlaceAnswer} (h : ℕ) → a ≡ Refused Damaged → a ≡ Handle h → A
+damaged-not h e d = absurd (let z : _≡_ {A = ℕ} 0 1 = cc in omega arith)
+
+pub made-inhabited : (B : List Family) (i : ℕ) (a b : Family) → T (inhabited b) → made B i a b ≡ add B (node i a b)
+made-inhabited B i a empty t = absurd t
+made-inhabited B i a Family.base t = refl
+made-inhabited B i a (node j c d) t = refl
+
+-- what `make` says, out of its cases
+found-handed : {B : List Family} {F : Family} {capacity n : ℕ} {nodes lookup : List ℕ} {h : ℕ} → MadeOf B F capacity n nodes lookup (Found h) → Handed B F h n nodes lookup
+found-handed (found G) = G
+
+new-lacks : {B : List Family} {F : Family} {capacity n : ℕ} {nodes lookup : List ℕ} {h : ℕ} → MadeOf B F capacity n nodes lookup (New h) → length B ≤ number B F
+new-lacks (new l G) = l
+
+new-handed : {B : List Family} {F : Family} {capacity n : ℕ} {nodes lookup : List ℕ} {h : ℕ} → MadeOf B F capacity n nodes lookup (New h) → Handed (B ++ (F ∷ [])) F h n nodes lookup
+new-handed (new l G) = G
+
+full-lacks : {B : List Family} {F : Family} {capacity n : ℕ} {nodes lookup : List ℕ} → MadeOf B F capacity n nodes lookup NoRoom → (length B ≤ number B F) × (capacity + 2 ≤ length B)
+full-lacks (MadeOf.full l m H) = (l, m)
+
+full-holds : {B : List Family} {F : Family} {capacity n : ℕ} {nodes lookup : List ℕ} → MadeOf B F capacity n nodes lookup NoRoom → Holds B n nodes lookup
+full-holds (MadeOf.full l m H) = H
+
+not-bad : {B : List Family} {F : Family} {capacity n : ℕ} {nodes lookup : List ℕ} {m : Made} → m ≡ Bad → MadeOf B F capacity n nodes lookup m → ⊥
+not-bad e (found G) = let z : _≡_ {A = ℕ} 0 1 = cc in omega arith
+not-bad e (new l G) = let z : _≡_ {A = ℕ} 0 1 = cc in omega arith
+not-bad e (MadeOf.full l k H) = let z : _≡_ {A = ℕ} 0 1 = cc in omega arith
+
+module _ (s : Store) (nodes lookup : List ℕ) (i z o : ℕ) (small : i ≤ itemLimit) (lz : z ≤ s .count + 1) (lo : o ≤ s .count + 1) where
+  -- the one side is {}
+  pub node-zero : Roomy s nodes lookup → (r : Placed) → r .store ≡ s → r .answer ≡ Handle z → o ≡ 0 → NodeIt s nodes lookup i z o r nodes lookup
+  node-zero R r es ea e =
+      record {
+        kept = rw es (kept-self s nodes lookup (R .within));
+        handle = λ h d. rw es (omega (arith, handle-is (sym ea ∙ d)));
+        sound = λ B H tz to. rw (ea, es, e, at-0 H) (gave {h = z} (record { holds = H; within = omega arith; means = refl }));
+      }
+
+  module _ (some : o ≡ 0 → ⊥) {m : Making} {nodes′ lookup′ : List ℕ} (M : MadeIt s nodes lookup i z o m nodes′ lookup′) (r : Placed) (es : r .store ≡ m .store) where
+    full-one : {B : List Family} → Holds B (s .count) nodes lookup → T (inhabited (at B o))
+    full-one H = positive-one H o (omega arith) (omega arith)
+
+    is-within : {B : List Family} → Holds B (s .count) nodes lookup → top (at B z) < i → top (at B o) < i → Within itemLimit (node i (at B z) (at B o))
+    is-within H tz to =
+        record { ordered = (tz, to, full-one H, within H z (omega arith) .ordered, within H o (omega arith) .ordered); low = small }
+
+    got : {B : List Family} → Holds B (s .count) nodes lookup → top (at B z) < i → top (at B o) < i
+        → MadeOf B (node i (at B z) (at B o)) (s .capacity) (m .store .count) nodes′ lookup′ (m .made)
+    got {B} H tz to = M .sound B H (is-within H tz to)
+
+    kept : Kept s nodes lookup (r .store) nodes′ lookup′
+    kept = rw es (M .kept)
+
+    -- the family and the book of an inhabited one side
+    as-node : {B : List Family} → Holds B (s .count) nodes lookup → (C : List Family) {a : PlaceAnswer} → add B (node i (at B z) (at B o)) ≡ C
+        → Answer C (node i (at B z) (at B o)) (s .capacity) (m .store .count) nodes′ lookup′ a
+        → Answer (made B i (at B z) (at B o)) (mk i (at B z) (at B o)) (s .capacity) (r .store .count) nodes′ lookup′ a
+    as-node {B} H C e A = rw (es, mk-node i (at B z) (at B o) (full-one H), made-inhabited B i (at B z) (at B o) (full-one H), e) A
+
+    pub node-found : (h : ℕ) → m .made ≡ Found h → r .answer ≡ Handle h → NodeIt s nodes lookup i z o r nodes′ lookup′
+    node-found h em ea =
+        record {
+          kept = kept;
+          handle = λ g d. rw es (omega (arith, handle-is (sym ea ∙ d), M .found-within h em));
+          sound = λ B H tz to.
+              let G = found-handed (rw em at (got H tz to)) in
+              rw ea (as-node H B (add-same B (node i (at B z) (at B o)) (rw (G .means) at (held (G .holds) h (G .within)))) (gave G));
+        }
+
+    pub node-new : (h : ℕ) → m .made ≡ New h → r .answer ≡ Handle h → NodeIt s nodes lookup i z o r nodes′ lookup′
+    node-new h em ea =
+        record {
+          kept = kept;
+          handle = λ g d. rw es (omega (arith, handle-is (sym ea ∙ d), M .new-within h em));
+          sound = λ B H tz to.
+              let G = rw em at (got H tz to) in
+              rw ea (as-node H (B ++ (node i (at B z) (at B o) ∷ [])) (add-new B (node i (at B z) (at B o)) (new-lacks G)) (gave (new-handed G)));
+        }
+
+    pub node-full : m .made ≡ NoRoom → r .answer ≡ Refused Full → NodeIt s nodes lookup i z o r nodes′ lookup′
+    node-full em ea =
+        record {
+          kept = kept;
+          handle = λ h d. refused-not h ea d;
+          sound = λ B H tz to.
+              let G = rw em at (got H tz to) in
+              rw ea (as-node H (B ++ (node i (at B z) (at B o) ∷ [])) (add-new B (node i (at B z) (at B o)) (full-lacks G .0))
+              (full B (full-holds G) (rw length-append (omega (arith, full-lacks G .1)))));
+        }
+
+    pub node-damaged : m .made ≡ Bad → r .answer ≡ Refused Damaged → NodeIt s nodes lookup i z o r nodes′ lookup′
+    node-damaged em ea =
+        record {
+          kept = kept;
+          handle = λ h d. damaged-not h ea d;
+          sound = λ B H tz to. absurd (not-bad em (got H tz to));
+        }

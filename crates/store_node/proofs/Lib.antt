@@ -1,0 +1,3 @@
+-- The laws of making a node and of Getnode.
+pub mod Getting
+pub mod Nodes

@@ -1,0 +1,157 @@
+-- `get_node` is Getnode of document 001; each way out is one law of it.
+-- What `make` ensures carries over, with its answer turned into a handle or a refusal.
+use Rattle.store_node.proofs.Getting.{node-zero, node-found, node-new, node-full, node-damaged}
+use borrow.Author.Needs.{needs}
+use Rattle.store_node.proofs.getnode.get_node.Statement.{statement}
+use Rattle.store_node.proofs.getnode.get_node.Tie as tie
+
+abbrev start·After-placed : tie.After-placed → tie.Start
+start·After-placed c = c .before .before .before .before
+
+abbrev start·After-placed2 : tie.After-placed2 → tie.Start
+start·After-placed2 c = c .before .before .before .before .before .before .before .before .before .before .before .before .before .before .before
+
+abbrev if1·After-placed2 : tie.After-placed2 → tie.Else1
+if1·After-placed2 c = c .before .before .before .before .before .before .before .before .before .before .before .before
+
+abbrev make·After-placed2 : tie.After-placed2 → tie.After-make
+make·After-placed2 c = c .before .before .before .before .before .before .before .before .before
+
+abbrev start·After-placed3 : tie.After-placed3 → tie.Start
+start·After-placed3 c = c .before .before .before .before .before .before .before .before .before .before .before .before .before .before .before
+
+abbrev if1·After-placed3 : tie.After-placed3 → tie.Else1
+if1·After-placed3 c = c .before .before .before .before .before .before .before .before .before .before .before .before
+
+abbrev make·After-placed3 : tie.After-placed3 → tie.After-make
+make·After-placed3 c = c .before .before .before .before .before .before .before .before .before
+
+abbrev start·After-refused : tie.After-refused → tie.Start
+start·After-refused c = c .before .before .before .before .before .before .before .before .before .before .before .before .before .before
+
+abbrev if1·After-refused : tie.After-refused → tie.Else1
+if1·After-refused c = c .before .before .before .before .before .before .before .before .before .before .before
+
+abbrev make·After-refused : tie.After-refused → tie.After-make
+make·After-refused c = c .before .before .before .before .before .before .before .before
+
+abbrev start·After-refused2 : tie.After-refused2 → tie.Start
+start·After-refused2 c = c .before .before .before .before .before .before .before .before .before .before .before .before .before .before
+
+abbrev if1·After-refused2 : tie.After-refused2 → tie.Else1
+if1·After-refused2 c = c .before .before .before .before .before .before .before .before .before .before .before
+
+abbrev make·After-refused2 : tie.After-refused2 → tie.After-make
+make·After-refused2 c = c .before .before .before .before .before .before .before .before
+
+placed-requires : tie.Need-placed-requires
+placed-requires c κs = search needs
+
+returns : tie.Need-returns
+returns c =
+    let a = (start·After-placed c) .args in
+    let p = (start·After-placed c) .pre in
+    node-zero (a .store) (a .nodes .now) (a .lookup .now) (a .item) (a .zero) (a .one) (p .1 .1) (p .1 .2) (p .1 .3) (p .0) (c .placed .result) (c .placed .ensures .0) (c .placed .ensures .1) ((c .before) .if1 .taken)
+
+make-requires : tie.Need-make-requires
+make-requires c κs = search needs
+
+enum-known-made : tie.Need-enum-known-made
+enum-known-made c = search needs
+
+placed-requires-2 : tie.Need-placed-requires-2
+placed-requires-2 c κs = search needs
+
+enum-known-made-2 : tie.Need-enum-known-made-2
+enum-known-made-2 c = search needs
+
+placed-requires-3 : tie.Need-placed-requires-3
+placed-requires-3 c κs = search needs
+
+enum-told : tie.Need-enum-told
+enum-told c = search needs
+
+refused-requires : tie.Need-refused-requires
+refused-requires c κs = search needs
+
+enum-told-2 : tie.Need-enum-told-2
+enum-told-2 c = search needs
+
+refused-requires-2 : tie.Need-refused-requires-2
+refused-requires-2 c κs = search needs
+
+same-length : tie.Need-same-length
+same-length c = search needs
+
+same-length-2 : tie.Need-same-length-2
+same-length-2 c = search needs
+
+returns-2 : tie.Need-returns-2
+returns-2 c =
+    let a = (start·After-placed2 c) .args in
+    let p = (start·After-placed2 c) .pre in
+    node-found (a .store) (a .nodes .now) (a .lookup .now) (a .item) (a .zero) (a .one) (p .1 .1) (p .1 .2) (p .1 .3) ((if1·After-placed2 c) .if1 .left) ((make·After-placed2 c) .make .ensures) (c .placed2 .result) (c .placed2 .ensures .0) _ ((c .before .before) .made .given .1) (c .placed2 .ensures .1)
+
+same-length-3 : tie.Need-same-length-3
+same-length-3 c = search needs
+
+same-length-4 : tie.Need-same-length-4
+same-length-4 c = search needs
+
+returns-3 : tie.Need-returns-3
+returns-3 c =
+    let a = (start·After-placed3 c) .args in
+    let p = (start·After-placed3 c) .pre in
+    node-new (a .store) (a .nodes .now) (a .lookup .now) (a .item) (a .zero) (a .one) (p .1 .1) (p .1 .2) (p .1 .3) ((if1·After-placed3 c) .if1 .left) ((make·After-placed3 c) .make .ensures) (c .placed3 .result) (c .placed3 .ensures .0) _ ((c .before .before) .made2 .given .1) (c .placed3 .ensures .1)
+
+same-length-5 : tie.Need-same-length-5
+same-length-5 c = search needs
+
+same-length-6 : tie.Need-same-length-6
+same-length-6 c = search needs
+
+returns-4 : tie.Need-returns-4
+returns-4 c =
+    let a = (start·After-refused c) .args in
+    let p = (start·After-refused c) .pre in
+    node-full (a .store) (a .nodes .now) (a .lookup .now) (a .item) (a .zero) (a .one) (p .1 .1) (p .1 .2) (p .1 .3) ((if1·After-refused c) .if1 .left) ((make·After-refused c) .make .ensures) (c .refused .result) (c .refused .ensures .0) ((c .before) .enum-told .given .1) (c .refused .ensures .1)
+
+same-length-7 : tie.Need-same-length-7
+same-length-7 c = search needs
+
+same-length-8 : tie.Need-same-length-8
+same-length-8 c = search needs
+
+returns-5 : tie.Need-returns-5
+returns-5 c =
+    let a = (start·After-refused2 c) .args in
+    let p = (start·After-refused2 c) .pre in
+    node-damaged (a .store) (a .nodes .now) (a .lookup .now) (a .item) (a .zero) (a .one) (p .1 .1) (p .1 .2) (p .1 .3) ((if1·After-refused2 c) .if1 .left) ((make·After-refused2 c) .make .ensures) (c .refused2 .result) (c .refused2 .ensures .0) ((c .before) .enum-told2 .given .1) (c .refused2 .ensures .1)
+
+pub get-node-spec : {M : Type 1} → statement M
+get-node-spec =
+    tie.close
+    (tie.spec
+    placed-requires
+    returns
+    make-requires
+    enum-known-made
+    placed-requires-2
+    enum-known-made-2
+    placed-requires-3
+    enum-told
+    refused-requires
+    enum-told-2
+    refused-requires-2
+    same-length
+    same-length-2
+    returns-2
+    same-length-3
+    same-length-4
+    returns-3
+    same-length-5
+    same-length-6
+    returns-4
+    same-length-7
+    same-length-8
+    returns-5)

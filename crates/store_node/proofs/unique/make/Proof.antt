@@ -1,0 +1,177 @@
+-- `make` finds the node or enters it at the slot that the probe found; each way out is one law of the nodes.
+-- Where the words hold a book no test fails, so it is never damaged.
+use mathlib.Core.Path.{_≡_, refl, sym, _∙_}
+use Rattle.store_node.specs.Inner.{MadeIt}
+use Rattle.store_node.proofs.Nodes.{made-damaged, not-past, not-one, not-above, made-full, made-found, made-new}
+use borrow.Author.Needs.{needs}
+use Rattle.store_node.proofs.unique.make.Statement.{statement}
+use Rattle.store_node.proofs.unique.make.Tie as tie
+
+abbrev start·Then1 : tie.Then1 → tie.Start
+start·Then1 c = c .before .before .before .before .before .before
+
+abbrev start·Then3 : tie.Then3 → tie.Start
+start·Then3 c = c .before .before .before .before .before .before .before .before .before
+
+abbrev probe·Then3 : tie.Then3 → tie.After-probe
+probe·Then3 c = c .before .before .before .before
+
+abbrev enter·After-appended : tie.After-appended → tie.After-enter
+enter·After-appended c = c .before .before .before .before .before
+
+abbrev start·After-appended : tie.After-appended → tie.Start
+start·After-appended c = c .before .before .before .before .before .before .before .before .before .before .before .before .before .before .before .before .before
+
+abbrev probe·After-appended : tie.After-appended → tie.After-probe
+probe·After-appended c = c .before .before .before .before .before .before .before .before .before .before .before .before
+
+abbrev if2·After-appended : tie.After-appended → tie.Then2
+if2·After-appended c = c .before .before .before .before .before .before .before .before .before
+
+abbrev if3·After-appended : tie.After-appended → tie.Else3
+if3·After-appended c = c .before .before .before .before .before .before .before .before
+
+abbrev start·Then4 : tie.Then4 → tie.Start
+start·Then4 c = c .before .before .before .before .before .before .before .before .before
+
+abbrev probe·Then4 : tie.Then4 → tie.After-probe
+probe·Then4 c = c .before .before .before .before
+
+abbrev start·Then5 : tie.Then5 → tie.Start
+start·Then5 c = c .before .before .before .before .before .before .before .before .before .before
+
+abbrev probe·Then5 : tie.Then5 → tie.After-probe
+probe·Then5 c = c .before .before .before .before .before
+
+abbrev start·Else5 : tie.Else5 → tie.Start
+start·Else5 c = c .before .before .before .before .before .before .before .before .before .before
+
+abbrev probe·Else5 : tie.Else5 → tie.After-probe
+probe·Else5 c = c .before .before .before .before .before
+
+probe-requires : tie.Need-probe-requires
+probe-requires c κs = search needs
+
+same-length : tie.Need-same-length
+same-length c = search needs
+
+same-length-2 : tie.Need-same-length-2
+same-length-2 c = search needs
+
+returns : tie.Need-returns
+returns c =
+    let a = (start·Then1 c) .args in
+    let p = (start·Then1 c) .pre in
+    made-damaged (a .store) (a .nodes .now) (a .lookup .now) (a .item) (a .zero) (a .one) _ (p .0) (p .1 .2) (p .1 .3) ((c .before) .probe .ensures)
+    (not-past (a .store) (a .nodes .now) (a .lookup .now) (a .item) (a .zero) (a .one) _ (p .0) (p .1 .2) (p .1 .3) ((c .before) .probe .ensures) (c .if1 .taken))
+
+mul-number : tie.Need-mul-number
+mul-number c = search needs
+
+slice-read-number : tie.Need-slice-read-number
+slice-read-number c = search needs
+
+same-length-3 : tie.Need-same-length-3
+same-length-3 c = search needs
+
+same-length-4 : tie.Need-same-length-4
+same-length-4 c = search needs
+
+returns-2 : tie.Need-returns-2
+returns-2 c =
+    let a = (start·Then3 c) .args in
+    let p = (start·Then3 c) .pre in
+    made-full (a .store) (a .nodes .now) (a .lookup .now) (a .item) (a .zero) (a .one) _ (p .0) (p .1 .2) (p .1 .3) ((probe·Then3 c) .probe .ensures) ((c .before) .if2 .taken) (c .if3 .taken)
+
+enter-requires : tie.Need-enter-requires
+enter-requires c κs = search needs
+
+appended-requires : tie.Need-appended-requires
+appended-requires c κs = search needs
+
+add-t28 : tie.Need-add-t28
+add-t28 c = search needs
+
+same-length-5 : tie.Need-same-length-5
+same-length-5 c = (enter·After-appended c) .enter .kept .0
+
+same-length-6 : tie.Need-same-length-6
+same-length-6 c = (enter·After-appended c) .enter .kept .1 .0
+
+returns-3 : tie.Need-returns-3
+returns-3 c =
+    let a = (start·After-appended c) .args in
+    let p = (start·After-appended c) .pre in
+    made-new (a .store) (a .nodes .now) (a .lookup .now) (a .item) (a .zero) (a .one) _ (p .0) (p .1 .2) (p .1 .3) ((probe·After-appended c) .probe .ensures)
+    (c .appended .result) ((enter·After-appended c) .enter .last .0) ((enter·After-appended c) .enter .last .1 .0) (c .appended .ensures .0) (c .appended .ensures .1) ((enter·After-appended c) .enter .ensures .0) ((enter·After-appended c) .enter .ensures .1) ((if2·After-appended c) .if2 .taken) ((if3·After-appended c) .if3 .left)
+
+same-length-7 : tie.Need-same-length-7
+same-length-7 c = search needs
+
+same-length-8 : tie.Need-same-length-8
+same-length-8 c = search needs
+
+returns-4 : tie.Need-returns-4
+returns-4 c =
+    let a = (start·Then4 c) .args in
+    let p = (start·Then4 c) .pre in
+    made-damaged (a .store) (a .nodes .now) (a .lookup .now) (a .item) (a .zero) (a .one) _ (p .0) (p .1 .2) (p .1 .3) ((probe·Then4 c) .probe .ensures)
+    (not-one (a .store) (a .nodes .now) (a .lookup .now) (a .item) (a .zero) (a .one) _ (p .0) (p .1 .2) (p .1 .3) ((probe·Then4 c) .probe .ensures) ((c .before) .if2 .left) (c .if4 .taken))
+
+add-if5 : tie.Need-add-if5
+add-if5 c = search needs
+
+same-length-9 : tie.Need-same-length-9
+same-length-9 c = search needs
+
+same-length-10 : tie.Need-same-length-10
+same-length-10 c = search needs
+
+returns-5 : tie.Need-returns-5
+returns-5 c =
+    let a = (start·Then5 c) .args in
+    let p = (start·Then5 c) .pre in
+    made-damaged (a .store) (a .nodes .now) (a .lookup .now) (a .item) (a .zero) (a .one) _ (p .0) (p .1 .2) (p .1 .3) ((probe·Then5 c) .probe .ensures)
+    (not-above (a .store) (a .nodes .now) (a .lookup .now) (a .item) (a .zero) (a .one) _ (p .0) (p .1 .2) (p .1 .3) ((probe·Then5 c) .probe .ensures) ((c .before .before) .if2 .left) (c .if5 .taken))
+
+same-length-11 : tie.Need-same-length-11
+same-length-11 c = search needs
+
+same-length-12 : tie.Need-same-length-12
+same-length-12 c = search needs
+
+returns-6 : tie.Need-returns-6
+returns-6 c =
+    let a = (start·Else5 c) .args in
+    let p = (start·Else5 c) .pre in
+    made-found (a .store) (a .nodes .now) (a .lookup .now) (a .item) (a .zero) (a .one) _ (p .0) (p .1 .2) (p .1 .3) ((probe·Else5 c) .probe .ensures) ((c .before .before) .if2 .left) (c .if5 .left)
+
+pub make-spec : {M : Type 1} → statement M
+make-spec =
+    tie.close
+    (tie.spec
+    probe-requires
+    same-length
+    same-length-2
+    returns
+    mul-number
+    slice-read-number
+    same-length-3
+    same-length-4
+    returns-2
+    enter-requires
+    appended-requires
+    add-t28
+    same-length-5
+    same-length-6
+    returns-3
+    same-length-7
+    same-length-8
+    returns-4
+    add-if5
+    same-length-9
+    same-length-10
+    returns-5
+    same-length-11
+    same-length-12
+    returns-6)

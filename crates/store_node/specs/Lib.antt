@@ -1,0 +1,2 @@
+-- What the contracts of `store_node` cite.
+pub mod Inner

@@ -1,0 +1,97 @@
+// A node found in the unique table, or added to it.
+ghost use mathlib.Core.Path.{_≡_};
+ghost use Prim.Native.Nat.{_+_, _*_, _<_, _≤_};
+ghost use lib.ListN.{length, set};
+ghost use Rattle.store.specs.Words.{itemLimit};
+ghost use Rattle.store.specs.Inner.{Roomy, putNode};
+ghost use Rattle.store_node.specs.Inner.{MadeIt};
+use store::record::Store;
+use table::probe::probe;
+
+// What making a node comes to: found among the nodes, a new node, no room, or words that no sound store has.
+pub enum Made {
+    Found(u32),
+    New(u32),
+    Full,
+    Damaged,
+}
+
+pub struct Making {
+    pub store: Store,
+    pub made: Made,
+}
+
+// Writes the words of the node after `count` others, and its number into its slot.
+fn enter(
+    nodes: &mut [u32],
+    lookup: &mut [u32],
+    count: u32,
+    slot: usize,
+    item: u32,
+    zero: u32,
+    one: u32,
+)
+    requires { ⌜ (3 * count + 3 ≤ length (now nodes)) × (count < 1000000) × (slot < length (now lookup)) ⌝ }
+    ensures { λ _. ⌜ now (nodes .exit) ≡ putNode (now (nodes .entry)) count item zero one ⌝ }
+    ensures { λ _. ⌜ now (lookup .exit) ≡ set (now (lookup .entry)) slot (count + 2) ⌝ }
+{
+    let base = 3 * count as usize;
+    nodes[base] = item;
+    nodes[base + 1] = zero;
+    nodes[base + 2] = one;
+    lookup[slot] = count + 2;
+}
+
+// The node with these words: found, or new.
+pub fn make(
+    store: Store,
+    nodes: &mut [u32],
+    lookup: &mut [u32],
+    item: u32,
+    zero: u32,
+    one: u32,
+) -> Making
+    requires { ⌜ Roomy store (now nodes) (now lookup) ⌝ }
+    requires { ⌜ (1 ≤ item) × (item ≤ itemLimit) × (zero ≤ store .count + 1) × (one ≤ store .count + 1) ⌝ }
+    ensures { λ r. ⌜ MadeIt store (now (nodes .entry)) (now (lookup .entry)) item zero one r (now (nodes .exit)) (now (lookup .exit)) ⌝ }
+{
+    let count = store.count;
+    let capacity = store.capacity;
+    let slot = probe(nodes, lookup, count, item, zero, one);
+    if lookup.len() <= slot {
+        return Making {
+            store: store,
+            made: Made::Damaged,
+        };
+    }
+    let number = lookup[slot];
+    if number == 0 {
+        if capacity <= count {
+            return Making {
+                store: store,
+                made: Made::Full,
+            };
+        }
+        enter(nodes, lookup, count, slot, item, zero, one);
+        return Making {
+            store: store.appended(),
+            made: Made::New(count + 2),
+        };
+    }
+    if number < 2 {
+        return Making {
+            store: store,
+            made: Made::Damaged,
+        };
+    }
+    if count + 1 < number {
+        return Making {
+            store: store,
+            made: Made::Damaged,
+        };
+    }
+    Making {
+        store: store,
+        made: Made::Found(number),
+    }
+}

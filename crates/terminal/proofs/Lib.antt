@@ -1,3 +1,0 @@
--- The laws of the terminal cases.
-pub mod Orders
-pub mod Restricting

@@ -1,2 +1,0 @@
--- The laws of `text`.
-pub mod Writings

@@ -1,2 +1,0 @@
--- What the contracts of `trail` cite.
-pub mod Trail

@@ -1,2 +1,0 @@
--- The laws of `unique`.
-pub mod Nodes

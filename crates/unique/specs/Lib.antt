@@ -1,2 +1,0 @@
--- What the contracts of `unique` cite.
-pub mod Making

@@ -1,3 +1,0 @@
--- The laws of `writing`.
-pub mod Cursors
-pub mod Writes

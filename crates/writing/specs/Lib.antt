@@ -1,2 +1,0 @@
--- What the contracts of `writing` cite.
-pub mod Writing
