@@ -55,151 +55,85 @@ same-length-5 c = search needs
 same-length-6 : tie.Need-same-length-6
 same-length-6 c = search needs
 
-abbrev start·After-refused : tie.After-refused → tie.Start
-start·After-refused c = c .before .before .before .before .before .before .before .before
-
-abbrev start·After-refused2 : tie.After-refused2 → tie.Start
-start·After-refused2 c = c .before .before .before .before .before .before .before .before .before
-
-abbrev start·After-place-parts-arg3 : tie.After-place-parts-arg3 → tie.Start
-start·After-place-parts-arg3 c = c .before .before .before .before .before .before .before .before .before .before .before .before .before .before .before .before .before .before
-
-abbrev content2·After-place-parts-arg3 : tie.After-place-parts-arg3 → tie.After-content2
-content2·After-place-parts-arg3 c = c .before .before .before .before
-
-abbrev read-file·After-place-parts-arg3 : tie.After-place-parts-arg3 → tie.After-read-file
-read-file·After-place-parts-arg3 c = c .before .before .before .before .before .before .before .before
-
-abbrev fits2·After-place-parts-arg3 : tie.After-place-parts-arg3 → tie.After-fits2
-fits2·After-place-parts-arg3 c = c .before .before .before .before .before .before .before .before .before .before .before .before
-
-abbrev if1·After-place-parts-arg3 : tie.After-place-parts-arg3 → tie.Else1
-if1·After-place-parts-arg3 c = c .before .before .before .before .before .before .before .before .before .before .before
-
-abbrev if2·After-place-parts-arg3 : tie.After-place-parts-arg3 → tie.Else2
-if2·After-place-parts-arg3 c = c .before .before .before .before .before .before .before .before .before .before
-
-abbrev start·After-finish-arg3 : tie.After-finish-arg3 → tie.Start
-start·After-finish-arg3 c = c .before .before .before .before .before .before .before .before .before .before .before .before .before .before .before .before .before .before .before .before .before .before .before .before .before .before .before .before
-
-abbrev place-parts·After-finish-arg3 : tie.After-finish-arg3 → tie.After-place-parts
-place-parts·After-finish-arg3 c = c .before .before .before .before .before .before .before .before .before
-
-abbrev fits2·After-finish-arg3 : tie.After-finish-arg3 → tie.After-fits2
-fits2·After-finish-arg3 c = c .before .before .before .before .before .before .before .before .before .before .before .before .before .before .before .before .before .before .before .before .before .before
-
-abbrev if1·After-finish-arg3 : tie.After-finish-arg3 → tie.Else1
-if1·After-finish-arg3 c = c .before .before .before .before .before .before .before .before .before .before .before .before .before .before .before .before .before .before .before .before .before
-
-abbrev if2·After-finish-arg3 : tie.After-finish-arg3 → tie.Else2
-if2·After-finish-arg3 c = c .before .before .before .before .before .before .before .before .before .before .before .before .before .before .before .before .before .before .before .before
-
-abbrev read-file·After-finish-arg3 : tie.After-finish-arg3 → tie.After-read-file
-read-file·After-finish-arg3 c = c .before .before .before .before .before .before .before .before .before .before .before .before .before .before .before .before .before .before
-
-abbrev content2·After-finish-arg3 : tie.After-finish-arg3 → tie.After-content2
-content2·After-finish-arg3 c = c .before .before .before .before .before .before .before .before .before .before .before .before .before .before
-
-abbrev start·After-placed : tie.After-placed → tie.Start
-start·After-placed c = c .before .before .before .before .before .before .before .before .before .before .before .before .before .before .before .before
-
-abbrev fits2·After-placed : tie.After-placed → tie.After-fits2
-fits2·After-placed c = c .before .before .before .before .before .before .before .before .before .before
-
-abbrev if1·After-placed : tie.After-placed → tie.Else1
-if1·After-placed c = c .before .before .before .before .before .before .before .before .before
-
-abbrev if2·After-placed : tie.After-placed → tie.Else2
-if2·After-placed c = c .before .before .before .before .before .before .before .before
-
-abbrev read-file·After-placed : tie.After-placed → tie.After-read-file
-read-file·After-placed c = c .before .before .before .before .before .before
-
-abbrev start·After-slice-known11 : tie.After-slice-known11 → tie.Start
-start·After-slice-known11 c = c .before .before .before .before .before .before .before .before .before .before .before .before .before .before .before .before .before .before .before .before .before .before .before .before .before .before .before .before .before .before .before .before .before .before .before
-
-abbrev fits2·After-slice-known11 : tie.After-slice-known11 → tie.After-fits2
-fits2·After-slice-known11 c = c .before .before .before .before .before .before .before .before .before .before .before .before .before .before .before .before .before .before .before .before .before .before .before .before .before .before .before .before .before
-
-abbrev if1·After-slice-known11 : tie.After-slice-known11 → tie.Else1
-if1·After-slice-known11 c = c .before .before .before .before .before .before .before .before .before .before .before .before .before .before .before .before .before .before .before .before .before .before .before .before .before .before .before .before
-
-abbrev if2·After-slice-known11 : tie.After-slice-known11 → tie.Else2
-if2·After-slice-known11 c = c .before .before .before .before .before .before .before .before .before .before .before .before .before .before .before .before .before .before .before .before .before .before .before .before .before .before .before
-
-abbrev read-file·After-slice-known11 : tie.After-slice-known11 → tie.After-read-file
-read-file·After-slice-known11 c = c .before .before .before .before .before .before .before .before .before .before .before .before .before .before .before .before .before .before .before .before .before .before .before .before .before
-
-abbrev content2·After-slice-known11 : tie.After-slice-known11 → tie.After-content2
-content2·After-slice-known11 c = c .before .before .before .before .before .before .before .before .before .before .before .before .before .before .before .before .before .before .before .before .before
-
-abbrev place-parts·After-slice-known11 : tie.After-slice-known11 → tie.After-place-parts
-place-parts·After-slice-known11 c = c .before .before .before .before .before .before .before .before .before .before .before .before .before .before .before .before
-
-abbrev finish·After-slice-known11 : tie.After-slice-known11 → tie.After-finish
-finish·After-slice-known11 c = c .before .before .before .before .before .before
-
-abbrev start·After-refused3 : tie.After-refused3 → tie.Start
-start·After-refused3 c = c .before .before .before .before .before .before .before .before .before .before .before .before .before .before .before
-
-abbrev fits2·After-refused3 : tie.After-refused3 → tie.After-fits2
-fits2·After-refused3 c = c .before .before .before .before .before .before .before .before .before
-
-abbrev if1·After-refused3 : tie.After-refused3 → tie.Else1
-if1·After-refused3 c = c .before .before .before .before .before .before .before .before
-
-abbrev if2·After-refused3 : tie.After-refused3 → tie.Else2
-if2·After-refused3 c = c .before .before .before .before .before .before .before
-
-abbrev read-file·After-refused3 : tie.After-refused3 → tie.After-read-file
-read-file·After-refused3 c = c .before .before .before .before .before
-
 returns : tie.Need-returns
 returns c =
-    let a = (start·After-refused c) .args in
+    let at-start : tie.Start = search in
+    let a = at-start .args in
     load-misfit (a .store) (a .nodes .now) (a .lookup .now) (a .cache .now) (a .file .now) (a .words .now) _ (sym ((c .before .before) .fits2 .ensures) ∙ not-true _ ((c .before) .if1 .taken)) (c .refused .ensures .0) (c .refused .ensures .1)
 
 returns-2 : tie.Need-returns-2
 returns-2 c =
-    let a = (start·After-refused2 c) .args in
+    let at-start : tie.Start = search in
+    let a = at-start .args in
     load-short (a .store) (a .nodes .now) (a .lookup .now) (a .cache .now) (a .file .now) (a .words .now) _ (sym ((c .before .before .before) .fits2 .ensures) ∙ not-false _ ((c .before .before) .if1 .left))
     ((c .before) .if2 .taken) (c .refused2 .ensures .0) (c .refused2 .ensures .1)
 
 place-parts-requires : tie.Need-place-parts-requires
 place-parts-requires c κs =
-    let a = (start·After-place-parts-arg3 c) .args in
-    let R = parts-of _ ((content2·After-place-parts-arg3 c) .content2 .given .1) ((read-file·After-place-parts-arg3 c) .read-file .ensures .outcome) in (
-      fits-roomy (a .store) (a .nodes .now) (a .lookup .now) (sym ((fits2·After-place-parts-arg3 c) .fits2 .ensures) ∙ not-false _ ((if1·After-place-parts-arg3 c) .if1 .left)),
-      (parts-nodes R, (omega (arith, (read-file·After-place-parts-arg3 c) .read-file .ensures .long, (if2·After-place-parts-arg3 c) .if2 .left), R .few, R .low)),
+    let at-content2 : tie.After-content2 = search in
+    let at-read-file : tie.After-read-file = search in
+    let at-if2 : tie.Else2 = search in
+    let at-if1 : tie.Else1 = search in
+    let at-fits2 : tie.After-fits2 = search in
+    let at-start : tie.Start = search in
+    let a = at-start .args in
+    let R = parts-of _ (at-content2 .content2 .given .1) (at-read-file .read-file .ensures .outcome) in (
+      fits-roomy (a .store) (a .nodes .now) (a .lookup .now) (sym (at-fits2 .fits2 .ensures) ∙ not-false _ (at-if1 .if1 .left)),
+      (parts-nodes R, (omega (arith, at-read-file .read-file .ensures .long, at-if2 .if2 .left), R .few, R .low)),
     )
 
 finish-requires : tie.Need-finish-requires
 finish-requires c κs =
-    let a = (start·After-finish-arg3 c) .args in
-    let P = (place-parts·After-finish-arg3 c) .place-parts .ensures in (
-      load-roomy (a .store) (a .nodes .now) (a .lookup .now) (a .cache .now) (a .file .now) (a .words .now) ((place-parts·After-finish-arg3 c) .place-parts .result) (sym ((fits2·After-finish-arg3 c) .fits2 .ensures) ∙ not-false _ ((if1·After-finish-arg3 c) .if1 .left))
-          ((if2·After-finish-arg3 c) .if2 .left) ((read-file·After-finish-arg3 c) .read-file .ensures) _ ((content2·After-finish-arg3 c) .content2 .given .1) P,
+    let at-place-parts : tie.After-place-parts = search in
+    let at-content2 : tie.After-content2 = search in
+    let at-read-file : tie.After-read-file = search in
+    let at-if2 : tie.Else2 = search in
+    let at-if1 : tie.Else1 = search in
+    let at-fits2 : tie.After-fits2 = search in
+    let at-start : tie.Start = search (at-fits2) in
+    let a = at-start .args in
+    let P = at-place-parts .place-parts .ensures in (
+      load-roomy (a .store) (a .nodes .now) (a .lookup .now) (a .cache .now) (a .file .now) (a .words .now) (at-place-parts .place-parts .result) (sym (at-fits2 .fits2 .ensures) ∙ not-false _ (at-if1 .if1 .left))
+          (at-if2 .if2 .left) (at-read-file .read-file .ensures) _ (at-content2 .content2 .given .1) P,
       P .kept .grows,
     )
 
 returns-3 : tie.Need-returns-3
 returns-3 c =
-    let a = (start·After-placed c) .args in
-    load-leaf (a .store) (a .nodes .now) (a .lookup .now) (a .cache .now) (a .file .now) (a .words .now) _ (sym ((fits2·After-placed c) .fits2 .ensures) ∙ not-false _ ((if1·After-placed c) .if1 .left))
-    ((if2·After-placed c) .if2 .left) ((read-file·After-placed c) .read-file .ensures) _ ((c .before .before) .content .given .1)
+    let at-read-file : tie.After-read-file = search in
+    let at-if2 : tie.Else2 = search in
+    let at-if1 : tie.Else1 = search in
+    let at-fits2 : tie.After-fits2 = search in
+    let at-start : tie.Start = search in
+    let a = at-start .args in
+    load-leaf (a .store) (a .nodes .now) (a .lookup .now) (a .cache .now) (a .file .now) (a .words .now) _ (sym (at-fits2 .fits2 .ensures) ∙ not-false _ (at-if1 .if1 .left))
+    (at-if2 .if2 .left) (at-read-file .read-file .ensures) _ ((c .before .before) .content .given .1)
     (c .placed .ensures .0) (c .placed .ensures .1)
 
 returns-4 : tie.Need-returns-4
 returns-4 c =
-    let a = (start·After-slice-known11 c) .args in
-    load-parts (a .store) (a .nodes .now) (a .lookup .now) (a .cache .now) (a .file .now) (a .words .now) _ (sym ((fits2·After-slice-known11 c) .fits2 .ensures) ∙ not-false _ ((if1·After-slice-known11 c) .if1 .left))
-    ((if2·After-slice-known11 c) .if2 .left) ((read-file·After-slice-known11 c) .read-file .ensures) _ ((content2·After-slice-known11 c) .content2 .given .1) ((place-parts·After-slice-known11 c) .place-parts .ensures) ((finish·After-slice-known11 c) .finish .ensures)
+    let at-finish : tie.After-finish = search in
+    let at-place-parts : tie.After-place-parts = search in
+    let at-content2 : tie.After-content2 = search in
+    let at-read-file : tie.After-read-file = search (at-content2) in
+    let at-if2 : tie.Else2 = search (at-content2) in
+    let at-if1 : tie.Else1 = search (at-content2) in
+    let at-fits2 : tie.After-fits2 = search (at-content2) in
+    let at-start : tie.Start = search (at-content2) in
+    let a = at-start .args in
+    load-parts (a .store) (a .nodes .now) (a .lookup .now) (a .cache .now) (a .file .now) (a .words .now) _ (sym (at-fits2 .fits2 .ensures) ∙ not-false _ (at-if1 .if1 .left))
+    (at-if2 .if2 .left) (at-read-file .read-file .ensures) _ (at-content2 .content2 .given .1) (at-place-parts .place-parts .ensures) (at-finish .finish .ensures)
 
 returns-5 : tie.Need-returns-5
 returns-5 c =
-    let a = (start·After-refused3 c) .args in
-    load-none (a .store) (a .nodes .now) (a .lookup .now) (a .cache .now) (a .file .now) (a .words .now) _ (sym ((fits2·After-refused3 c) .fits2 .ensures) ∙ not-false _ ((if1·After-refused3 c) .if1 .left))
-    ((if2·After-refused3 c) .if2 .left) ((read-file·After-refused3 c) .read-file .ensures) ((c .before) .enum-told .given .1)
+    let at-read-file : tie.After-read-file = search in
+    let at-if2 : tie.Else2 = search in
+    let at-if1 : tie.Else1 = search in
+    let at-fits2 : tie.After-fits2 = search in
+    let at-start : tie.Start = search in
+    let a = at-start .args in
+    load-none (a .store) (a .nodes .now) (a .lookup .now) (a .cache .now) (a .file .now) (a .words .now) _ (sym (at-fits2 .fits2 .ensures) ∙ not-false _ (at-if1 .if1 .left))
+    (at-if2 .if2 .left) (at-read-file .read-file .ensures) ((c .before) .enum-told .given .1)
     (c .refused3 .ensures .0) (c .refused3 .ensures .1)
 
 pub load-spec : {M : Type 1} → statement M

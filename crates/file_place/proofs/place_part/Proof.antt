@@ -46,28 +46,19 @@ same-length c = search needs
 same-length-2 : tie.Need-same-length-2
 same-length-2 c = search needs
 
-abbrev start·After-shared-slice-known4 : tie.After-shared-slice-known4 → tie.Start
-start·After-shared-slice-known4 c = c .before .before .before .before .before .before .before .before .before .before
-
-abbrev handle-at·After-shared-slice-known4 : tie.After-shared-slice-known4 → tie.After-handle-at
-handle-at·After-shared-slice-known4 c = c .before .before .before .before .before
-
-abbrev handle-at·After-slice-known4 : tie.After-slice-known4 → tie.After-handle-at
-handle-at·After-slice-known4 c = c .before .before .before .before .before .before .before .before .before .before
-
-abbrev handle-at2·After-slice-known4 : tie.After-slice-known4 → tie.After-handle-at2
-handle-at2·After-slice-known4 c = c .before .before .before .before .before .before .before .before
-
-abbrev get-node·After-slice-known4 : tie.After-slice-known4 → tie.After-get-node
-get-node·After-slice-known4 c = c .before .before .before .before
-
 get-node-requires : tie.Need-get-node-requires
 get-node-requires c κs =
-    let p = (start·After-shared-slice-known4 c) .pre in
-    (p .0, (p .1 .0 .item-some, p .1 .0 .item-low, omega (arith, (handle-at·After-shared-slice-known4 c) .handle-at .ensures, p .1 .1 .0 .each _ (p .1 .0 .zero-before)), omega (arith, (c .before .before .before) .handle-at2 .ensures, p .1 .1 .0 .each _ (p .1 .0 .one-before))))
+    let at-handle-at : tie.After-handle-at = search in
+    let at-start : tie.Start = search in
+    let p = at-start .pre in
+    (p .0, (p .1 .0 .item-some, p .1 .0 .item-low, omega (arith, at-handle-at .handle-at .ensures, p .1 .1 .0 .each _ (p .1 .0 .zero-before)), omega (arith, (c .before .before .before) .handle-at2 .ensures, p .1 .1 .0 .each _ (p .1 .0 .one-before))))
 
 returns : tie.Need-returns
-returns c = node-as _ _ ((handle-at·After-slice-known4 c) .handle-at .ensures) ((handle-at2·After-slice-known4 c) .handle-at2 .ensures) ((get-node·After-slice-known4 c) .get-node .ensures)
+returns c =
+    let at-get-node : tie.After-get-node = search in
+    let at-handle-at2 : tie.After-handle-at2 = search in
+    let at-handle-at : tie.After-handle-at = search in
+    node-as _ _ (at-handle-at .handle-at .ensures) (at-handle-at2 .handle-at2 .ensures) (at-get-node .get-node .ensures)
 
 pub place-part-spec : {M : Type 1} → statement M
 place-part-spec =

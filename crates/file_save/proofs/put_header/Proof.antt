@@ -6,9 +6,6 @@ use lib.ListN.{length-set}
 use Rattle.file_save.proofs.put_header.Statement.{statement}
 use Rattle.file_save.proofs.put_header.Tie as tie
 
-abbrev start·After-slice-known2 : tie.After-slice-known2 → tie.Start
-start·After-slice-known2 c = c .before .before .before .before .before
-
 slice-write-out : tie.Need-slice-write-out
 slice-write-out c = search needs
 
@@ -16,7 +13,9 @@ put-four-requires : tie.Need-put-four-requires
 put-four-requires c κs = search needs
 
 same-length : tie.Need-same-length
-same-length c = (c .before .before) .put-four .kept .0 ∙ length-set ((start·After-slice-known2 c) .args .out .now) 0 1
+same-length c =
+    let at-start : tie.Start = search in
+    (c .before .before) .put-four .kept .0 ∙ length-set (at-start .args .out .now) 0 1
 
 returns : tie.Need-returns
 returns c = search needs

@@ -92,40 +92,40 @@ mul-words-4 c = search needs
 same-length-3 : tie.Need-same-length-3
 same-length-3 c = search needs
 
-abbrev start·Then1 : tie.Then1 → tie.Start
-start·Then1 c = c .before .before .before .before .before .before
-
-abbrev start·Then2 : tie.Then2 → tie.Start
-start·Then2 c = c .before .before .before .before .before .before .before .before
-
-abbrev start·Else2 : tie.Else2 → tie.Start
-start·Else2 c = c .before .before .before .before .before .before .before .before
-
 returns : tie.Need-returns
 returns c =
-    let a = (start·Then1 c) .args in
-    let p = (start·Then1 c) .pre in
+    let at-start : tie.Start = search in
+    let a = at-start .args in
+    let p = at-start .pre in
     enter-past (a .words .now) (a .bytes) (a .k) (a .part .item) (a .part .zero) (a .part .one) _ (p .0 .0) (p .0 .1) (probed (a .words .now) (a .bytes) (a .k) (a .part .item) (a .part .zero) (a .part .one) ((c .before) .probe .ensures)) (c .if1 .taken)
 
 returns-2 : tie.Need-returns-2
 returns-2 c =
-    let a = (start·Then2 c) .args in
-    let p = (start·Then2 c) .pre in
+    let at-start : tie.Start = search in
+    let a = at-start .args in
+    let p = at-start .pre in
     enter-old (a .words .now) (a .bytes) (a .k) (a .part .item) (a .part .zero) (a .part .one) _ (p .0 .0) (p .0 .1) (probed (a .words .now) (a .bytes) (a .k) (a .part .item) (a .part .zero) (a .part .one) ((c .before .before .before) .probe .ensures)) ((c .before .before) .if1 .left) (c .if2 .taken)
 
 slice-write-words-2 : tie.Need-slice-write-words-2
-slice-write-words-2 c = simp length-set (omega (arith, (start·Else2 c) .pre .0 .0, (start·Else2 c) .pre .0 .1))
+slice-write-words-2 c =
+    let at-start : tie.Start = search in
+    simp length-set (omega (arith, at-start .pre .0 .0, at-start .pre .0 .1))
 
 slice-write-words-3 : tie.Need-slice-write-words-3
-slice-write-words-3 c = simp length-set (omega (arith, (start·Else2 c) .pre .0 .0, (start·Else2 c) .pre .0 .1))
+slice-write-words-3 c =
+    let at-start : tie.Start = search in
+    simp length-set (omega (arith, at-start .pre .0 .0, at-start .pre .0 .1))
 
 slice-write-words-4 : tie.Need-slice-write-words-4
-slice-write-words-4 c = simp length-set (omega (arith, (start·Else2 c) .pre .0 .0, (c .before .before) .if1 .left))
+slice-write-words-4 c =
+    let at-start : tie.Start = search in
+    simp length-set (omega (arith, at-start .pre .0 .0, (c .before .before) .if1 .left))
 
 returns-3 : tie.Need-returns-3
 returns-3 c =
-    let a = (start·Else2 c) .args in
-    let p = (start·Else2 c) .pre in
+    let at-start : tie.Start = search in
+    let a = at-start .args in
+    let p = at-start .pre in
     enter-new (a .words .now) (a .bytes) (a .k) (a .part .item) (a .part .zero) (a .part .one) _ (p .0 .0) (p .0 .1) (probed (a .words .now) (a .bytes) (a .k) (a .part .item) (a .part .zero) (a .part .one) ((c .before .before .before) .probe .ensures)) ((c .before .before) .if1 .left) (c .if2 .left)
     (stored (a .words .now) (a .k) (a .part .item) (a .part .zero) (a .part .one) _ _)
 

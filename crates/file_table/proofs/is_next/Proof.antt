@@ -19,75 +19,46 @@ top-of-requires c κs = search needs
 top-of-requires-2 : tie.Need-top-of-requires-2
 top-of-requires-2 c κs = search needs
 
-abbrev start·Then2 : tie.Then2 → tie.Start
-start·Then2 c = c .before .before .before .before .before
-
-abbrev start·Then3 : tie.Then3 → tie.Start
-start·Then3 c = c .before .before .before .before .before .before .before
-
-abbrev if1·Then3 : tie.Then3 → tie.Else1
-if1·Then3 c = c .before .before .before .before
-
-abbrev start·Then4 : tie.Then4 → tie.Start
-start·Then4 c = c .before .before .before .before .before .before .before .before .before
-
-abbrev if1·Then4 : tie.Then4 → tie.Else1
-if1·Then4 c = c .before .before .before .before .before .before
-
-abbrev if2·Then4 : tie.Then4 → tie.Else2
-if2·Then4 c = c .before .before .before .before
-
-abbrev start·Then5 : tie.Then5 → tie.Start
-start·Then5 c = c .before .before .before .before .before .before .before .before .before .before .before .before
-
-abbrev if1·Then5 : tie.Then5 → tie.Else1
-if1·Then5 c = c .before .before .before .before .before .before .before .before .before
-
-abbrev if2·Then5 : tie.Then5 → tie.Else2
-if2·Then5 c = c .before .before .before .before .before .before .before
-
-abbrev if3·Then5 : tie.Then5 → tie.Else3
-if3·Then5 c = c .before .before .before .before .before
-
-abbrev start·After-struct-known6 : tie.After-struct-known6 → tie.Start
-start·After-struct-known6 c = c .before .before .before .before .before .before .before .before .before .before .before .before .before .before
-
-abbrev if1·After-struct-known6 : tie.After-struct-known6 → tie.Else1
-if1·After-struct-known6 c = c .before .before .before .before .before .before .before .before .before .before .before
-
-abbrev if2·After-struct-known6 : tie.After-struct-known6 → tie.Else2
-if2·After-struct-known6 c = c .before .before .before .before .before .before .before .before .before
-
-abbrev if3·After-struct-known6 : tie.After-struct-known6 → tie.Else3
-if3·After-struct-known6 c = c .before .before .before .before .before .before .before
-
-abbrev if4·After-struct-known6 : tie.After-struct-known6 → tie.Else4
-if4·After-struct-known6 c = c .before .before .before .before .before
-
-abbrev top-of·After-struct-known6 : tie.After-struct-known6 → tie.After-top-of
-top-of·After-struct-known6 c = c .before .before .before .before
-
 returns : tie.Need-returns
 returns c = let a = (c .before .before .before) .args in next-item (a .words .now) (a .k) (a .part .item) (a .part .zero) (a .part .one) (c .if1 .taken)
 
 returns-2 : tie.Need-returns-2
-returns-2 c = let a = (start·Then2 c) .args in next-zero (a .words .now) (a .k) (a .part .item) (a .part .zero) (a .part .one) ((c .before .before) .if1 .left) (c .if2 .taken)
+returns-2 c =
+    let at-start : tie.Start = search in
+    let a = at-start .args in next-zero (a .words .now) (a .k) (a .part .item) (a .part .zero) (a .part .one) ((c .before .before) .if1 .left) (c .if2 .taken)
 
 returns-3 : tie.Need-returns-3
-returns-3 c = let a = (start·Then3 c) .args in next-one (a .words .now) (a .k) (a .part .item) (a .part .zero) (a .part .one) ((if1·Then3 c) .if1 .left) ((c .before .before) .if2 .left) (c .if3 .taken)
+returns-3 c =
+    let at-if1 : tie.Else1 = search in
+    let at-start : tie.Start = search in
+    let a = at-start .args in next-one (a .words .now) (a .k) (a .part .item) (a .part .zero) (a .part .one) (at-if1 .if1 .left) ((c .before .before) .if2 .left) (c .if3 .taken)
 
 returns-4 : tie.Need-returns-4
-returns-4 c = let a = (start·Then4 c) .args in next-none (a .words .now) (a .k) (a .part .item) (a .part .zero) (a .part .one) ((if1·Then4 c) .if1 .left) ((if2·Then4 c) .if2 .left) ((c .before .before) .if3 .left) (c .if4 .taken)
+returns-4 c =
+    let at-if2 : tie.Else2 = search in
+    let at-if1 : tie.Else1 = search in
+    let at-start : tie.Start = search in
+    let a = at-start .args in next-none (a .words .now) (a .k) (a .part .item) (a .part .zero) (a .part .one) (at-if1 .if1 .left) (at-if2 .if2 .left) ((c .before .before) .if3 .left) (c .if4 .taken)
 
 returns-5 : tie.Need-returns-5
 returns-5 c =
-    let a = (start·Then5 c) .args in
-    next-top (a .words .now) (a .k) (a .part .item) (a .part .zero) (a .part .one) ((if1·Then5 c) .if1 .left) ((if2·Then5 c) .if2 .left) ((if3·Then5 c) .if3 .left) ((c .before .before .before) .if4 .left) (omega (arith, (c .before .before) .top-of .ensures, c .if5 .taken))
+    let at-if3 : tie.Else3 = search in
+    let at-if2 : tie.Else2 = search in
+    let at-if1 : tie.Else1 = search in
+    let at-start : tie.Start = search in
+    let a = at-start .args in
+    next-top (a .words .now) (a .k) (a .part .item) (a .part .zero) (a .part .one) (at-if1 .if1 .left) (at-if2 .if2 .left) (at-if3 .if3 .left) ((c .before .before .before) .if4 .left) (omega (arith, (c .before .before) .top-of .ensures, c .if5 .taken))
 
 returns-6 : tie.Need-returns-6
 returns-6 c =
-    let a = (start·After-struct-known6 c) .args in
-    rw ((c .before) .top-of2 .ensures) (next-last (a .words .now) (a .k) (a .part .item) (a .part .zero) (a .part .one) ((if1·After-struct-known6 c) .if1 .left) ((if2·After-struct-known6 c) .if2 .left) ((if3·After-struct-known6 c) .if3 .left) ((if4·After-struct-known6 c) .if4 .left) (omega (arith, (top-of·After-struct-known6 c) .top-of .ensures, (c .before .before) .if5 .left)))
+    let at-top-of : tie.After-top-of = search in
+    let at-if4 : tie.Else4 = search in
+    let at-if3 : tie.Else3 = search in
+    let at-if2 : tie.Else2 = search in
+    let at-if1 : tie.Else1 = search in
+    let at-start : tie.Start = search in
+    let a = at-start .args in
+    rw ((c .before) .top-of2 .ensures) (next-last (a .words .now) (a .k) (a .part .item) (a .part .zero) (a .part .one) (at-if1 .if1 .left) (at-if2 .if2 .left) (at-if3 .if3 .left) (at-if4 .if4 .left) (omega (arith, at-top-of .top-of .ensures, (c .before .before) .if5 .left)))
 
 pub is-next-spec : {M : Type 1} → statement M
 is-next-spec =

@@ -6,15 +6,6 @@ use borrow.Author.Needs.{needs}
 use Rattle.op_cache.proofs.recall.Statement.{statement}
 use Rattle.op_cache.proofs.recall.Tie as tie
 
-abbrev group-of·Else5 : tie.Else5 → tie.After-group-of
-group-of·Else5 c = c .before .before .before .before .before .before .before .before .before .before .before
-
-abbrev if2·Else5 : tie.Else5 → tie.Else2
-if2·Else5 c = c .before .before .before .before .before .before .before .before
-
-abbrev if3·Else5 : tie.Else5 → tie.Else3
-if3·Else5 c = c .before .before .before .before .before
-
 returns : tie.Need-returns
 returns c = miss
 
@@ -74,11 +65,14 @@ returns-5 c = miss
 
 returns-6 : tie.Need-returns-6
 returns-6 c =
-    let g = (group-of·Else5 c) .group-of in
+    let at-if3 : tie.Else3 = search in
+    let at-if2 : tie.Else2 = search in
+    let at-group-of : tie.After-group-of = search in
+    let g = at-group-of .group-of in
     hit {g = g .result} record {
       within = omega (arith, g .ensures);
-      op-is = (if2·Else5 c) .if2 .left;
-      first-is = (if3·Else5 c) .if3 .left;
+      op-is = at-if2 .if2 .left;
+      first-is = at-if3 .if3 .left;
       second-is = (c .before .before) .if4 .left;
       result-is = mathlib.Core.Path.refl;
     } (c .if5 .left)

@@ -6,24 +6,6 @@ use borrow.Author.Needs.{needs}
 use Rattle.op_step.proofs.join.Statement.{statement}
 use Rattle.op_step.proofs.join.Tie as tie
 
-abbrev start·After-enum-told : tie.After-enum-told → tie.Start
-start·After-enum-told c = c .before .before .before .before .before
-
-abbrev start·After-get-node-arg2 : tie.After-get-node-arg2 → tie.Start
-start·After-get-node-arg2 c = c .before .before .before .before .before .before .before .before .before
-
-abbrev answer·After-get-node-arg2 : tie.After-get-node-arg2 → tie.After-answer
-answer·After-get-node-arg2 c = c .before .before .before .before
-
-abbrev start·After-slice-known6 : tie.After-slice-known6 → tie.Start
-start·After-slice-known6 c = c .before .before .before .before .before .before .before .before .before .before .before .before .before .before .before .before .before .before
-
-abbrev get-node·After-slice-known6 : tie.After-slice-known6 → tie.After-get-node
-get-node·After-slice-known6 c = c .before .before .before .before .before .before .before .before
-
-abbrev answer·After-slice-known6 : tie.After-slice-known6 → tie.After-answer
-answer·After-slice-known6 c = c .before .before .before .before .before .before .before .before .before .before .before .before .before
-
 enum-known-answer : tie.Need-enum-known-answer
 enum-known-answer c = search needs
 
@@ -32,13 +14,16 @@ enum-told c = search needs
 
 returns : tie.Need-returns
 returns c =
-    let a = (start·After-enum-told c) .args in
+    let at-start : tie.Start = search in
+    let a = at-start .args in
     joined-passed (a .second) (a .nodes .now) (a .lookup .now) (a .cache .now) (a .call) (a .level) (a .zero) _ (c .enum-told .given .1)
 
 get-node-requires : tie.Need-get-node-requires
 get-node-requires c κs =
-    let p = (start·After-get-node-arg2 c) .pre in
-    (p .0, (p .1 .0, p .1 .1, p .1 .2, p .1 .3 _ ((answer·After-get-node-arg2 c) .answer .given .1)))
+    let at-answer : tie.After-answer = search in
+    let at-start : tie.Start = search in
+    let p = at-start .pre in
+    (p .0, (p .1 .0, p .1 .1, p .1 .2, p .1 .3 _ (at-answer .answer .given .1)))
 
 remember-answer-requires : tie.Need-remember-answer-requires
 remember-answer-requires c κs = search needs
@@ -54,8 +39,11 @@ same-length-3 c = search needs
 
 returns-2 : tie.Need-returns-2
 returns-2 c =
-    let a = (start·After-slice-known6 c) .args in
-    joined-made (a .second) (a .nodes .now) (a .lookup .now) (a .cache .now) (a .call) (a .level) (a .zero) _ ((get-node·After-slice-known6 c) .get-node .result) _ _ _ ((answer·After-slice-known6 c) .answer .given .1) ((get-node·After-slice-known6 c) .get-node .ensures) ((c .before .before) .remember-answer .ensures)
+    let at-get-node : tie.After-get-node = search in
+    let at-answer : tie.After-answer = search in
+    let at-start : tie.Start = search in
+    let a = at-start .args in
+    joined-made (a .second) (a .nodes .now) (a .lookup .now) (a .cache .now) (a .call) (a .level) (a .zero) _ (at-get-node .get-node .result) _ _ _ (at-answer .answer .given .1) (at-get-node .get-node .ensures) ((c .before .before) .remember-answer .ensures)
 
 pub join-spec : {M : Type 1} → statement M
 join-spec =

@@ -6,9 +6,6 @@ use borrow.Author.Needs.{needs}
 use Rattle.op_step.proofs.remember_answer.Statement.{statement}
 use Rattle.op_step.proofs.remember_answer.Tie as tie
 
-abbrev answer·After-slice-known2 : tie.After-slice-known2 → tie.After-answer
-answer·After-slice-known2 c = c .before .before .before .before .before
-
 enum-known-answer : tie.Need-enum-known-answer
 enum-known-answer c = search needs
 
@@ -22,7 +19,9 @@ same-length : tie.Need-same-length
 same-length c = search needs
 
 returns : tie.Need-returns
-returns c = remembered-gave _ _ _ _ ((answer·After-slice-known2 c) .answer .given .1) ((c .before .before) .remember .ensures)
+returns c =
+    let at-answer : tie.After-answer = search in
+    remembered-gave _ _ _ _ (at-answer .answer .given .1) ((c .before .before) .remember .ensures)
 
 returns-2 : tie.Need-returns-2
 returns-2 c = remembered-refused _ _ _ (c .enum-told .given .1)

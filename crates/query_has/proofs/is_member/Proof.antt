@@ -16,27 +16,6 @@ Inv-loop nodes count p way₀ left₀ way left = Along nodes count p (itemsOf (w
 abbrev μ-loop : tie.MeasureT-loop
 μ-loop nodes count p way₀ left₀ way left = left
 
-abbrev start·Else2 : tie.Else2 Inv-loop μ-loop → tie.Start Inv-loop μ-loop
-start·Else2 c = c .before .before .before .before
-
-abbrev start·Else3 : tie.Else3 Inv-loop μ-loop → tie.Start Inv-loop μ-loop
-start·Else3 c = c .before .before .before .before .before
-
-abbrev start·After-step : tie.After-step Inv-loop μ-loop → tie.Start Inv-loop μ-loop
-start·After-step c = c .before .before .before .before .before .before
-
-abbrev loop·After-step : tie.After-step Inv-loop μ-loop → tie.At-loop Inv-loop μ-loop
-loop·After-step c = c .before .before .before .before
-
-abbrev start·After-ends : tie.After-ends Inv-loop μ-loop → tie.Start Inv-loop μ-loop
-start·After-ends c = c .before .before .before .before
-
-abbrev start·Then2 : tie.Then2 Inv-loop μ-loop → tie.Start Inv-loop μ-loop
-start·Then2 c = c .before .before .before .before
-
-abbrev start·Then3 : tie.Then3 Inv-loop μ-loop → tie.Start Inv-loop μ-loop
-start·Then3 c = c .before .before .before .before .before
-
 loop-holds : tie.Need-loop-holds Inv-loop μ-loop
 loop-holds c = along-start ((c .before) .args .nodes .now) ((c .before) .args .count) ((c .before) .args .p) _ ((c .before) .pre .0)
 
@@ -44,16 +23,24 @@ ends-requires : tie.Need-ends-requires Inv-loop μ-loop
 ends-requires c κs = search needs
 
 add-if3 : tie.Need-add-if3 Inv-loop μ-loop
-add-if3 c = omega (arith, (start·Else2 c) .pre .2)
+add-if3 c =
+    let at-start : tie.Start Inv-loop μ-loop = search in
+    omega (arith, at-start .pre .2)
 
 cast-step : tie.Need-cast-step Inv-loop μ-loop
-cast-step c = omega (arith, (start·Else3 c) .pre .2, c .if3 .left)
+cast-step c =
+    let at-start : tie.Start Inv-loop μ-loop = search in
+    omega (arith, at-start .pre .2, c .if3 .left)
 
 mul-step : tie.Need-mul-step Inv-loop μ-loop
-mul-step c = omega (arith, (start·Else3 c) .pre .2, c .if3 .left)
+mul-step c =
+    let at-start : tie.Start Inv-loop μ-loop = search in
+    omega (arith, at-start .pre .2, c .if3 .left)
 
 step-requires : tie.Need-step-requires Inv-loop μ-loop
-step-requires c κs = omega (arith, (start·Else3 c) .pre .1, (start·Else3 c) .pre .2, (c .before .before) .if1 .left, c .if3 .left)
+step-requires c κs =
+    let at-start : tie.Start Inv-loop μ-loop = search in
+    omega (arith, at-start .pre .1, at-start .pre .2, (c .before .before) .if1 .left, c .if3 .left)
 
 sub-left : tie.Need-sub-left Inv-loop μ-loop
 sub-left c = omega (arith, (c .before .before) .if2 .left)
@@ -63,26 +50,31 @@ loop-less c = omega (arith, (c .before .before) .if2 .left)
 
 loop-again : tie.Need-loop-again Inv-loop μ-loop
 loop-again c =
-    let a = (start·After-step c) .args in
-    let l = (loop·After-step c) .loop in
+    let at-loop : tie.At-loop Inv-loop μ-loop = search in
+    let at-start : tie.Start Inv-loop μ-loop = search in
+    let a = at-start .args in
+    let l = at-loop .loop in
     along-step (a .nodes .now) (a .count) (a .p) _ (l .way .at) (itemsOf (l .way .rest .words)) (l .left) (l .inv) (omega (arith, (c .before .before .before) .if1 .left))
     (items-combined (l .way .rest .words) .falling) _ _ (c .step .ensures)
 
 returns : tie.Need-returns Inv-loop μ-loop
 returns c =
-    let a = (start·After-ends c) .args in
+    let at-start : tie.Start Inv-loop μ-loop = search in
+    let a = at-start .args in
     let l = (c .before .before) .loop in
     along-ends (a .nodes .now) (a .count) (a .p) _ (l .way .at) (itemsOf (l .way .rest .words)) (l .left) (l .inv) ((c .before) .if1 .taken) _ (c .ends .ensures)
 
 returns-2 : tie.Need-returns-2 Inv-loop μ-loop
 returns-2 c =
-    let a = (start·Then2 c) .args in
+    let at-start : tie.Start Inv-loop μ-loop = search in
+    let a = at-start .args in
     let l = (c .before .before) .loop in
     along-end (a .nodes .now) (a .count) (a .p) _ (l .way .at) (itemsOf (l .way .rest .words)) (l .left) (l .inv) (omega (arith, (c .before) .if1 .left)) (c .if2 .taken)
 
 returns-3 : tie.Need-returns-3 Inv-loop μ-loop
 returns-3 c =
-    let a = (start·Then3 c) .args in
+    let at-start : tie.Start Inv-loop μ-loop = search in
+    let a = at-start .args in
     let l = (c .before .before .before) .loop in
     along-outside (a .nodes .now) (a .count) (a .p) _ (l .way .at) (itemsOf (l .way .rest .words)) (l .left) (l .inv) (c .if3 .taken)
 

@@ -6,12 +6,6 @@ use borrow.Author.Needs.{needs}
 use Rattle.query_has.proofs.step.Statement.{statement}
 use Rattle.query_has.proofs.step.Tie as tie
 
-abbrev start·After-without : tie.After-without → tie.Start
-start·After-without c = c .before .before .before .before .before .before
-
-abbrev start·After-shared-slice-known4 : tie.After-shared-slice-known4 → tie.Start
-start·After-shared-slice-known4 c = c .before .before .before .before .before
-
 mul-item : tie.Need-mul-item
 mul-item c = search needs
 
@@ -35,7 +29,8 @@ without-requires c κs = search needs
 
 returns : tie.Need-returns
 returns c =
-    let a = (start·After-without c) .args in
+    let at-start : tie.Start = search in
+    let a = at-start .args in
     step-met (a .nodes .now) (a .base) _ _ _ ((c .before .before .before) .contains .ensures) ((c .before .before) .if1 .taken) refl (c .without .ensures)
 
 add-t5 : tie.Need-add-t5
@@ -49,7 +44,8 @@ shared-slice-read-t7 c = search needs
 
 returns-2 : tie.Need-returns-2
 returns-2 c =
-    let a = (start·After-shared-slice-known4 c) .args in
+    let at-start : tie.Start = search in
+    let a = at-start .args in
     step-passed (a .nodes .now) (a .base) _ _ ((c .before .before) .contains .ensures) ((c .before) .if1 .left) refl
 
 pub step-spec : {M : Type 1} → statement M

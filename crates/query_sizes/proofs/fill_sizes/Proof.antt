@@ -15,29 +15,18 @@ Inv-loop nodes sizes₀ count j₀ sizes j = (j ≤ count) × Filled nodes count
 abbrev μ-loop : tie.MeasureT-loop
 μ-loop nodes sizes₀ count j₀ sizes j = count - j
 
-abbrev start·In-loop : tie.In-loop Inv-loop μ-loop → tie.Start Inv-loop μ-loop
-start·In-loop c = c .before .before .before .before
-
-abbrev loop·After-capped-sum : tie.After-capped-sum Inv-loop μ-loop → tie.At-loop Inv-loop μ-loop
-loop·After-capped-sum c = c .before .before .before .before .before .before .before .before
-
-abbrev loop-test·After-capped-sum : tie.After-capped-sum Inv-loop μ-loop → tie.In-loop Inv-loop μ-loop
-loop-test·After-capped-sum c = c .before .before .before .before .before .before .before
-
-abbrev start·After-capped-sum : tie.After-capped-sum Inv-loop μ-loop → tie.Start Inv-loop μ-loop
-start·After-capped-sum c = c .before .before .before .before .before .before .before .before .before .before .before
-
-abbrev size-at·After-capped-sum : tie.After-capped-sum Inv-loop μ-loop → tie.After-size-at Inv-loop μ-loop
-size-at·After-capped-sum c = c .before .before .before .before
-
 loop-holds : tie.Need-loop-holds Inv-loop μ-loop
 loop-holds c = (omega arith, filled-none ((c .before .before) .args .nodes .now) ((c .before .before) .args .count) ((c .before .before) .args .sizes .now))
 
 cast-base : tie.Need-cast-base Inv-loop μ-loop
-cast-base c = omega (arith, (start·In-loop c) .pre .2, c .loop-test .taken)
+cast-base c =
+    let at-start : tie.Start Inv-loop μ-loop = search in
+    omega (arith, at-start .pre .2, c .loop-test .taken)
 
 mul-base : tie.Need-mul-base Inv-loop μ-loop
-mul-base c = omega (arith, (start·In-loop c) .pre .2, c .loop-test .taken)
+mul-base c =
+    let at-start : tie.Start Inv-loop μ-loop = search in
+    omega (arith, at-start .pre .2, c .loop-test .taken)
 
 add-size-at : tie.Need-add-size-at Inv-loop μ-loop
 add-size-at c = search needs
@@ -83,10 +72,14 @@ loop-less c = search needs
 
 loop-again : tie.Need-loop-again Inv-loop μ-loop
 loop-again c =
-    let l = (loop·After-capped-sum c) .loop in (
-      omega (arith, (loop-test·After-capped-sum c) .loop-test .taken),
-      filled-step _ _ _ ((loop-test·After-capped-sum c) .loop-test .taken)
-          (omega (arith, (start·After-capped-sum c) .pre .1, (loop-test·After-capped-sum c) .loop-test .taken)) ((size-at·After-capped-sum c) .size-at .ensures) ((c .before) .size-at2 .ensures) (c .capped-sum .ensures) (l .inv .1),
+    let at-size-at : tie.After-size-at Inv-loop μ-loop = search in
+    let at-loop-test : tie.In-loop Inv-loop μ-loop = search in
+    let at-loop : tie.At-loop Inv-loop μ-loop = search in
+    let at-start : tie.Start Inv-loop μ-loop = search in
+    let l = at-loop .loop in (
+      omega (arith, at-loop-test .loop-test .taken),
+      filled-step _ _ _ (at-loop-test .loop-test .taken)
+          (omega (arith, at-start .pre .1, at-loop-test .loop-test .taken)) (at-size-at .size-at .ensures) ((c .before) .size-at2 .ensures) (c .capped-sum .ensures) (l .inv .1),
     )
 
 same-length : tie.Need-same-length Inv-loop μ-loop

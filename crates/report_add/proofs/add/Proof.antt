@@ -36,23 +36,17 @@ same-length-5 c = search needs
 same-length-6 : tie.Need-same-length-6
 same-length-6 c = search needs
 
-abbrev make-combination·After-enum-told : tie.After-enum-told → tie.After-make-combination
-make-combination·After-enum-told c = c .before .before .before .before .before .before .before .before
-
-abbrev make-combination·After-slice-known9 : tie.After-slice-known9 → tie.After-make-combination
-make-combination·After-slice-known9 c = c .before .before .before .before .before .before .before .before .before .before .before .before .before .before .before .before .before .before .before
-
-abbrev answer·After-slice-known9 : tie.After-slice-known9 → tie.After-answer
-answer·After-slice-known9 c = c .before .before .before .before .before .before .before .before .before .before .before
-
-abbrev union·After-slice-known9 : tie.After-slice-known9 → tie.After-union
-union·After-slice-known9 c = c .before .before .before .before .before .before
-
 returns : tie.Need-returns
-returns c = add-refused ((make-combination·After-enum-told c) .make-combination .ensures) _ _ (c .enum-told .given .1)
+returns c =
+    let at-make-combination : tie.After-make-combination = search in
+    add-refused (at-make-combination .make-combination .ensures) _ _ (c .enum-told .given .1)
 
 returns-2 : tie.Need-returns-2
-returns-2 c = add-united ((make-combination·After-slice-known9 c) .make-combination .ensures) _ ((answer·After-slice-known9 c) .answer .given .1) ((union·After-slice-known9 c) .union .ensures)
+returns-2 c =
+    let at-union : tie.After-union = search in
+    let at-answer : tie.After-answer = search in
+    let at-make-combination : tie.After-make-combination = search in
+    add-united (at-make-combination .make-combination .ensures) _ (at-answer .answer .given .1) (at-union .union .ensures)
 
 pub add-spec : {M : Type 1} → statement M
 add-spec =

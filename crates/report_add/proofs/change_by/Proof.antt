@@ -27,21 +27,6 @@ same-length-2 c = search needs
 same-length-3 : tie.Need-same-length-3
 same-length-3 c = search needs
 
-abbrev contains·After-slice-known6 : tie.After-slice-known6 → tie.After-contains
-contains·After-slice-known6 c = c .before .before .before .before .before .before .before .before .before .before .before .before .before .before
-
-abbrev if1·After-slice-known6 : tie.After-slice-known6 → tie.Else1
-if1·After-slice-known6 c = c .before .before .before .before .before .before .before .before .before .before .before .before .before
-
-abbrev start·After-slice-known6 : tie.After-slice-known6 → tie.Start
-start·After-slice-known6 c = c .before .before .before .before .before .before .before .before .before .before .before .before .before .before .before .before .before .before
-
-abbrev answer·After-slice-known6 : tie.After-slice-known6 → tie.After-answer
-answer·After-slice-known6 c = c .before .before .before .before .before .before .before .before .before .before .before
-
-abbrev change·After-slice-known6 : tie.After-slice-known6 → tie.After-change
-change·After-slice-known6 c = c .before .before .before .before .before .before
-
 returns : tie.Need-returns
 returns c = turn-absent _ _ _ _ _ _ ((c .before) .contains .ensures) (c .if1 .taken)
 
@@ -49,7 +34,13 @@ returns-2 : tie.Need-returns-2
 returns-2 c = turn-refused _ _ _ _ _ _ _ (c .enum-told .given .1)
 
 returns-3 : tie.Need-returns-3
-returns-3 c = turn-changed _ _ _ _ _ _ ((contains·After-slice-known6 c) .contains .ensures) ((if1·After-slice-known6 c) .if1 .left) ((start·After-slice-known6 c) .pre .0) ((start·After-slice-known6 c) .pre .1) ((answer·After-slice-known6 c) .answer .given .1) ((change·After-slice-known6 c) .change .ensures)
+returns-3 c =
+    let at-change : tie.After-change = search in
+    let at-answer : tie.After-answer = search in
+    let at-if1 : tie.Else1 = search in
+    let at-contains : tie.After-contains = search in
+    let at-start : tie.Start = search in
+    turn-changed _ _ _ _ _ _ (at-contains .contains .ensures) (at-if1 .if1 .left) (at-start .pre .0) (at-start .pre .1) (at-answer .answer .given .1) (at-change .change .ensures)
 
 pub change-by-spec : {M : Type 1} → statement M
 change-by-spec =

@@ -14,21 +14,6 @@ Inv-loop nodes₀ lookup₀ cache₀ items placed₀ item₀ nodes lookup cache 
 abbrev μ-loop : tie.MeasureT-loop
 μ-loop nodes₀ lookup₀ cache₀ items placed₀ item₀ nodes lookup cache placed item = 513 - item
 
-abbrev loop·After-change-by-arg3 : tie.After-change-by-arg3 Inv-loop μ-loop → tie.At-loop Inv-loop μ-loop
-loop·After-change-by-arg3 c = c .before .before .before .before
-
-abbrev loop·After-slice-known6 : tie.After-slice-known6 Inv-loop μ-loop → tie.At-loop Inv-loop μ-loop
-loop·After-slice-known6 c = c .before .before .before .before .before .before .before .before .before .before .before
-
-abbrev loop-test·After-slice-known6 : tie.After-slice-known6 Inv-loop μ-loop → tie.In-loop Inv-loop μ-loop
-loop-test·After-slice-known6 c = c .before .before .before .before .before .before .before .before .before .before
-
-abbrev change-by·After-slice-known6 : tie.After-slice-known6 Inv-loop μ-loop → tie.After-change-by Inv-loop μ-loop
-change-by·After-slice-known6 c = c .before .before .before .before .before .before
-
-abbrev start·After-loop : tie.After-loop Inv-loop μ-loop → tie.Start Inv-loop μ-loop
-start·After-loop c = c .before .before .before .before .before .before .before
-
 base-requires : tie.Need-base-requires Inv-loop μ-loop
 base-requires c κs = search needs
 
@@ -39,7 +24,9 @@ loop-holds : tie.Need-loop-holds Inv-loop μ-loop
 loop-holds c = making-start _ _ _ _ _ _ 1 (c .placed .ensures .1) ((c .before) .base .ensures) refl
 
 change-by-requires : tie.Need-change-by-requires Inv-loop μ-loop
-change-by-requires c κs = ((loop·After-change-by-arg3 c) .loop .inv .low, (c .before .before .before) .loop-test .taken)
+change-by-requires c κs =
+    let at-loop : tie.At-loop Inv-loop μ-loop = search in
+    (at-loop .loop .inv .low, (c .before .before .before) .loop-test .taken)
 
 add-item : tie.Need-add-item Inv-loop μ-loop
 add-item c = search needs
@@ -48,7 +35,11 @@ loop-less : tie.Need-loop-less Inv-loop μ-loop
 loop-less c = search needs
 
 loop-again : tie.Need-loop-again Inv-loop μ-loop
-loop-again c = making-again ((loop·After-slice-known6 c) .loop .inv) ((loop-test·After-slice-known6 c) .loop-test .taken) ((change-by·After-slice-known6 c) .change-by .ensures) ((change-by·After-slice-known6 c) .change-by .kept .1 .0) ((change-by·After-slice-known6 c) .change-by .kept .1 .1 .0) ((change-by·After-slice-known6 c) .change-by .kept .1 .1 .1 .0)
+loop-again c =
+    let at-change-by : tie.After-change-by Inv-loop μ-loop = search in
+    let at-loop-test : tie.In-loop Inv-loop μ-loop = search in
+    let at-loop : tie.At-loop Inv-loop μ-loop = search in
+    making-again (at-loop .loop .inv) (at-loop-test .loop-test .taken) (at-change-by .change-by .ensures) (at-change-by .change-by .kept .1 .0) (at-change-by .change-by .kept .1 .1 .0) (at-change-by .change-by .kept .1 .1 .1 .0)
 
 same-length : tie.Need-same-length Inv-loop μ-loop
 same-length c = (c .before) .loop .inv .long
@@ -60,7 +51,9 @@ same-length-3 : tie.Need-same-length-3 Inv-loop μ-loop
 same-length-3 c = (c .before) .loop .inv .long-cache
 
 returns : tie.Need-returns Inv-loop μ-loop
-returns c = making-end ((c .before) .loop .inv) ((start·After-loop c) .args .store) ((c .before .before) .placed .ensures .0) (c .loop-test .left)
+returns c =
+    let at-start : tie.Start Inv-loop μ-loop = search in
+    making-end ((c .before) .loop .inv) (at-start .args .store) ((c .before .before) .placed .ensures .0) (c .loop-test .left)
 
 pub make-combination-spec : {M : Type 1} → statement M
 make-combination-spec =

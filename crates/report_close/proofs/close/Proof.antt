@@ -52,26 +52,21 @@ same-length-3 c = search needs
 same-length-4 : tie.Need-same-length-4
 same-length-4 c = search needs
 
-abbrev enum-told·After-slice-known8 : tie.After-slice-known8 → tie.After-enum-told
-enum-told·After-slice-known8 c = c .before .before .before .before .before .before .before .before .before .before .before .before .before .before
-
-abbrev close-sums·After-slice-known8 : tie.After-slice-known8 → tie.After-close-sums
-close-sums·After-slice-known8 c = c .before .before .before .before .before .before .before .before
-
 returns : tie.Need-returns
-returns c = close-with-sums (((enum-told·After-slice-known8 c) .before .before) .ending-of .ensures) ((enum-told·After-slice-known8 c) .enum-told .given .1) ((close-sums·After-slice-known8 c) .close-sums .ensures)
-
-abbrev ending-of·After-put-line : tie.After-put-line → tie.After-ending-of
-ending-of·After-put-line c = c .before .before .before .before .before .before
+returns c =
+    let at-close-sums : tie.After-close-sums = search in
+    let at-enum-told : tie.After-enum-told = search in
+    close-with-sums ((at-enum-told .before .before) .ending-of .ensures) (at-enum-told .enum-told .given .1) (at-close-sums .close-sums .ensures)
 
 returns-2 : tie.Need-returns-2
-returns-2 c = close-with-line ((ending-of·After-put-line c) .ending-of .ensures) refusedWord _ _ ((c .before .before .before .before) .enum-told2 .given .1) (λ capacity g. refl) ((c .before .before) .bumped .ensures) (c .put-line .ensures)
-
-abbrev ending-of·After-put-line2 : tie.After-put-line2 → tie.After-ending-of
-ending-of·After-put-line2 c = c .before .before .before .before .before .before
+returns-2 c =
+    let at-ending-of : tie.After-ending-of = search in
+    close-with-line (at-ending-of .ending-of .ensures) refusedWord _ _ ((c .before .before .before .before) .enum-told2 .given .1) (λ capacity g. refl) ((c .before .before) .bumped .ensures) (c .put-line .ensures)
 
 returns-3 : tie.Need-returns-3
-returns-3 c = close-with-line ((ending-of·After-put-line2 c) .ending-of .ensures) fullWord _ _ ((c .before .before .before .before) .enum-told3 .given .1) (λ capacity g. refl) ((c .before .before) .bumped2 .ensures) (c .put-line2 .ensures)
+returns-3 c =
+    let at-ending-of : tie.After-ending-of = search in
+    close-with-line (at-ending-of .ending-of .ensures) fullWord _ _ ((c .before .before .before .before) .enum-told3 .given .1) (λ capacity g. refl) ((c .before .before) .bumped2 .ensures) (c .put-line2 .ensures)
 
 pub close-spec : {M : Type 1} → statement M
 close-spec =

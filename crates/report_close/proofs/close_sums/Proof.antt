@@ -73,59 +73,38 @@ same-length-12 c = search needs
 same-length-13 : tie.Need-same-length-13
 same-length-13 c = search needs
 
-abbrev intsec·After-slice-known9 : tie.After-slice-known9 → tie.After-intsec
-intsec·After-slice-known9 c = c .before .before .before .before .before .before .before .before .before .before .before .before .before
-
-abbrev enum-told·After-slice-known9 : tie.After-slice-known9 → tie.After-enum-told
-enum-told·After-slice-known9 c = c .before .before .before .before .before
-
-abbrev start·After-put-word-arg4 : tie.After-put-word-arg4 → tie.Start
-start·After-put-word-arg4 c = c .before .before .before .before .before .before .before .before .before .before .before .before .before .before .before .before .before .before .before .before .before .before .before .before .before .before .before .before .before .before .before .before
-
-abbrev intsec·After-slice-known13 : tie.After-slice-known13 → tie.After-intsec
-intsec·After-slice-known13 c = c .before .before .before .before .before .before .before .before .before .before .before .before .before .before .before .before .before .before .before .before .before .before .before .before .before .before
-
-abbrev first-answer·After-slice-known13 : tie.After-slice-known13 → tie.After-first-answer
-first-answer·After-slice-known13 c = c .before .before .before .before .before .before .before .before .before .before .before .before .before .before .before .before .before .before
-
-abbrev diff·After-slice-known13 : tie.After-slice-known13 → tie.After-diff
-diff·After-slice-known13 c = c .before .before .before .before .before .before .before .before .before .before .before .before .before
-
-abbrev enum-told2·After-slice-known13 : tie.After-slice-known13 → tie.After-enum-told2
-enum-told2·After-slice-known13 c = c .before .before .before .before .before
-
-abbrev start·After-put-sizes-arg4 : tie.After-put-sizes-arg4 → tie.Start
-start·After-put-sizes-arg4 c = c .before .before .before .before .before .before .before .before .before .before .before .before .before .before .before .before .before .before .before .before .before .before .before .before .before .before .before .before .before .before .before .before .before .before .before
-
-abbrev intsec·After-slice-known15 : tie.After-slice-known15 → tie.After-intsec
-intsec·After-slice-known15 c = c .before .before .before .before .before .before .before .before .before .before .before .before .before .before .before .before .before .before .before .before .before .before .before .before .before .before .before .before .before .before .before
-
-abbrev first-answer·After-slice-known15 : tie.After-slice-known15 → tie.After-first-answer
-first-answer·After-slice-known15 c = c .before .before .before .before .before .before .before .before .before .before .before .before .before .before .before .before .before .before .before .before .before .before .before
-
-abbrev diff·After-slice-known15 : tie.After-slice-known15 → tie.After-diff
-diff·After-slice-known15 c = c .before .before .before .before .before .before .before .before .before .before .before .before .before .before .before .before .before .before
-
-abbrev second-answer·After-slice-known15 : tie.After-slice-known15 → tie.After-second-answer
-second-answer·After-slice-known15 c = c .before .before .before .before .before .before .before .before .before .before
-
-abbrev put-sizes·After-slice-known15 : tie.After-slice-known15 → tie.After-put-sizes
-put-sizes·After-slice-known15 c = c .before .before .before .before
-
 returns : tie.Need-returns
-returns c = sums-first _ _ ((intsec·After-slice-known9 c) .intsec .ensures) _ ((enum-told·After-slice-known9 c) .enum-told .given .1) ((c .before .before) .put-word .ensures)
+returns c =
+    let at-enum-told : tie.After-enum-told = search in
+    let at-intsec : tie.After-intsec = search in
+    sums-first _ _ (at-intsec .intsec .ensures) _ (at-enum-told .enum-told .given .1) ((c .before .before) .put-word .ensures)
 
 put-word-requires-2 : tie.Need-put-word-requires-2
-put-word-requires-2 c κs = omega (arith, (start·After-put-word-arg4 c) .pre)
+put-word-requires-2 c κs =
+    let at-start : tie.Start = search in
+    omega (arith, at-start .pre)
 
 returns-2 : tie.Need-returns-2
-returns-2 c = sums-second _ _ ((intsec·After-slice-known13 c) .intsec .ensures) ((first-answer·After-slice-known13 c) .first-answer .given .1) ((diff·After-slice-known13 c) .diff .ensures) _ ((enum-told2·After-slice-known13 c) .enum-told2 .given .1) ((c .before .before) .put-word2 .ensures)
+returns-2 c =
+    let at-enum-told2 : tie.After-enum-told2 = search in
+    let at-diff : tie.After-diff = search in
+    let at-first-answer : tie.After-first-answer = search in
+    let at-intsec : tie.After-intsec = search (at-first-answer) in
+    sums-second _ _ (at-intsec .intsec .ensures) (at-first-answer .first-answer .given .1) (at-diff .diff .ensures) _ (at-enum-told2 .enum-told2 .given .1) ((c .before .before) .put-word2 .ensures)
 
 put-sizes-requires : tie.Need-put-sizes-requires
-put-sizes-requires c κs = (start·After-put-sizes-arg4 c) .pre
+put-sizes-requires c κs =
+    let at-start : tie.Start = search in
+    at-start .pre
 
 returns-3 : tie.Need-returns-3
-returns-3 c = sums-written _ _ ((intsec·After-slice-known15 c) .intsec .ensures) ((first-answer·After-slice-known15 c) .first-answer .given .1) ((diff·After-slice-known15 c) .diff .ensures) ((second-answer·After-slice-known15 c) .second-answer .given .1) ((put-sizes·After-slice-known15 c) .put-sizes .ensures)
+returns-3 c =
+    let at-put-sizes : tie.After-put-sizes = search in
+    let at-second-answer : tie.After-second-answer = search in
+    let at-diff : tie.After-diff = search in
+    let at-first-answer : tie.After-first-answer = search in
+    let at-intsec : tie.After-intsec = search (at-first-answer) in
+    sums-written _ _ (at-intsec .intsec .ensures) (at-first-answer .first-answer .given .1) (at-diff .diff .ensures) (at-second-answer .second-answer .given .1) (at-put-sizes .put-sizes .ensures)
 
 pub close-sums-spec : {M : Type 1} → statement M
 close-sums-spec =

@@ -28,24 +28,16 @@ same-length c = search needs
 same-length-2 : tie.Need-same-length-2
 same-length-2 c = search needs
 
-abbrev size-of·After-slice-known7 : tie.After-slice-known7 → tie.After-size-of
-size-of·After-slice-known7 c = c .before .before .before .before .before .before .before .before .before .before .before .before .before .before .before .before .before .before
-
-abbrev size-of2·After-slice-known7 : tie.After-slice-known7 → tie.After-size-of2
-size-of2·After-slice-known7 c = c .before .before .before .before .before .before .before .before .before .before .before .before .before .before
-
-abbrev size-of3·After-slice-known7 : tie.After-slice-known7 → tie.After-size-of3
-size-of3·After-slice-known7 c = c .before .before .before .before .before .before .before .before .before .before
-
-abbrev size-of4·After-slice-known7 : tie.After-slice-known7 → tie.After-size-of4
-size-of4·After-slice-known7 c = c .before .before .before .before .before .before
-
 returns : tie.Need-returns
 returns c =
-    sizes-written ((size-of·After-slice-known7 c) .size-of .ensures)
-    (as-long ((size-of·After-slice-known7 c) .size-of .kept .1 .1 .1 .1 .0) ((size-of2·After-slice-known7 c) .size-of2 .ensures))
-    (as-long ((size-of2·After-slice-known7 c) .size-of2 .kept .1 .1 .1 .1 .0 ∙ (size-of·After-slice-known7 c) .size-of .kept .1 .1 .1 .1 .0) ((size-of3·After-slice-known7 c) .size-of3 .ensures))
-    (as-long ((size-of3·After-slice-known7 c) .size-of3 .kept .1 .1 .1 .1 .0 ∙ (size-of2·After-slice-known7 c) .size-of2 .kept .1 .1 .1 .1 .0 ∙ (size-of·After-slice-known7 c) .size-of .kept .1 .1 .1 .1 .0) ((size-of4·After-slice-known7 c) .size-of4 .ensures))
+    let at-size-of4 : tie.After-size-of4 = search in
+    let at-size-of3 : tie.After-size-of3 = search in
+    let at-size-of2 : tie.After-size-of2 = search in
+    let at-size-of : tie.After-size-of = search in
+    sizes-written (at-size-of .size-of .ensures)
+    (as-long (at-size-of .size-of .kept .1 .1 .1 .1 .0) (at-size-of2 .size-of2 .ensures))
+    (as-long (at-size-of2 .size-of2 .kept .1 .1 .1 .1 .0 ∙ at-size-of .size-of .kept .1 .1 .1 .1 .0) (at-size-of3 .size-of3 .ensures))
+    (as-long (at-size-of3 .size-of3 .kept .1 .1 .1 .1 .0 ∙ at-size-of2 .size-of2 .kept .1 .1 .1 .1 .0 ∙ at-size-of .size-of .kept .1 .1 .1 .1 .0) (at-size-of4 .size-of4 .ensures))
     ((c .before .before) .put-sums .ensures)
 
 pub put-sizes-spec : {M : Type 1} → statement M

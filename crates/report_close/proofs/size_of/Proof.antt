@@ -21,17 +21,15 @@ same-length c = search needs
 same-length-2 : tie.Need-same-length-2
 same-length-2 c = search needs
 
-abbrev size·After-enum-told : tie.After-enum-told → tie.After-size
-size·After-enum-told c = c .before .before .before .before
-
-abbrev size·After-known-told : tie.After-known-told → tie.After-size
-size·After-known-told c = c .before .before .before .before .before
-
 returns : tie.Need-returns
-returns c = size-brimmed ((size·After-enum-told c) .size .ensures) _ (c .enum-told .given .1)
+returns c =
+    let at-size : tie.After-size = search in
+    size-brimmed (at-size .size .ensures) _ (c .enum-told .given .1)
 
 returns-2 : tie.Need-returns-2
-returns-2 c = size-told ((size·After-known-told c) .size .ensures) ((c .before) .answer .given .1)
+returns-2 c =
+    let at-size : tie.After-size = search in
+    size-told (at-size .size .ensures) ((c .before) .answer .given .1)
 
 pub size-of-spec : {M : Type 1} → statement M
 size-of-spec =

@@ -27,27 +27,6 @@ spell-below t = and 1 spell-kinds.ps (falls 1 spell-kinds.ps _<_ μ-spell t) spe
 abbrev spell-claims : ℕ → spell-lts.Claims
 spell-claims t = (put-byte-reads.Asked, put-byte-reads.Learnt, spell-below t, spell.Post)
 
-abbrev start·spell·After-slice-known2 : (t : ℕ) → spell-lts.After-slice-known2 (spell-claims t) (spell-at t) spell.Post → spell-lts.Start (spell-claims t) (spell-at t) spell.Post
-start·spell·After-slice-known2 t c = c .before .before .before .before .before .before
-
-abbrev if1·spell·After-slice-known2 : (t : ℕ) → spell-lts.After-slice-known2 (spell-claims t) (spell-at t) spell.Post → spell-lts.Then1 (spell-claims t) (spell-at t) spell.Post
-if1·spell·After-slice-known2 t c = c .before .before .before .before
-
-abbrev start·spell·After-put-byte-arg2 : (t : ℕ) → spell-lts.After-put-byte-arg2 (spell-claims t) (spell-at t) spell.Post → spell-lts.Start (spell-claims t) (spell-at t) spell.Post
-start·spell·After-put-byte-arg2 t c = c .before .before .before .before .before .before .before
-
-abbrev if1·spell·After-put-byte-arg2 : (t : ℕ) → spell-lts.After-put-byte-arg2 (spell-claims t) (spell-at t) spell.Post → spell-lts.Else1 (spell-claims t) (spell-at t) spell.Post
-if1·spell·After-put-byte-arg2 t c = c .before .before .before .before .before
-
-abbrev spell·spell·After-slice-known4 : (t : ℕ) → spell-lts.After-slice-known4 (spell-claims t) (spell-at t) spell.Post → spell-lts.After-spell (spell-claims t) (spell-at t) spell.Post
-spell·spell·After-slice-known4 t c = c .before .before .before .before .before .before
-
-abbrev start·spell·After-slice-known4 : (t : ℕ) → spell-lts.After-slice-known4 (spell-claims t) (spell-at t) spell.Post → spell-lts.Start (spell-claims t) (spell-at t) spell.Post
-start·spell·After-slice-known4 t c = c .before .before .before .before .before .before .before .before .before .before
-
-abbrev if1·spell·After-slice-known4 : (t : ℕ) → spell-lts.After-slice-known4 (spell-claims t) (spell-at t) spell.Post → spell-lts.Else1 (spell-claims t) (spell-at t) spell.Post
-if1·spell·After-slice-known4 t c = c .before .before .before .before .before .before .before .before
-
 spell-cast-put-byte : (t : ℕ) → spell-lts.Need-cast-put-byte (spell-claims t) (spell-at t) spell.Post
 spell-cast-put-byte t c = search needs
 
@@ -61,7 +40,10 @@ spell-same-length : (t : ℕ) → spell-lts.Need-same-length (spell-claims t) (s
 spell-same-length t c = search needs
 
 spell-returns : (t : ℕ) → spell-lts.Need-returns (spell-claims t) (spell-at t) spell.Post
-spell-returns t c = spelled-small ((start·spell·After-slice-known2 t c) .args .n) ((if1·spell·After-slice-known2 t c) .if1 .taken) ((c .before .before) .put-byte .ensures)
+spell-returns t c =
+    let at-if1 : spell-lts.Then1 (spell-claims t) (spell-at t) spell.Post = search in
+    let at-start : spell-lts.Start (spell-claims t) (spell-at t) spell.Post = search in
+    spelled-small (at-start .args .n) (at-if1 .if1 .taken) ((c .before .before) .put-byte .ensures)
 
 spell-spell-requires : (t : ℕ) → spell-lts.Need-spell-requires (spell-claims t) (spell-at t) spell.Post
 spell-spell-requires t c κs = (omega (arith, (c .before .before .before) .pre .0, (c .before) .if1 .left), omega (arith, (c .before .before .before) .pre .1, one-more ((c .before .before .before) .args .n) ((c .before) .if1 .left)))
@@ -73,13 +55,22 @@ spell-add-put-byte-2 : (t : ℕ) → spell-lts.Need-add-put-byte-2 (spell-claims
 spell-add-put-byte-2 t c = search needs
 
 spell-put-byte-requires-2 : (t : ℕ) → spell-lts.Need-put-byte-requires-2 (spell-claims t) (spell-at t) spell.Post
-spell-put-byte-requires-2 t c κs = omega (arith, (start·spell·After-put-byte-arg2 t c) .pre .1, one-more ((start·spell·After-put-byte-arg2 t c) .args .n) ((if1·spell·After-put-byte-arg2 t c) .if1 .left), (c .before .before .before) .spell .ensures .end, (c .before .before .before) .spell .kept .0)
+spell-put-byte-requires-2 t c κs =
+    let at-if1 : spell-lts.Else1 (spell-claims t) (spell-at t) spell.Post = search in
+    let at-start : spell-lts.Start (spell-claims t) (spell-at t) spell.Post = search in
+    omega (arith, at-start .pre .1, one-more (at-start .args .n) (at-if1 .if1 .left), (c .before .before .before) .spell .ensures .end, (c .before .before .before) .spell .kept .0)
 
 spell-same-length-2 : (t : ℕ) → spell-lts.Need-same-length-2 (spell-claims t) (spell-at t) spell.Post
-spell-same-length-2 t c = (c .before .before) .put-byte2 .kept .0 ∙ (spell·spell·After-slice-known4 t c) .spell .kept .0
+spell-same-length-2 t c =
+    let at-spell : spell-lts.After-spell (spell-claims t) (spell-at t) spell.Post = search in
+    (c .before .before) .put-byte2 .kept .0 ∙ at-spell .spell .kept .0
 
 spell-returns-2 : (t : ℕ) → spell-lts.Need-returns-2 (spell-claims t) (spell-at t) spell.Post
-spell-returns-2 t c = spelled-more ((start·spell·After-slice-known4 t c) .args .n) ((if1·spell·After-slice-known4 t c) .if1 .left) ((spell·spell·After-slice-known4 t c) .spell .ensures) ((c .before .before) .put-byte2 .ensures)
+spell-returns-2 t c =
+    let at-spell : spell-lts.After-spell (spell-claims t) (spell-at t) spell.Post = search in
+    let at-if1 : spell-lts.Else1 (spell-claims t) (spell-at t) spell.Post = search in
+    let at-start : spell-lts.Start (spell-claims t) (spell-at t) spell.Post = search in
+    spelled-more (at-start .args .n) (at-if1 .if1 .left) (at-spell .spell .ensures) ((c .before .before) .put-byte2 .ensures)
 
 pub +spell-spec : {M : Type 1} → statement M
 +spell-spec = close μ-spell λ t. spell-lts.spec (spell-claims t)

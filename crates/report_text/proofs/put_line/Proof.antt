@@ -16,33 +16,24 @@ put-word-requires c κs = search needs
 same-length : tie.Need-same-length
 same-length c = search needs
 
-abbrev start·After-spell-arg : tie.After-spell-arg → tie.Start
-start·After-spell-arg c = c .before .before .before .before .before .before .before .before
-
-abbrev start·After-put-word-arg3 : tie.After-put-word-arg3 → tie.Start
-start·After-put-word-arg3 c = c .before .before .before .before .before .before .before .before .before .before .before .before
-
-abbrev put-word·After-put-word-arg3 : tie.After-put-word-arg3 → tie.After-put-word
-put-word·After-put-word-arg3 c = c .before .before .before .before .before .before .before
-
-abbrev put-word·After-slice-known4 : tie.After-slice-known4 → tie.After-put-word
-put-word·After-slice-known4 c = c .before .before .before .before .before .before .before .before .before .before
-
-abbrev spell·After-slice-known4 : tie.After-slice-known4 → tie.After-spell
-spell·After-slice-known4 c = c .before .before .before .before .before .before
-
 spell-requires : tie.Need-spell-requires
-spell-requires c κs = omega (arith, (start·After-spell-arg c) .pre .0, (c .before .before .before) .put-word .ensures .end, (c .before .before .before) .put-word .kept .0, short-64 ((start·After-spell-arg c) .args .n) ((start·After-spell-arg c) .fits .n .fits))
+spell-requires c κs =
+    let at-start : tie.Start = search in
+    omega (arith, at-start .pre .0, (c .before .before .before) .put-word .ensures .end, (c .before .before .before) .put-word .kept .0, short-64 (at-start .args .n) (at-start .fits .n .fits))
 
 put-word-requires-2 : tie.Need-put-word-requires-2
 put-word-requires-2 c κs =
+    let at-put-word : tie.After-put-word = search in
     let a = start·After-put-word-arg3 c in
-    let w = (put-word·After-put-word-arg3 c) .put-word in
+    let w = at-put-word .put-word in
     let d = (c .before .before .before) .spell in
     omega (arith, a .pre .0, a .pre .1, w .ensures .end, w .kept .0, d .ensures .end, d .kept .0, short-64 (a .args .n) (a .fits .n .fits))
 
 returns : tie.Need-returns
-returns c = wrote-then ((put-word·After-slice-known4 c) .put-word .ensures) (wrote-then ((spell·After-slice-known4 c) .spell .ensures) ((c .before .before) .put-word2 .ensures))
+returns c =
+    let at-spell : tie.After-spell = search in
+    let at-put-word : tie.After-put-word = search in
+    wrote-then (at-put-word .put-word .ensures) (wrote-then (at-spell .spell .ensures) ((c .before .before) .put-word2 .ensures))
 
 pub put-line-spec : {M : Type 1} → statement M
 put-line-spec =

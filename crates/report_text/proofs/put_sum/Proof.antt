@@ -14,29 +14,22 @@ put-word-requires c κs = search needs
 same-length : tie.Need-same-length
 same-length c = search needs
 
-abbrev start·After-spell-arg : tie.After-spell-arg → tie.Start
-start·After-spell-arg c = c .before .before .before .before .before .before .before
-
-abbrev start·After-put-byte-arg : tie.After-put-byte-arg → tie.Start
-start·After-put-byte-arg c = c .before .before .before .before .before .before .before .before .before .before .before
-
-abbrev put-word·After-put-byte-arg : tie.After-put-byte-arg → tie.After-put-word
-put-word·After-put-byte-arg c = c .before .before .before .before .before .before .before
-
-abbrev put-word·After-slice-known4 : tie.After-slice-known4 → tie.After-put-word
-put-word·After-slice-known4 c = c .before .before .before .before .before .before .before .before .before .before
-
-abbrev spell·After-slice-known4 : tie.After-slice-known4 → tie.After-spell
-spell·After-slice-known4 c = c .before .before .before .before .before .before
-
 spell-requires : tie.Need-spell-requires
-spell-requires c κs = omega (arith, (start·After-spell-arg c) .pre, (c .before .before .before) .put-word .ensures .end, (c .before .before .before) .put-word .kept .0, short-64 ((start·After-spell-arg c) .args .n) ((start·After-spell-arg c) .fits .n .fits))
+spell-requires c κs =
+    let at-start : tie.Start = search in
+    omega (arith, at-start .pre, (c .before .before .before) .put-word .ensures .end, (c .before .before .before) .put-word .kept .0, short-64 (at-start .args .n) (at-start .fits .n .fits))
 
 put-byte-requires : tie.Need-put-byte-requires
-put-byte-requires c κs = omega (arith, (start·After-put-byte-arg c) .pre, (put-word·After-put-byte-arg c) .put-word .ensures .end, (put-word·After-put-byte-arg c) .put-word .kept .0, (c .before .before .before) .spell .ensures .end, (c .before .before .before) .spell .kept .0, short-64 ((start·After-put-byte-arg c) .args .n) ((start·After-put-byte-arg c) .fits .n .fits))
+put-byte-requires c κs =
+    let at-put-word : tie.After-put-word = search in
+    let at-start : tie.Start = search in
+    omega (arith, at-start .pre, at-put-word .put-word .ensures .end, at-put-word .put-word .kept .0, (c .before .before .before) .spell .ensures .end, (c .before .before .before) .spell .kept .0, short-64 (at-start .args .n) (at-start .fits .n .fits))
 
 returns : tie.Need-returns
-returns c = wrote-then ((put-word·After-slice-known4 c) .put-word .ensures) (wrote-then ((spell·After-slice-known4 c) .spell .ensures) ((c .before .before) .put-byte .ensures))
+returns c =
+    let at-spell : tie.After-spell = search in
+    let at-put-word : tie.After-put-word = search in
+    wrote-then (at-put-word .put-word .ensures) (wrote-then (at-spell .spell .ensures) ((c .before .before) .put-byte .ensures))
 
 pub put-sum-spec : {M : Type 1} → statement M
 put-sum-spec =

@@ -11,36 +11,13 @@ use borrow.Author.Needs.{needs}
 use Rattle.store_fresh.proofs.fresh.Statement.{statement}
 use Rattle.store_fresh.proofs.fresh.Tie as tie
 
-abbrev start·After-new : tie.After-new → tie.Start
-start·After-new c = c .before .before .before .before .before
-
-abbrev start·After-new2 : tie.After-new2 → tie.Start
-start·After-new2 c = c .before .before .before .before .before .before .before
-
-abbrev start·After-new3 : tie.After-new3 → tie.Start
-start·After-new3 c = c .before .before .before .before .before .before .before .before .before .before .before .before .before .before .before .before .before .before .before
-
-abbrev capacity-of·After-new3 : tie.After-new3 → tie.After-capacity-of
-capacity-of·After-new3 c = c .before .before .before .before .before .before .before .before .before .before .before .before .before .before
-
-abbrev if1·After-new3 : tie.After-new3 → tie.Else1
-if1·After-new3 c = c .before .before .before .before .before .before .before .before .before .before .before .before .before .before .before
-
-abbrev zero·After-new3 : tie.After-new3 → tie.After-zero
-zero·After-new3 c = c .before .before .before .before .before .before .before .before .before .before .before
-
-abbrev zero2·After-new3 : tie.After-new3 → tie.After-zero2
-zero2·After-new3 c = c .before .before .before .before .before .before .before
-
-abbrev if2·After-new3 : tie.After-new3 → tie.Else2
-if2·After-new3 c = c .before .before .before .before .before .before .before .before .before .before .before .before .before
-
 new-requires : tie.Need-new-requires
 new-requires c κs = search needs
 
 returns : tie.Need-returns
 returns c =
-    let a = (start·After-new c) .args in
+    let at-start : tie.Start = search in
+    let a = at-start .args in
     fresh-tiny (a .nodes .now) (a .lookup .now) (a .cache .now) (c .new .result) (c .new .ensures .0) (c .new .ensures .1) ((c .before) .if1 .taken)
 
 capacity-of-requires : tie.Need-capacity-of-requires
@@ -54,7 +31,8 @@ new-requires-2 c κs = search needs
 
 returns-2 : tie.Need-returns-2
 returns-2 c =
-    let a = (start·After-new2 c) .args in
+    let at-start : tie.Start = search in
+    let a = at-start .args in
     fresh-short (a .nodes .now) (a .lookup .now) (a .cache .now) (c .new2 .result) ((c .before .before .before) .if1 .left) (c .new2 .ensures .0) (c .new2 .ensures .1) (omega (arith, (c .before .before) .capacity-of .ensures, (c .before) .if2 .taken))
 
 cast-zero : tie.Need-cast-zero
@@ -86,11 +64,17 @@ same-length-3 c = search needs
 
 returns-3 : tie.Need-returns-3
 returns-3 c =
-    let a = (start·After-new3 c) .args in
-    let e = (capacity-of·After-new3 c) .capacity-of .ensures in
-    fresh-done (a .nodes .now) (a .lookup .now) (a .cache .now) (c .new3 .result) ((if1·After-new3 c) .if1 .left) ((zero·After-new3 c) .zero .last .0) ((zero2·After-new3 c) .zero2 .last .0) ((c .before .before .before) .zero-groups .last .0)
-    (c .new3 .ensures .0 ∙ e) (c .new3 .ensures .1) (omega (arith, e, (if2·After-new3 c) .if2 .left))
-    ((zero·After-new3 c) .zero .ensures ∙ ap (λ k. zeroed 0 (3 * k) (a .nodes .now)) e) ((zero2·After-new3 c) .zero2 .ensures) ((c .before .before .before) .zero-groups .ensures)
+    let at-zero2 : tie.After-zero2 = search in
+    let at-zero : tie.After-zero = search in
+    let at-if2 : tie.Else2 = search in
+    let at-capacity-of : tie.After-capacity-of = search in
+    let at-if1 : tie.Else1 = search in
+    let at-start : tie.Start = search in
+    let a = at-start .args in
+    let e = at-capacity-of .capacity-of .ensures in
+    fresh-done (a .nodes .now) (a .lookup .now) (a .cache .now) (c .new3 .result) (at-if1 .if1 .left) (at-zero .zero .last .0) (at-zero2 .zero2 .last .0) ((c .before .before .before) .zero-groups .last .0)
+    (c .new3 .ensures .0 ∙ e) (c .new3 .ensures .1) (omega (arith, e, at-if2 .if2 .left))
+    (at-zero .zero .ensures ∙ ap (λ k. zeroed 0 (3 * k) (a .nodes .now)) e) (at-zero2 .zero2 .ensures) ((c .before .before .before) .zero-groups .ensures)
 
 pub fresh-spec : {M : Type 1} → statement M
 fresh-spec =

@@ -6,18 +6,6 @@ use borrow.Author.Needs.{needs}
 use Rattle.store_undo.proofs.finish.Statement.{statement}
 use Rattle.store_undo.proofs.finish.Tie as tie
 
-abbrev start·After-enum-told : tie.After-enum-told → tie.Start
-start·After-enum-told c = c .before .before .before .before .before
-
-abbrev start·After-refused : tie.After-refused → tie.Start
-start·After-refused c = c .before .before .before .before .before .before .before .before .before .before .before .before .before .before .before .before .before .before .before
-
-abbrev answer·After-refused : tie.After-refused → tie.After-answer
-answer·After-refused c = c .before .before .before .before .before .before .before .before .before .before .before .before .before .before
-
-abbrev rollback·After-refused : tie.After-refused → tie.After-rollback
-rollback·After-refused c = c .before .before .before .before .before .before .before .before .before
-
 enum-told : tie.Need-enum-told
 enum-told c = search needs
 
@@ -35,7 +23,8 @@ refused-requires c κs = search needs
 
 returns : tie.Need-returns
 returns c =
-    let a = (start·After-enum-told c) .args in
+    let at-start : tie.Start = search in
+    let a = at-start .args in
     finished-gave (a .placed) (a .keep) (a .nodes .now) (a .lookup .now) (a .cache .now) _ (c .enum-told .given .1)
 
 same-length : tie.Need-same-length
@@ -49,8 +38,11 @@ same-length-3 c = search needs
 
 returns-2 : tie.Need-returns-2
 returns-2 c =
-    let a = (start·After-refused c) .args in
-    finished-undone (a .placed) (a .keep) (a .nodes .now) (a .lookup .now) (a .cache .now) _ _ (c .refused .result) _ _ _ ((answer·After-refused c) .answer .given .1) ((rollback·After-refused c) .rollback .ensures) (c .refused .ensures .0) (c .refused .ensures .1) ((c .before .before .before) .zero-groups .ensures)
+    let at-rollback : tie.After-rollback = search in
+    let at-answer : tie.After-answer = search in
+    let at-start : tie.Start = search in
+    let a = at-start .args in
+    finished-undone (a .placed) (a .keep) (a .nodes .now) (a .lookup .now) (a .cache .now) _ _ (c .refused .result) _ _ _ (at-answer .answer .given .1) (at-rollback .rollback .ensures) (c .refused .ensures .0) (c .refused .ensures .1) ((c .before .before .before) .zero-groups .ensures)
 
 pub finish-spec : {M : Type 1} → statement M
 finish-spec =

@@ -4,19 +4,15 @@ use borrow.Author.Needs.{needs}
 use Rattle.store_undo.proofs.rollback.Statement.{statement}
 use Rattle.store_undo.proofs.rollback.Tie as tie
 
-abbrev zero·After-rolled-back : tie.After-rolled-back → tie.After-zero
-zero·After-rolled-back c = c .before .before .before
-
-abbrev clear-newest·After-rolled-back : tie.After-rolled-back → tie.After-clear-newest
-clear-newest·After-rolled-back c = c .before .before .before .before .before .before .before
-
 returns : tie.Need-returns
 returns c =
+    let at-zero : tie.After-zero = search in
+    let at-clear-newest : tie.After-clear-newest = search in
     record {
       capacity = c .rolled-back .ensures .0;
       count = c .rolled-back .ensures .1;
-      nodes-are = (zero·After-rolled-back c) .zero .ensures;
-      lookup-is = (clear-newest·After-rolled-back c) .clear-newest .ensures;
+      nodes-are = at-zero .zero .ensures;
+      lookup-is = at-clear-newest .clear-newest .ensures;
     }
 
 pub rollback-spec : {M : Type 1} → statement M

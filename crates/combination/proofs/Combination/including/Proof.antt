@@ -38,9 +38,6 @@ element-write-self c = search needs
 words-of : (c : tie.Start) → Words (c .args .t1 .words)
 words-of c = let g = c .good .0 .1 .1 .0 in given-words (c .args .t1 .words) (g .0) (g .1 .0 .1) (g .1 .1)
 
-abbrev start·After-word : tie.After-word → tie.Start
-start·After-word c = c .before .before .before .before .before
-
 returns : tie.Need-returns
 returns c = sym (not-including _ _ (free-zero _ _ (c .if1 .taken)))
 
@@ -51,10 +48,14 @@ returns-3 : tie.Need-returns-3
 returns-3 c = sym (not-including _ _ (free-held _ _ (cc)))
 
 add-self : tie.Need-add-self
-add-self c = record { fits = included-fits ((start·After-word c) .args .item) ((start·After-word c) .args .t1 .words) (words-of (start·After-word c)) (omega arith) (omega arith) (cc) }
+add-self c =
+    let at-start : tie.Start = search in
+    record { fits = included-fits (at-start .args .item) (at-start .args .t1 .words) (words-of at-start) (omega arith) (omega arith) (cc) }
 
 returns-4 : tie.Need-returns-4
-returns-4 c = included ((start·After-word c) .args .item) ((start·After-word c) .args .t1 .words) (words-of (start·After-word c) .sixteen) (omega arith) (omega arith) (cc)
+returns-4 c =
+    let at-start : tie.Start = search in
+    included (at-start .args .item) (at-start .args .t1 .words) (words-of at-start .sixteen) (omega arith) (omega arith) (cc)
 
 pub including-spec : {M : Type 1} → statement M
 including-spec =

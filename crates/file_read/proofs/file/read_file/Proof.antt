@@ -27,53 +27,38 @@ read-parts-requires c κs = search needs
 same-length : tie.Need-same-length
 same-length c = search needs
 
-abbrev start·After-slice-known2 : tie.After-slice-known2 → tie.Start
-start·After-slice-known2 c = c .before .before .before .before .before .before .before .before .before .before
-
-abbrev if1·After-slice-known2 : tie.After-slice-known2 → tie.Else1
-if1·After-slice-known2 c = c .before .before .before .before .before .before .before
-
-abbrev if2·After-slice-known2 : tie.After-slice-known2 → tie.Then2
-if2·After-slice-known2 c = c .before .before .before .before .before
-
-abbrev start·Then3 : tie.Then3 → tie.Start
-start·Then3 c = c .before .before .before .before .before .before
-
-abbrev start·Then4 : tie.Then4 → tie.Start
-start·Then4 c = c .before .before .before .before .before .before .before
-
-abbrev if1·Then4 : tie.Then4 → tie.Else1
-if1·Then4 c = c .before .before .before .before
-
-abbrev start·Then5 : tie.Then5 → tie.Start
-start·Then5 c = c .before .before .before .before .before .before .before .before
-
-abbrev if1·Then5 : tie.Then5 → tie.Else1
-if1·Then5 c = c .before .before .before .before .before
-
-abbrev start·Else5 : tie.Else5 → tie.Start
-start·Else5 c = c .before .before .before .before .before .before .before .before
-
-abbrev if1·Else5 : tie.Else5 → tie.Else1
-if1·Else5 c = c .before .before .before .before .before
-
 returns : tie.Need-returns
 returns c = let a = (c .before .before .before) .args in file-none (a .file .now) (a .words .now) _ (c .if1 .taken)
 
 returns-2 : tie.Need-returns-2
-returns-2 c = let a = (start·After-slice-known2 c) .args in file-rest (a .file .now) _ (a .words .now) _ ((if1·After-slice-known2 c) .if1 .left) ((if2·After-slice-known2 c) .if2 .taken) (part-from (a .file .now) 1) ((c .before .before) .read-parts .ensures)
+returns-2 c =
+    let at-if2 : tie.Then2 = search in
+    let at-if1 : tie.Else1 = search in
+    let at-start : tie.Start = search in
+    let a = at-start .args in file-rest (a .file .now) _ (a .words .now) _ (at-if1 .if1 .left) (at-if2 .if2 .taken) (part-from (a .file .now) 1) ((c .before .before) .read-parts .ensures)
 
 returns-3 : tie.Need-returns-3
-returns-3 c = let a = (start·Then3 c) .args in file-over (a .file .now) (a .words .now) _ ((c .before .before .before) .if1 .left) ((c .before) .if2 .left) (c .if3 .taken)
+returns-3 c =
+    let at-start : tie.Start = search in
+    let a = at-start .args in file-over (a .file .now) (a .words .now) _ ((c .before .before .before) .if1 .left) ((c .before) .if2 .left) (c .if3 .taken)
 
 returns-4 : tie.Need-returns-4
-returns-4 c = let a = (start·Then4 c) .args in file-leaf (a .file .now) (a .words .now) _ ((if1·Then4 c) .if1 .left) ((c .before .before) .if2 .left) ((c .before) .if3 .left) 0 0 (c .if4 .taken) (omega arith) refl
+returns-4 c =
+    let at-if1 : tie.Else1 = search in
+    let at-start : tie.Start = search in
+    let a = at-start .args in file-leaf (a .file .now) (a .words .now) _ (at-if1 .if1 .left) ((c .before .before) .if2 .left) ((c .before) .if3 .left) 0 0 (c .if4 .taken) (omega arith) refl
 
 returns-5 : tie.Need-returns-5
-returns-5 c = let a = (start·Then5 c) .args in file-leaf (a .file .now) (a .words .now) _ ((if1·Then5 c) .if1 .left) ((c .before .before .before) .if2 .left) ((c .before .before) .if3 .left) 2 1 (c .if5 .taken) (omega arith) refl
+returns-5 c =
+    let at-if1 : tie.Else1 = search in
+    let at-start : tie.Start = search in
+    let a = at-start .args in file-leaf (a .file .now) (a .words .now) _ (at-if1 .if1 .left) ((c .before .before .before) .if2 .left) ((c .before .before) .if3 .left) 2 1 (c .if5 .taken) (omega arith) refl
 
 returns-6 : tie.Need-returns-6
-returns-6 c = let a = (start·Else5 c) .args in file-other (a .file .now) (a .words .now) _ ((if1·Else5 c) .if1 .left) ((c .before .before .before) .if2 .left) ((c .before .before) .if3 .left) ((c .before) .if4 .left) (c .if5 .left)
+returns-6 c =
+    let at-if1 : tie.Else1 = search in
+    let at-start : tie.Start = search in
+    let a = at-start .args in file-other (a .file .now) (a .words .now) _ (at-if1 .if1 .left) ((c .before .before .before) .if2 .left) ((c .before .before) .if3 .left) ((c .before) .if4 .left) (c .if5 .left)
 
 pub read-file-spec : {M : Type 1} → statement M
 read-file-spec =

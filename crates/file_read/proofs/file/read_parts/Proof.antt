@@ -32,60 +32,38 @@ same-length c = search needs
 same-length-2 : tie.Need-same-length-2
 same-length-2 c = search needs
 
-abbrev start·Then2 : tie.Then2 → tie.Start
-start·Then2 c = c .before .before .before .before .before
-
-abbrev start·Then3 : tie.Then3 → tie.Start
-start·Then3 c = c .before .before .before .before .before .before
-
-abbrev start·Then4 : tie.Then4 → tie.Start
-start·Then4 c = c .before .before .before .before .before .before .before .before .before .before .before .before
-
-abbrev if1·Then4 : tie.Then4 → tie.Else1
-if1·Then4 c = c .before .before .before .before .before .before .before .before .before
-
-abbrev four·Then4 : tie.Then4 → tie.After-four
-four·Then4 c = c .before .before .before .before .before .before .before .before
-
-abbrev if2·Then4 : tie.Then4 → tie.Else2
-if2·Then4 c = c .before .before .before .before .before .before .before
-
-abbrev if3·Then4 : tie.Then4 → tie.Else3
-if3·Then4 c = c .before .before .before .before .before .before
-
-abbrev start·Else4 : tie.Else4 → tie.Start
-start·Else4 c = c .before .before .before .before .before .before .before .before .before .before .before .before
-
-abbrev if1·Else4 : tie.Else4 → tie.Else1
-if1·Else4 c = c .before .before .before .before .before .before .before .before .before
-
-abbrev four·Else4 : tie.Else4 → tie.After-four
-four·Else4 c = c .before .before .before .before .before .before .before .before
-
-abbrev if2·Else4 : tie.Else4 → tie.Else2
-if2·Else4 c = c .before .before .before .before .before .before .before
-
-abbrev if3·Else4 : tie.Else4 → tie.Else3
-if3·Else4 c = c .before .before .before .before .before .before
-
 returns : tie.Need-returns
 returns c = let a = (c .before .before .before) .args in file-short (a .rest .now) (a .words .now) (a .bytes) (c .if1 .taken)
 
 returns-2 : tie.Need-returns-2
-returns-2 c = let a = (start·Then2 c) .args in file-zero (a .rest .now) (a .words .now) (a .bytes) _ ((c .before .before) .if1 .left) ((c .before) .four .ensures) (c .if2 .taken)
+returns-2 c =
+    let at-start : tie.Start = search in
+    let a = at-start .args in file-zero (a .rest .now) (a .words .now) (a .bytes) _ ((c .before .before) .if1 .left) ((c .before) .four .ensures) (c .if2 .taken)
 
 returns-3 : tie.Need-returns-3
-returns-3 c = let a = (start·Then3 c) .args in file-many (a .rest .now) (a .words .now) (a .bytes) _ ((c .before .before .before) .if1 .left) ((c .before .before) .four .ensures) ((c .before) .if2 .left) (c .if3 .taken)
+returns-3 c =
+    let at-start : tie.Start = search in
+    let a = at-start .args in file-many (a .rest .now) (a .words .now) (a .bytes) _ ((c .before .before .before) .if1 .left) ((c .before .before) .four .ensures) ((c .before) .if2 .left) (c .if3 .taken)
 
 returns-4 : tie.Need-returns-4
 returns-4 c =
-    let a = (start·Then4 c) .args in
-    file-unread (a .rest .now) (a .words .now) (a .bytes) _ ((if1·Then4 c) .if1 .left) ((four·Then4 c) .four .ensures) ((if2·Then4 c) .if2 .left) (omega (arith, (four·Then4 c) .four .ok, (if3·Then4 c) .if3 .left)) (table-part (drop 4 (a .rest .now)) (part-from (a .rest .now) 4) ((c .before .before .before) .read-table .ensures)) (not-true _ (c .if4 .taken))
+    let at-if3 : tie.Else3 = search in
+    let at-if2 : tie.Else2 = search in
+    let at-four : tie.After-four = search in
+    let at-if1 : tie.Else1 = search in
+    let at-start : tie.Start = search in
+    let a = at-start .args in
+    file-unread (a .rest .now) (a .words .now) (a .bytes) _ (at-if1 .if1 .left) (at-four .four .ensures) (at-if2 .if2 .left) (omega (arith, at-four .four .ok, at-if3 .if3 .left)) (table-part (drop 4 (a .rest .now)) (part-from (a .rest .now) 4) ((c .before .before .before) .read-table .ensures)) (not-true _ (c .if4 .taken))
 
 returns-5 : tie.Need-returns-5
 returns-5 c =
-    let a = (start·Else4 c) .args in
-    file-parts (a .rest .now) (a .words .now) (a .bytes) _ ((if1·Else4 c) .if1 .left) ((four·Else4 c) .four .ensures) ((if2·Else4 c) .if2 .left) (omega (arith, (four·Else4 c) .four .ok, (if3·Else4 c) .if3 .left)) (table-part (drop 4 (a .rest .now)) (part-from (a .rest .now) 4) ((c .before .before .before) .read-table .ensures)) ((start·Else4 c) .pre .1) (not-false _ (c .if4 .left))
+    let at-if3 : tie.Else3 = search in
+    let at-if2 : tie.Else2 = search in
+    let at-four : tie.After-four = search in
+    let at-if1 : tie.Else1 = search in
+    let at-start : tie.Start = search in
+    let a = at-start .args in
+    file-parts (a .rest .now) (a .words .now) (a .bytes) _ (at-if1 .if1 .left) (at-four .four .ensures) (at-if2 .if2 .left) (omega (arith, at-four .four .ok, at-if3 .if3 .left)) (table-part (drop 4 (a .rest .now)) (part-from (a .rest .now) 4) ((c .before .before .before) .read-table .ensures)) (at-start .pre .1) (not-false _ (c .if4 .left))
 
 pub read-parts-spec : {M : Type 1} → statement M
 read-parts-spec =

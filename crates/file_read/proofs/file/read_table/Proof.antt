@@ -39,77 +39,49 @@ add-result c = search needs
 same-length-3 : tie.Need-same-length-3
 same-length-3 c = search needs
 
-abbrev start·After-read-records-arg : tie.After-read-records-arg → tie.Start
-start·After-read-records-arg c = c .before .before .before .before .before .before .before
-
-abbrev start·Then1 : tie.Then1 → tie.Start
-start·Then1 c = c .before .before .before .before .before .before .before .before .before .before .before
-
-abbrev zero·Then1 : tie.Then1 → tie.After-zero
-zero·Then1 c = c .before .before .before .before .before .before .before
-
-abbrev start·After-in-order-arg : tie.After-in-order-arg → tie.Start
-start·After-in-order-arg c = c .before .before .before .before .before .before .before .before .before .before .before .before
-
-abbrev zero·After-in-order-arg : tie.After-in-order-arg → tie.After-zero
-zero·After-in-order-arg c = c .before .before .before .before .before .before .before .before
-
-abbrev read-records·After-in-order-arg : tie.After-in-order-arg → tie.After-read-records
-read-records·After-in-order-arg c = c .before .before .before .before
-
-abbrev start·After-enum-told : tie.After-enum-told → tie.Start
-start·After-enum-told c = c .before .before .before .before .before .before .before .before .before .before .before .before .before .before .before
-
-abbrev zero·After-enum-told : tie.After-enum-told → tie.After-zero
-zero·After-enum-told c = c .before .before .before .before .before .before .before .before .before .before .before
-
-abbrev read-records·After-enum-told : tie.After-enum-told → tie.After-read-records
-read-records·After-enum-told c = c .before .before .before .before .before .before .before
-
-abbrev if1·After-enum-told : tie.After-enum-told → tie.Else1
-if1·After-enum-told c = c .before .before .before .before
-
-abbrev start·After-known-told : tie.After-known-told → tie.Start
-start·After-known-told c = c .before .before .before .before .before .before .before .before .before .before .before .before .before .before .before .before
-
-abbrev zero·After-known-told : tie.After-known-told → tie.After-zero
-zero·After-known-told c = c .before .before .before .before .before .before .before .before .before .before .before .before
-
-abbrev read-records·After-known-told : tie.After-known-told → tie.After-read-records
-read-records·After-known-told c = c .before .before .before .before .before .before .before .before
-
-abbrev if1·After-known-told : tie.After-known-told → tie.Else1
-if1·After-known-told c = c .before .before .before .before .before
-
 read-records-requires : tie.Need-read-records-requires
 read-records-requires c κs =
-    let a = (start·After-read-records-arg c) .args in
-    let p = (start·After-read-records-arg c) .pre in
+    let at-start : tie.Start = search in
+    let a = at-start .args in
+    let p = at-start .pre in
     ((omega (arith, p .0, (c .before .before .before) .zero .kept .0), p .1, p .2), blank-table (a .bytes) (a .words .now) (p .0) ((c .before .before .before) .zero .ensures))
 
 returns : tie.Need-returns
 returns c =
-    let a = (start·Then1 c) .args in
-    table-unread (a .records .now) (a .parts) (a .words .now) (a .bytes) ((start·Then1 c) .pre .0) ((zero·Then1 c) .zero .ensures) ((c .before .before .before) .read-records .ensures) (not-true _ (c .if1 .taken))
+    let at-zero : tie.After-zero = search in
+    let at-start : tie.Start = search in
+    let a = at-start .args in
+    table-unread (a .records .now) (a .parts) (a .words .now) (a .bytes) (at-start .pre .0) (at-zero .zero .ensures) ((c .before .before .before) .read-records .ensures) (not-true _ (c .if1 .taken))
 
 in-order-requires : tie.Need-in-order-requires
 in-order-requires c κs =
-    let a = (start·After-in-order-arg c) .args in
-    let p = (start·After-in-order-arg c) .pre in
+    let at-read-records : tie.After-read-records = search in
+    let at-zero : tie.After-zero = search in
+    let at-start : tie.Start = search in
+    let a = at-start .args in
+    let p = at-start .pre in
     let e = not-false _ ((c .before) .if1 .left) in (
-      (table-room (a .records .now) (a .parts) (a .words .now) (a .bytes) (p .0) ((zero·After-in-order-arg c) .zero .ensures) ((read-records·After-in-order-arg c) .read-records .ensures) e (p .1), omega arith, omega arith),
-      table-nodes (a .records .now) (a .parts) (a .words .now) (a .bytes) (p .0) ((zero·After-in-order-arg c) .zero .ensures) ((read-records·After-in-order-arg c) .read-records .ensures) e,
+      (table-room (a .records .now) (a .parts) (a .words .now) (a .bytes) (p .0) (at-zero .zero .ensures) (at-read-records .read-records .ensures) e (p .1), omega arith, omega arith),
+      table-nodes (a .records .now) (a .parts) (a .words .now) (a .bytes) (p .0) (at-zero .zero .ensures) (at-read-records .read-records .ensures) e,
     )
 
 returns-2 : tie.Need-returns-2
 returns-2 c =
-    let a = (start·After-enum-told c) .args in
-    table-broken (a .records .now) (a .parts) (a .words .now) (a .bytes) ((start·After-enum-told c) .pre .0) ((zero·After-enum-told c) .zero .ensures) ((read-records·After-enum-told c) .read-records .ensures) (not-false _ ((if1·After-enum-told c) .if1 .left)) ((c .before .before) .in-order .ensures) (c .enum-told .given .1)
+    let at-if1 : tie.Else1 = search in
+    let at-read-records : tie.After-read-records = search in
+    let at-zero : tie.After-zero = search in
+    let at-start : tie.Start = search in
+    let a = at-start .args in
+    table-broken (a .records .now) (a .parts) (a .words .now) (a .bytes) (at-start .pre .0) (at-zero .zero .ensures) (at-read-records .read-records .ensures) (not-false _ (at-if1 .if1 .left)) ((c .before .before) .in-order .ensures) (c .enum-told .given .1)
 
 returns-3 : tie.Need-returns-3
 returns-3 c =
-    let a = (start·After-known-told c) .args in
-    table-done (a .records .now) (a .parts) (a .words .now) (a .bytes) ((start·After-known-told c) .pre .0) ((zero·After-known-told c) .zero .ensures) ((read-records·After-known-told c) .read-records .ensures) (not-false _ ((if1·After-known-told c) .if1 .left)) ((c .before .before .before) .in-order .ensures) _ ((c .before) .last .given .1) _ refl
+    let at-if1 : tie.Else1 = search in
+    let at-read-records : tie.After-read-records = search in
+    let at-zero : tie.After-zero = search in
+    let at-start : tie.Start = search in
+    let a = at-start .args in
+    table-done (a .records .now) (a .parts) (a .words .now) (a .bytes) (at-start .pre .0) (at-zero .zero .ensures) (at-read-records .read-records .ensures) (not-false _ (at-if1 .if1 .left)) ((c .before .before .before) .in-order .ensures) _ ((c .before) .last .given .1) _ refl
 
 pub read-table-spec : {M : Type 1} → statement M
 read-table-spec =

@@ -26,63 +26,6 @@ in-order-below t =
 abbrev in-order-claims : ℕ → in-order-lts.Claims
 in-order-claims t = (in-order-below t, in-order.Post)
 
-abbrev start·in-order·After-enum-told : (t : ℕ) → in-order-lts.After-enum-told (in-order-below t, in-order.Post) (in-order-at t) in-order.Post → in-order-lts.Start (in-order-below t, in-order.Post) (in-order-at t) in-order.Post
-start·in-order·After-enum-told t c = c .before .before .before .before .before .before
-
-abbrev if1·in-order·After-enum-told : (t : ℕ) → in-order-lts.After-enum-told (in-order-below t, in-order.Post) (in-order-at t) in-order.Post → in-order-lts.Else1 (in-order-below t, in-order.Post) (in-order-at t) in-order.Post
-if1·in-order·After-enum-told t c = c .before .before .before .before
-
-abbrev start·in-order·After-shared-slice-known3 : (t : ℕ) → in-order-lts.After-shared-slice-known3 (in-order-claims t) (in-order-at t) in-order.Post → in-order-lts.Start (in-order-claims t) (in-order-at t) in-order.Post
-start·in-order·After-shared-slice-known3 t c = c .before .before .before .before .before .before .before .before
-
-abbrev if1·in-order·After-shared-slice-known3 : (t : ℕ) → in-order-lts.After-shared-slice-known3 (in-order-claims t) (in-order-at t) in-order.Post → in-order-lts.Else1 (in-order-claims t) (in-order-at t) in-order.Post
-if1·in-order·After-shared-slice-known3 t c = c .before .before .before .before .before .before
-
-abbrev in-order·in-order·After-shared-slice-known3 : (t : ℕ) → in-order-lts.After-shared-slice-known3 (in-order-claims t) (in-order-at t) in-order.Post → in-order-lts.After-in-order (in-order-claims t) (in-order-at t) in-order.Post
-in-order·in-order·After-shared-slice-known3 t c = c .before .before .before .before
-
-abbrev start·in-order·After-enum-told2 : (t : ℕ) → in-order-lts.After-enum-told2 (in-order-below t, in-order.Post) (in-order-at t) in-order.Post → in-order-lts.Start (in-order-below t, in-order.Post) (in-order-at t) in-order.Post
-start·in-order·After-enum-told2 t c = c .before .before .before .before .before .before .before .before .before .before .before
-
-abbrev if1·in-order·After-enum-told2 : (t : ℕ) → in-order-lts.After-enum-told2 (in-order-below t, in-order.Post) (in-order-at t) in-order.Post → in-order-lts.Else1 (in-order-below t, in-order.Post) (in-order-at t) in-order.Post
-if1·in-order·After-enum-told2 t c = c .before .before .before .before .before .before .before .before .before
-
-abbrev in-order·in-order·After-enum-told2 : (t : ℕ) → in-order-lts.After-enum-told2 (in-order-below t, in-order.Post) (in-order-at t) in-order.Post → in-order-lts.After-in-order (in-order-below t, in-order.Post) (in-order-at t) in-order.Post
-in-order·in-order·After-enum-told2 t c = c .before .before .before .before .before .before .before
-
-abbrev first·in-order·After-enum-told2 : (t : ℕ) → in-order-lts.After-enum-told2 (in-order-below t, in-order.Post) (in-order-at t) in-order.Post → in-order-lts.After-first (in-order-below t, in-order.Post) (in-order-at t) in-order.Post
-first·in-order·After-enum-told2 t c = c .before .before .before .before .before
-
-abbrev start·in-order·Then2 : (t : ℕ) → in-order-lts.Then2 (in-order-below t, in-order.Post) (in-order-at t) in-order.Post → in-order-lts.Start (in-order-below t, in-order.Post) (in-order-at t) in-order.Post
-start·in-order·Then2 t c = c .before .before .before .before .before .before .before .before .before .before .before .before .before
-
-abbrev if1·in-order·Then2 : (t : ℕ) → in-order-lts.Then2 (in-order-below t, in-order.Post) (in-order-at t) in-order.Post → in-order-lts.Else1 (in-order-below t, in-order.Post) (in-order-at t) in-order.Post
-if1·in-order·Then2 t c = c .before .before .before .before .before .before .before .before .before .before .before
-
-abbrev in-order·in-order·Then2 : (t : ℕ) → in-order-lts.Then2 (in-order-below t, in-order.Post) (in-order-at t) in-order.Post → in-order-lts.After-in-order (in-order-below t, in-order.Post) (in-order-at t) in-order.Post
-in-order·in-order·Then2 t c = c .before .before .before .before .before .before .before .before .before
-
-abbrev first·in-order·Then2 : (t : ℕ) → in-order-lts.Then2 (in-order-below t, in-order.Post) (in-order-at t) in-order.Post → in-order-lts.After-first (in-order-below t, in-order.Post) (in-order-at t) in-order.Post
-first·in-order·Then2 t c = c .before .before .before .before .before .before .before
-
-abbrev in-order2·in-order·Then2 : (t : ℕ) → in-order-lts.Then2 (in-order-below t, in-order.Post) (in-order-at t) in-order.Post → in-order-lts.After-in-order2 (in-order-below t, in-order.Post) (in-order-at t) in-order.Post
-in-order2·in-order·Then2 t c = c .before .before .before .before
-
-abbrev start·in-order·Else2 : (t : ℕ) → in-order-lts.Else2 (in-order-below t, in-order.Post) (in-order-at t) in-order.Post → in-order-lts.Start (in-order-below t, in-order.Post) (in-order-at t) in-order.Post
-start·in-order·Else2 t c = c .before .before .before .before .before .before .before .before .before .before .before .before .before
-
-abbrev if1·in-order·Else2 : (t : ℕ) → in-order-lts.Else2 (in-order-below t, in-order.Post) (in-order-at t) in-order.Post → in-order-lts.Else1 (in-order-below t, in-order.Post) (in-order-at t) in-order.Post
-if1·in-order·Else2 t c = c .before .before .before .before .before .before .before .before .before .before .before
-
-abbrev in-order·in-order·Else2 : (t : ℕ) → in-order-lts.Else2 (in-order-below t, in-order.Post) (in-order-at t) in-order.Post → in-order-lts.After-in-order (in-order-below t, in-order.Post) (in-order-at t) in-order.Post
-in-order·in-order·Else2 t c = c .before .before .before .before .before .before .before .before .before
-
-abbrev first·in-order·Else2 : (t : ℕ) → in-order-lts.Else2 (in-order-below t, in-order.Post) (in-order-at t) in-order.Post → in-order-lts.After-first (in-order-below t, in-order.Post) (in-order-at t) in-order.Post
-first·in-order·Else2 t c = c .before .before .before .before .before .before .before
-
-abbrev in-order2·in-order·Else2 : (t : ℕ) → in-order-lts.Else2 (in-order-below t, in-order.Post) (in-order-at t) in-order.Post → in-order-lts.After-in-order2 (in-order-below t, in-order.Post) (in-order-at t) in-order.Post
-in-order2·in-order·Else2 t c = c .before .before .before .before
-
 in-order-returns :
     (t : ℕ) →
     in-order-lts.Need-returns (in-order-below t, in-order.Post) (in-order-at t) in-order.Post
@@ -140,9 +83,11 @@ in-order-returns-2 :
     (t : ℕ) →
     in-order-lts.Need-returns-2 (in-order-below t, in-order.Post) (in-order-at t) in-order.Post
 in-order-returns-2 t c =
-    let a = (start·in-order·After-enum-told t c) .args in
-    let q = (start·in-order·After-enum-told t c) .pre .1 in
-    walk-first (a .nodes .now) (a .count) (a .p) (a .last) (q .0 .1) (q .0 .2) ((if1·in-order·After-enum-told t c) .if1 .left) ((c .before .before) .in-order .ensures) (c .enum-told .given .1)
+    let at-if1 : in-order-lts.Else1 (in-order-below t, in-order.Post) (in-order-at t) in-order.Post = search in
+    let at-start : in-order-lts.Start (in-order-below t, in-order.Post) (in-order-at t) in-order.Post = search in
+    let a = at-start .args in
+    let q = at-start .pre .1 in
+    walk-first (a .nodes .now) (a .count) (a .p) (a .last) (q .0 .1) (q .0 .2) (at-if1 .if1 .left) ((c .before .before) .in-order .ensures) (c .enum-told .given .1)
 
 in-order-add-in-order-2 : (t : ℕ) → in-order-lts.Need-add-in-order-2 (in-order-claims t) (in-order-at t) in-order.Post
 in-order-add-in-order-2 t c = search needs
@@ -155,11 +100,14 @@ in-order-shared-slice-read-in-order-2 t c = search needs
 
 in-order-in-order-requires-2 : (t : ℕ) → in-order-lts.Need-in-order-requires-2 (in-order-claims t) (in-order-at t) in-order.Post
 in-order-in-order-requires-2 t c κs =
-    let a = (start·in-order·After-shared-slice-known3 t c) .args in
-    let q = (start·in-order·After-shared-slice-known3 t c) .pre .1 in
-    let E = q .1 .each (a .p - 2) (omega (arith, q .0 .1, q .0 .2, (if1·in-order·After-shared-slice-known3 t c) .if1 .left)) in (
-      omega (arith, (start·in-order·After-shared-slice-known3 t c) .pre .0, E .one-before, q .0 .2, (if1·in-order·After-shared-slice-known3 t c) .if1 .left),
-      ((q .0 .0, omega (arith, E .one-before, q .0 .1, q .0 .2, (if1·in-order·After-shared-slice-known3 t c) .if1 .left), (in-order·in-order·After-shared-slice-known3 t c) .in-order .ensures .low _ ((c .before .before) .first .given .1)), q .1),
+    let at-in-order : in-order-lts.After-in-order (in-order-claims t) (in-order-at t) in-order.Post = search in
+    let at-if1 : in-order-lts.Else1 (in-order-claims t) (in-order-at t) in-order.Post = search in
+    let at-start : in-order-lts.Start (in-order-claims t) (in-order-at t) in-order.Post = search in
+    let a = at-start .args in
+    let q = at-start .pre .1 in
+    let E = q .1 .each (a .p - 2) (omega (arith, q .0 .1, q .0 .2, at-if1 .if1 .left)) in (
+      omega (arith, at-start .pre .0, E .one-before, q .0 .2, at-if1 .if1 .left),
+      ((q .0 .0, omega (arith, E .one-before, q .0 .1, q .0 .2, at-if1 .if1 .left), at-in-order .in-order .ensures .low _ ((c .before .before) .first .given .1)), q .1),
     )
 
 in-order-enum-known-second : (t : ℕ) → in-order-lts.Need-enum-known-second (in-order-claims t) (in-order-at t) in-order.Post
@@ -174,9 +122,13 @@ in-order-returns-3 :
     (t : ℕ) →
     in-order-lts.Need-returns-3 (in-order-below t, in-order.Post) (in-order-at t) in-order.Post
 in-order-returns-3 t c =
-    let a = (start·in-order·After-enum-told2 t c) .args in
-    let q = (start·in-order·After-enum-told2 t c) .pre .1 in
-    walk-second (a .nodes .now) (a .count) (a .p) (a .last) (q .0 .1) (q .0 .2) ((if1·in-order·After-enum-told2 t c) .if1 .left) ((in-order·in-order·After-enum-told2 t c) .in-order .ensures) _ ((first·in-order·After-enum-told2 t c) .first .given .1) ((c .before .before) .in-order2 .ensures) (c .enum-told2 .given .1)
+    let at-first : in-order-lts.After-first (in-order-below t, in-order.Post) (in-order-at t) in-order.Post = search in
+    let at-in-order : in-order-lts.After-in-order (in-order-below t, in-order.Post) (in-order-at t) in-order.Post = search in
+    let at-if1 : in-order-lts.Else1 (in-order-below t, in-order.Post) (in-order-at t) in-order.Post = search in
+    let at-start : in-order-lts.Start (in-order-below t, in-order.Post) (in-order-at t) in-order.Post = search in
+    let a = at-start .args in
+    let q = at-start .pre .1 in
+    walk-second (a .nodes .now) (a .count) (a .p) (a .last) (q .0 .1) (q .0 .2) (at-if1 .if1 .left) (at-in-order .in-order .ensures) _ (at-first .first .given .1) ((c .before .before) .in-order2 .ensures) (c .enum-told2 .given .1)
 
 in-order-sub-if2 :
     (t : ℕ) →
@@ -187,17 +139,27 @@ in-order-returns-4 :
     (t : ℕ) →
     in-order-lts.Need-returns-4 (in-order-below t, in-order.Post) (in-order-at t) in-order.Post
 in-order-returns-4 t c =
-    let a = (start·in-order·Then2 t c) .args in
-    let q = (start·in-order·Then2 t c) .pre .1 in
-    walk-other (a .nodes .now) (a .count) (a .p) (a .last) (q .0 .1) (q .0 .2) ((if1·in-order·Then2 t c) .if1 .left) ((in-order·in-order·Then2 t c) .in-order .ensures) _ ((first·in-order·Then2 t c) .first .given .1) ((in-order2·in-order·Then2 t c) .in-order2 .ensures) _ ((c .before .before) .second .given .1) (c .if2 .taken)
+    let at-in-order2 : in-order-lts.After-in-order2 (in-order-below t, in-order.Post) (in-order-at t) in-order.Post = search in
+    let at-first : in-order-lts.After-first (in-order-below t, in-order.Post) (in-order-at t) in-order.Post = search in
+    let at-in-order : in-order-lts.After-in-order (in-order-below t, in-order.Post) (in-order-at t) in-order.Post = search in
+    let at-if1 : in-order-lts.Else1 (in-order-below t, in-order.Post) (in-order-at t) in-order.Post = search in
+    let at-start : in-order-lts.Start (in-order-below t, in-order.Post) (in-order-at t) in-order.Post = search in
+    let a = at-start .args in
+    let q = at-start .pre .1 in
+    walk-other (a .nodes .now) (a .count) (a .p) (a .last) (q .0 .1) (q .0 .2) (at-if1 .if1 .left) (at-in-order .in-order .ensures) _ (at-first .first .given .1) (at-in-order2 .in-order2 .ensures) _ ((c .before .before) .second .given .1) (c .if2 .taken)
 
 in-order-returns-5 :
     (t : ℕ) →
     in-order-lts.Need-returns-5 (in-order-below t, in-order.Post) (in-order-at t) in-order.Post
 in-order-returns-5 t c =
-    let a = (start·in-order·Else2 t c) .args in
-    let q = (start·in-order·Else2 t c) .pre .1 in
-    walk-next (a .nodes .now) (a .count) (a .p) (a .last) (q .0 .1) (q .0 .2) ((if1·in-order·Else2 t c) .if1 .left) ((in-order·in-order·Else2 t c) .in-order .ensures) _ ((first·in-order·Else2 t c) .first .given .1) ((in-order2·in-order·Else2 t c) .in-order2 .ensures) _ ((c .before .before) .second .given .1) (c .if2 .left)
+    let at-in-order2 : in-order-lts.After-in-order2 (in-order-below t, in-order.Post) (in-order-at t) in-order.Post = search in
+    let at-first : in-order-lts.After-first (in-order-below t, in-order.Post) (in-order-at t) in-order.Post = search in
+    let at-in-order : in-order-lts.After-in-order (in-order-below t, in-order.Post) (in-order-at t) in-order.Post = search in
+    let at-if1 : in-order-lts.Else1 (in-order-below t, in-order.Post) (in-order-at t) in-order.Post = search in
+    let at-start : in-order-lts.Start (in-order-below t, in-order.Post) (in-order-at t) in-order.Post = search in
+    let a = at-start .args in
+    let q = at-start .pre .1 in
+    walk-next (a .nodes .now) (a .count) (a .p) (a .last) (q .0 .1) (q .0 .2) (at-if1 .if1 .left) (at-in-order .in-order .ensures) _ (at-first .first .given .1) (at-in-order2 .in-order2 .ensures) _ ((c .before .before) .second .given .1) (c .if2 .left)
 
 pub +in-order-spec : {M : Type 1} → statement M
 +in-order-spec =

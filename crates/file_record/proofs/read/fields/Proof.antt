@@ -8,57 +8,6 @@ use borrow.Author.Needs.{needs}
 use Rattle.file_record.proofs.read.fields.Statement.{statement}
 use Rattle.file_record.proofs.read.fields.Tie as tie
 
-abbrev start·After-enum-told : tie.After-enum-told → tie.Start
-start·After-enum-told c = c .before .before .before .before .before
-
-abbrev start·After-enum-told2 : tie.After-enum-told2 → tie.Start
-start·After-enum-told2 c = c .before .before .before .before .before .before .before .before .before .before
-
-abbrev field-two·After-enum-told2 : tie.After-enum-told2 → tie.After-field-two
-field-two·After-enum-told2 c = c .before .before .before .before .before .before .before
-
-abbrev item·After-enum-told2 : tie.After-enum-told2 → tie.After-item
-item·After-enum-told2 c = c .before .before .before .before .before
-
-abbrev item·After-known-told2 : tie.After-known-told2 → tie.After-item
-item·After-known-told2 c = c .before .before .before .before .before .before
-
-abbrev field-two·After-known-told2 : tie.After-known-told2 → tie.After-field-two
-field-two·After-known-told2 c = c .before .before .before .before .before .before .before .before
-
-abbrev start·After-known-told2 : tie.After-known-told2 → tie.Start
-start·After-known-told2 c = c .before .before .before .before .before .before .before .before .before .before .before
-
-abbrev start·After-enum-told3 : tie.After-enum-told3 → tie.Start
-start·After-enum-told3 c = c .before .before .before .before .before .before .before .before .before .before .before .before .before .before .before
-
-abbrev field-two·After-enum-told3 : tie.After-enum-told3 → tie.After-field-two
-field-two·After-enum-told3 c = c .before .before .before .before .before .before .before .before .before .before .before .before
-
-abbrev item·After-enum-told3 : tie.After-enum-told3 → tie.After-item
-item·After-enum-told3 c = c .before .before .before .before .before .before .before .before .before .before
-
-abbrev field-four·After-enum-told3 : tie.After-enum-told3 → tie.After-field-four
-field-four·After-enum-told3 c = c .before .before .before .before .before .before .before
-
-abbrev zero·After-enum-told3 : tie.After-enum-told3 → tie.After-zero
-zero·After-enum-told3 c = c .before .before .before .before .before
-
-abbrev item·After-known-told3 : tie.After-known-told3 → tie.After-item
-item·After-known-told3 c = c .before .before .before .before .before .before .before .before .before .before .before
-
-abbrev field-two·After-known-told3 : tie.After-known-told3 → tie.After-field-two
-field-two·After-known-told3 c = c .before .before .before .before .before .before .before .before .before .before .before .before .before
-
-abbrev zero·After-known-told3 : tie.After-known-told3 → tie.After-zero
-zero·After-known-told3 c = c .before .before .before .before .before .before
-
-abbrev field-four·After-known-told3 : tie.After-known-told3 → tie.After-field-four
-field-four·After-known-told3 c = c .before .before .before .before .before .before .before .before
-
-abbrev start·After-known-told3 : tie.After-known-told3 → tie.Start
-start·After-known-told3 c = c .before .before .before .before .before .before .before .before .before .before .before .before .before .before .before .before
-
 add-field-two : tie.Need-add-field-two
 add-field-two c = omega (arith, (c .before .before) .pre .1)
 
@@ -73,7 +22,8 @@ enum-told c = search needs
 
 returns : tie.Need-returns
 returns c =
-    let a = (start·After-enum-told c) .args in
+    let at-start : tie.Start = search in
+    let a = at-start .args in
     fields-no-item (a .map) (a .last) (a .bytes .now) (add-one (a .last .item)) ((c .before .before) .field-two .ensures) (c .enum-told .given .1)
 
 sub-field-four : tie.Need-sub-field-four
@@ -96,26 +46,37 @@ enum-told-2 c = search needs
 
 returns-2 : tie.Need-returns-2
 returns-2 c =
-    let a = (start·After-enum-told2 c) .args in
-    fields-no-zero (a .map) (a .last) (a .bytes .now) (add-one (a .last .item)) ((field-two·After-enum-told2 c) .field-two .ensures) _ _ ((item·After-enum-told2 c) .item .given .1)
+    let at-item : tie.After-item = search in
+    let at-field-two : tie.After-field-two = search in
+    let at-start : tie.Start = search in
+    let a = at-start .args in
+    fields-no-zero (a .map) (a .last) (a .bytes .now) (add-one (a .last .item)) (at-field-two .field-two .ensures) _ _ (at-item .item .given .1)
     (part-from (a .bytes .now) _) ((c .before .before) .field-four .ensures) (c .enum-told2 .given .1)
 
 add-field-four : tie.Need-add-field-four
 add-field-four c =
-    let I = field-read _ _ ((item·After-known-told2 c) .item .given .1) ((field-two·After-known-told2 c) .field-two .ensures) in
+    let at-item : tie.After-item = search in
+    let at-field-two : tie.After-field-two = search in
+    let I = field-read _ _ (at-item .item .given .1) (at-field-two .field-two .ensures) in
     let Z = field-read _ _ ((c .before) .zero .given .1) ((c .before .before .before) .field-four .ensures) in
     omega (arith, I .few, Z .few)
 
 sub-field-four-2 : tie.Need-sub-field-four-2
 sub-field-four-2 c =
-    let a = (start·After-known-told2 c) .args in
-    fields-reach (a .map) (a .last) (a .bytes .now) (add-one (a .last .item)) ((field-two·After-known-told2 c) .field-two .ensures) _ _ ((item·After-known-told2 c) .item .given .1)
+    let at-item : tie.After-item = search in
+    let at-field-two : tie.After-field-two = search in
+    let at-start : tie.Start = search in
+    let a = at-start .args in
+    fields-reach (a .map) (a .last) (a .bytes .now) (add-one (a .last .item)) (at-field-two .field-two .ensures) _ _ (at-item .item .given .1)
     (part-from (a .bytes .now) _) ((c .before .before .before) .field-four .ensures) _ _ ((c .before) .zero .given .1)
 
 part-field-four-start-2 : tie.Need-part-field-four-start-2
 part-field-four-start-2 c =
-    let a = (start·After-known-told2 c) .args in
-    fields-reach (a .map) (a .last) (a .bytes .now) (add-one (a .last .item)) ((field-two·After-known-told2 c) .field-two .ensures) _ _ ((item·After-known-told2 c) .item .given .1)
+    let at-item : tie.After-item = search in
+    let at-field-two : tie.After-field-two = search in
+    let at-start : tie.Start = search in
+    let a = at-start .args in
+    fields-reach (a .map) (a .last) (a .bytes .now) (add-one (a .last .item)) (at-field-two .field-two .ensures) _ _ (at-item .item .given .1)
     (part-from (a .bytes .now) _) ((c .before .before .before) .field-four .ensures) _ _ ((c .before) .zero .given .1)
 
 part-field-four-end-2 : tie.Need-part-field-four-end-2
@@ -132,28 +93,46 @@ enum-told-3 c = search needs
 
 returns-3 : tie.Need-returns-3
 returns-3 c =
-    let a = (start·After-enum-told3 c) .args in
-    fields-no-one (a .map) (a .last) (a .bytes .now) (add-one (a .last .item)) ((field-two·After-enum-told3 c) .field-two .ensures) _ _ ((item·After-enum-told3 c) .item .given .1)
-    (part-from (a .bytes .now) _) ((field-four·After-enum-told3 c) .field-four .ensures) _ _ ((zero·After-enum-told3 c) .zero .given .1) (part-from (a .bytes .now) _) ((c .before .before) .field-four2 .ensures) (c .enum-told3 .given .1)
+    let at-zero : tie.After-zero = search in
+    let at-field-four : tie.After-field-four = search in
+    let at-item : tie.After-item = search in
+    let at-field-two : tie.After-field-two = search in
+    let at-start : tie.Start = search in
+    let a = at-start .args in
+    fields-no-one (a .map) (a .last) (a .bytes .now) (add-one (a .last .item)) (at-field-two .field-two .ensures) _ _ (at-item .item .given .1)
+    (part-from (a .bytes .now) _) (at-field-four .field-four .ensures) _ _ (at-zero .zero .given .1) (part-from (a .bytes .now) _) ((c .before .before) .field-four2 .ensures) (c .enum-told3 .given .1)
 
 add-t16 : tie.Need-add-t16
 add-t16 c =
-    let I = field-read _ _ ((item·After-known-told3 c) .item .given .1) ((field-two·After-known-told3 c) .field-two .ensures) in
-    let Z = field-read _ _ ((zero·After-known-told3 c) .zero .given .1) ((field-four·After-known-told3 c) .field-four .ensures) in
+    let at-zero : tie.After-zero = search in
+    let at-field-four : tie.After-field-four = search in
+    let at-item : tie.After-item = search in
+    let at-field-two : tie.After-field-two = search in
+    let I = field-read _ _ (at-item .item .given .1) (at-field-two .field-two .ensures) in
+    let Z = field-read _ _ (at-zero .zero .given .1) (at-field-four .field-four .ensures) in
     omega (arith, I .few, Z .few)
 
 add-t21 : tie.Need-add-t21
 add-t21 c =
-    let I = field-read _ _ ((item·After-known-told3 c) .item .given .1) ((field-two·After-known-told3 c) .field-two .ensures) in
-    let Z = field-read _ _ ((zero·After-known-told3 c) .zero .given .1) ((field-four·After-known-told3 c) .field-four .ensures) in
+    let at-zero : tie.After-zero = search in
+    let at-field-four : tie.After-field-four = search in
+    let at-item : tie.After-item = search in
+    let at-field-two : tie.After-field-two = search in
+    let I = field-read _ _ (at-item .item .given .1) (at-field-two .field-two .ensures) in
+    let Z = field-read _ _ (at-zero .zero .given .1) (at-field-four .field-four .ensures) in
     let O = field-read _ _ ((c .before) .one .given .1) ((c .before .before .before) .field-four2 .ensures) in
     omega (arith, I .few, Z .few, O .few)
 
 returns-4 : tie.Need-returns-4
 returns-4 c =
-    let a = (start·After-known-told3 c) .args in
-    fields-taken (a .map) (a .last) (a .bytes .now) (add-one (a .last .item)) ((field-two·After-known-told3 c) .field-two .ensures) _ _ ((item·After-known-told3 c) .item .given .1)
-    (part-from (a .bytes .now) _) ((field-four·After-known-told3 c) .field-four .ensures) _ _ ((zero·After-known-told3 c) .zero .given .1) (part-from (a .bytes .now) _)
+    let at-zero : tie.After-zero = search in
+    let at-field-four : tie.After-field-four = search in
+    let at-item : tie.After-item = search in
+    let at-field-two : tie.After-field-two = search in
+    let at-start : tie.Start = search in
+    let a = at-start .args in
+    fields-taken (a .map) (a .last) (a .bytes .now) (add-one (a .last .item)) (at-field-two .field-two .ensures) _ _ (at-item .item .given .1)
+    (part-from (a .bytes .now) _) (at-field-four .field-four .ensures) _ _ (at-zero .zero .given .1) (part-from (a .bytes .now) _)
     ((c .before .before .before) .field-four2 .ensures) _ _ ((c .before) .one .given .1)
 
 pub fields-spec : {M : Type 1} → statement M

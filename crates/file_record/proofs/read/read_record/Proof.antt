@@ -6,33 +6,6 @@ use borrow.Author.Needs.{needs}
 use Rattle.file_record.proofs.read.read_record.Statement.{statement}
 use Rattle.file_record.proofs.read.read_record.Tie as tie
 
-abbrev start·Then2 : tie.Then2 → tie.Start
-start·Then2 c = c .before .before .before .before .before
-
-abbrev start·After-enum-told : tie.After-enum-told → tie.Start
-start·After-enum-told c = c .before .before .before .before .before .before .before .before .before
-
-abbrev wide·After-enum-told : tie.After-enum-told → tie.After-wide
-wide·After-enum-told c = c .before .before .before .before .before
-
-abbrev if1·After-enum-told : tie.After-enum-told → tie.Else1
-if1·After-enum-told c = c .before .before .before .before .before .before .before
-
-abbrev if2·After-enum-told : tie.After-enum-told → tie.Else2
-if2·After-enum-told c = c .before .before .before .before
-
-abbrev start·After-known-told : tie.After-known-told → tie.Start
-start·After-known-told c = c .before .before .before .before .before .before .before .before .before .before
-
-abbrev wide·After-known-told : tie.After-known-told → tie.After-wide
-wide·After-known-told c = c .before .before .before .before .before .before
-
-abbrev if1·After-known-told : tie.After-known-told → tie.Else1
-if1·After-known-told c = c .before .before .before .before .before .before .before .before
-
-abbrev if2·After-known-told : tie.After-known-told → tie.Else2
-if2·After-known-told c = c .before .before .before .before .before
-
 returns : tie.Need-returns
 returns c = record-end ((c .before .before) .args .last) ((c .before .before) .args .rest .now) (c .if1 .taken)
 
@@ -43,7 +16,9 @@ wide-requires : tie.Need-wide-requires
 wide-requires c κs = search needs
 
 returns-2 : tie.Need-returns-2
-returns-2 c = record-map ((start·Then2 c) .args .last) ((start·Then2 c) .args .rest .now) _ ((c .before) .wide .ensures .0) ((c .before .before .before) .if1 .left) (c .if2 .taken)
+returns-2 c =
+    let at-start : tie.Start = search in
+    record-map (at-start .args .last) (at-start .args .rest .now) _ ((c .before) .wide .ensures .0) ((c .before .before .before) .if1 .left) (c .if2 .taken)
 
 sub-fields : tie.Need-sub-fields
 sub-fields c = search needs
@@ -64,15 +39,25 @@ enum-told : tie.Need-enum-told
 enum-told c = search needs
 
 returns-3 : tie.Need-returns-3
-returns-3 c = record-no ((start·After-enum-told c) .args .last) ((start·After-enum-told c) .args .rest .now) _ _ ((wide·After-enum-told c) .wide .ensures .0) ((if1·After-enum-told c) .if1 .left)
-    ((if2·After-enum-told c) .if2 .left) (part-from ((start·After-enum-told c) .args .rest .now) 1) ((c .before .before) .fields .ensures) (c .enum-told .given .1)
+returns-3 c =
+    let at-if2 : tie.Else2 = search in
+    let at-wide : tie.After-wide = search in
+    let at-if1 : tie.Else1 = search in
+    let at-start : tie.Start = search in
+    record-no (at-start .args .last) (at-start .args .rest .now) _ _ (at-wide .wide .ensures .0) (at-if1 .if1 .left)
+    (at-if2 .if2 .left) (part-from (at-start .args .rest .now) 1) ((c .before .before) .fields .ensures) (c .enum-told .given .1)
 
 add-t6 : tie.Need-add-t6
 add-t6 c = omega (arith, fields-read _ _ ((c .before) .part .given .1) ((c .before .before .before) .fields .ensures) .few)
 
 returns-4 : tie.Need-returns-4
-returns-4 c = record-taken ((start·After-known-told c) .args .last) ((start·After-known-told c) .args .rest .now) _ _ ((wide·After-known-told c) .wide .ensures .0)
-    ((if1·After-known-told c) .if1 .left) ((if2·After-known-told c) .if2 .left) (part-from ((start·After-known-told c) .args .rest .now) 1) ((c .before .before .before) .fields .ensures) _ _ ((c .before) .part .given .1)
+returns-4 c =
+    let at-if2 : tie.Else2 = search in
+    let at-wide : tie.After-wide = search in
+    let at-if1 : tie.Else1 = search in
+    let at-start : tie.Start = search in
+    record-taken (at-start .args .last) (at-start .args .rest .now) _ _ (at-wide .wide .ensures .0)
+    (at-if1 .if1 .left) (at-if2 .if2 .left) (part-from (at-start .args .rest .now) 1) ((c .before .before .before) .fields .ensures) _ _ ((c .before) .part .given .1)
 
 pub read-record-spec : {M : Type 1} → statement M
 read-record-spec =

@@ -28,146 +28,6 @@ walk-below t = and 2 walk-kinds.ps (falls 2 walk-kinds.ps _<_ μ-walk t) walk.Pr
 abbrev walk-claims : ℕ → walk-lts.Claims
 walk-claims t = (is-met-reads.Asked, is-met-reads.Learnt, children-reads.Asked, children-reads.Learnt, walk-below t, walk.Post, visit-reads.Asked, visit-reads.Learnt)
 
-abbrev start·walk·Then1 : (t : ℕ) → walk-lts.Then1 (walk-claims t) (walk-at t) walk.Post → walk-lts.Start (walk-claims t) (walk-at t) walk.Post
-start·walk·Then1 t c = c .before .before .before .before .before
-
-abbrev start·walk·Else1 : (t : ℕ) → walk-lts.Else1 (walk-claims t) (walk-at t) walk.Post → walk-lts.Start (walk-claims t) (walk-at t) walk.Post
-start·walk·Else1 t c = c .before .before .before .before .before
-
-abbrev start·walk·After-enum-told : (t : ℕ) → walk-lts.After-enum-told (walk-claims t) (walk-at t) walk.Post → walk-lts.Start (walk-claims t) (walk-at t) walk.Post
-start·walk·After-enum-told t c = c .before .before .before .before .before .before .before .before
-
-abbrev is-met·walk·After-enum-told : (t : ℕ) → walk-lts.After-enum-told (walk-claims t) (walk-at t) walk.Post → walk-lts.After-is-met (walk-claims t) (walk-at t) walk.Post
-is-met·walk·After-enum-told t c = c .before .before .before .before
-
-abbrev start·walk·After-walk-arg : (t : ℕ) → walk-lts.After-walk-arg (walk-claims t) (walk-at t) walk.Post → walk-lts.Start (walk-claims t) (walk-at t) walk.Post
-start·walk·After-walk-arg t c = c .before .before .before .before .before .before .before .before .before .before
-
-abbrev children·walk·After-walk-arg : (t : ℕ) → walk-lts.After-walk-arg (walk-claims t) (walk-at t) walk.Post → walk-lts.After-children (walk-claims t) (walk-at t) walk.Post
-children·walk·After-walk-arg t c = c .before .before .before .before
-
-abbrev start·walk·After-enum-told2 : (t : ℕ) → walk-lts.After-enum-told2 (walk-claims t) (walk-at t) walk.Post → walk-lts.Start (walk-claims t) (walk-at t) walk.Post
-start·walk·After-enum-told2 t c = c .before .before .before .before .before .before .before .before .before .before .before .before .before .before .before
-
-abbrev is-met·walk·After-enum-told2 : (t : ℕ) → walk-lts.After-enum-told2 (walk-claims t) (walk-at t) walk.Post → walk-lts.After-is-met (walk-claims t) (walk-at t) walk.Post
-is-met·walk·After-enum-told2 t c = c .before .before .before .before .before .before .before .before .before .before .before
-
-abbrev if1·walk·After-enum-told2 : (t : ℕ) → walk-lts.After-enum-told2 (walk-claims t) (walk-at t) walk.Post → walk-lts.Else1 (walk-claims t) (walk-at t) walk.Post
-if1·walk·After-enum-told2 t c = c .before .before .before .before .before .before .before .before .before .before
-
-abbrev children·walk·After-enum-told2 : (t : ℕ) → walk-lts.After-enum-told2 (walk-claims t) (walk-at t) walk.Post → walk-lts.After-children (walk-claims t) (walk-at t) walk.Post
-children·walk·After-enum-told2 t c = c .before .before .before .before .before .before .before .before .before
-
-abbrev zero·walk·After-enum-told2 : (t : ℕ) → walk-lts.After-enum-told2 (walk-claims t) (walk-at t) walk.Post → walk-lts.After-zero (walk-claims t) (walk-at t) walk.Post
-zero·walk·After-enum-told2 t c = c .before .before .before .before .before .before .before
-
-abbrev walk·walk·After-enum-told2 : (t : ℕ) → walk-lts.After-enum-told2 (walk-claims t) (walk-at t) walk.Post → walk-lts.After-walk (walk-claims t) (walk-at t) walk.Post
-walk·walk·After-enum-told2 t c = c .before .before .before .before
-
-abbrev start·walk·After-walk-arg2 : (t : ℕ) → walk-lts.After-walk-arg2 (walk-claims t) (walk-at t) walk.Post → walk-lts.Start (walk-claims t) (walk-at t) walk.Post
-start·walk·After-walk-arg2 t c = c .before .before .before .before .before .before .before .before .before .before .before .before .before .before .before .before .before
-
-abbrev zero·walk·After-walk-arg2 : (t : ℕ) → walk-lts.After-walk-arg2 (walk-claims t) (walk-at t) walk.Post → walk-lts.After-zero (walk-claims t) (walk-at t) walk.Post
-zero·walk·After-walk-arg2 t c = c .before .before .before .before .before .before .before .before .before
-
-abbrev children·walk·After-walk-arg2 : (t : ℕ) → walk-lts.After-walk-arg2 (walk-claims t) (walk-at t) walk.Post → walk-lts.After-children (walk-claims t) (walk-at t) walk.Post
-children·walk·After-walk-arg2 t c = c .before .before .before .before .before .before .before .before .before .before .before
-
-abbrev walk·walk·After-walk-arg2 : (t : ℕ) → walk-lts.After-walk-arg2 (walk-claims t) (walk-at t) walk.Post → walk-lts.After-walk (walk-claims t) (walk-at t) walk.Post
-walk·walk·After-walk-arg2 t c = c .before .before .before .before .before .before
-
-abbrev start·walk·After-enum-told3 : (t : ℕ) → walk-lts.After-enum-told3 (walk-claims t) (walk-at t) walk.Post → walk-lts.Start (walk-claims t) (walk-at t) walk.Post
-start·walk·After-enum-told3 t c = c .before .before .before .before .before .before .before .before .before .before .before .before .before .before .before .before .before .before .before .before .before .before
-
-abbrev is-met·walk·After-enum-told3 : (t : ℕ) → walk-lts.After-enum-told3 (walk-claims t) (walk-at t) walk.Post → walk-lts.After-is-met (walk-claims t) (walk-at t) walk.Post
-is-met·walk·After-enum-told3 t c = c .before .before .before .before .before .before .before .before .before .before .before .before .before .before .before .before .before .before
-
-abbrev if1·walk·After-enum-told3 : (t : ℕ) → walk-lts.After-enum-told3 (walk-claims t) (walk-at t) walk.Post → walk-lts.Else1 (walk-claims t) (walk-at t) walk.Post
-if1·walk·After-enum-told3 t c = c .before .before .before .before .before .before .before .before .before .before .before .before .before .before .before .before .before
-
-abbrev children·walk·After-enum-told3 : (t : ℕ) → walk-lts.After-enum-told3 (walk-claims t) (walk-at t) walk.Post → walk-lts.After-children (walk-claims t) (walk-at t) walk.Post
-children·walk·After-enum-told3 t c = c .before .before .before .before .before .before .before .before .before .before .before .before .before .before .before .before
-
-abbrev zero·walk·After-enum-told3 : (t : ℕ) → walk-lts.After-enum-told3 (walk-claims t) (walk-at t) walk.Post → walk-lts.After-zero (walk-claims t) (walk-at t) walk.Post
-zero·walk·After-enum-told3 t c = c .before .before .before .before .before .before .before .before .before .before .before .before .before .before
-
-abbrev walk·walk·After-enum-told3 : (t : ℕ) → walk-lts.After-enum-told3 (walk-claims t) (walk-at t) walk.Post → walk-lts.After-walk (walk-claims t) (walk-at t) walk.Post
-walk·walk·After-enum-told3 t c = c .before .before .before .before .before .before .before .before .before .before .before
-
-abbrev first·walk·After-enum-told3 : (t : ℕ) → walk-lts.After-enum-told3 (walk-claims t) (walk-at t) walk.Post → walk-lts.After-first (walk-claims t) (walk-at t) walk.Post
-first·walk·After-enum-told3 t c = c .before .before .before .before .before .before .before
-
-abbrev walk2·walk·After-enum-told3 : (t : ℕ) → walk-lts.After-enum-told3 (walk-claims t) (walk-at t) walk.Post → walk-lts.After-walk2 (walk-claims t) (walk-at t) walk.Post
-walk2·walk·After-enum-told3 t c = c .before .before .before .before
-
-abbrev start·walk·Then2 : (t : ℕ) → walk-lts.Then2 (walk-claims t) (walk-at t) walk.Post → walk-lts.Start (walk-claims t) (walk-at t) walk.Post
-start·walk·Then2 t c = c .before .before .before .before .before .before .before .before .before .before .before .before .before .before .before .before .before .before .before .before .before .before .before .before .before
-
-abbrev is-met·walk·Then2 : (t : ℕ) → walk-lts.Then2 (walk-claims t) (walk-at t) walk.Post → walk-lts.After-is-met (walk-claims t) (walk-at t) walk.Post
-is-met·walk·Then2 t c = c .before .before .before .before .before .before .before .before .before .before .before .before .before .before .before .before .before .before .before .before .before
-
-abbrev if1·walk·Then2 : (t : ℕ) → walk-lts.Then2 (walk-claims t) (walk-at t) walk.Post → walk-lts.Else1 (walk-claims t) (walk-at t) walk.Post
-if1·walk·Then2 t c = c .before .before .before .before .before .before .before .before .before .before .before .before .before .before .before .before .before .before .before .before
-
-abbrev children·walk·Then2 : (t : ℕ) → walk-lts.Then2 (walk-claims t) (walk-at t) walk.Post → walk-lts.After-children (walk-claims t) (walk-at t) walk.Post
-children·walk·Then2 t c = c .before .before .before .before .before .before .before .before .before .before .before .before .before .before .before .before .before .before .before
-
-abbrev zero·walk·Then2 : (t : ℕ) → walk-lts.Then2 (walk-claims t) (walk-at t) walk.Post → walk-lts.After-zero (walk-claims t) (walk-at t) walk.Post
-zero·walk·Then2 t c = c .before .before .before .before .before .before .before .before .before .before .before .before .before .before .before .before .before
-
-abbrev walk·walk·Then2 : (t : ℕ) → walk-lts.Then2 (walk-claims t) (walk-at t) walk.Post → walk-lts.After-walk (walk-claims t) (walk-at t) walk.Post
-walk·walk·Then2 t c = c .before .before .before .before .before .before .before .before .before .before .before .before .before .before
-
-abbrev first·walk·Then2 : (t : ℕ) → walk-lts.Then2 (walk-claims t) (walk-at t) walk.Post → walk-lts.After-first (walk-claims t) (walk-at t) walk.Post
-first·walk·Then2 t c = c .before .before .before .before .before .before .before .before .before .before
-
-abbrev walk2·walk·Then2 : (t : ℕ) → walk-lts.Then2 (walk-claims t) (walk-at t) walk.Post → walk-lts.After-walk2 (walk-claims t) (walk-at t) walk.Post
-walk2·walk·Then2 t c = c .before .before .before .before .before .before .before
-
-abbrev start·walk·After-visit-arg : (t : ℕ) → walk-lts.After-visit-arg (walk-claims t) (walk-at t) walk.Post → walk-lts.Start (walk-claims t) (walk-at t) walk.Post
-start·walk·After-visit-arg t c = c .before .before .before .before .before .before .before .before .before .before .before .before .before .before .before .before .before .before .before .before
-    .before .before .before .before .before .before
-
-abbrev walk·walk·After-visit-arg : (t : ℕ) → walk-lts.After-visit-arg (walk-claims t) (walk-at t) walk.Post → walk-lts.After-walk (walk-claims t) (walk-at t) walk.Post
-walk·walk·After-visit-arg t c = c .before .before .before .before .before .before .before .before .before .before .before .before .before .before .before
-
-abbrev walk2·walk·After-visit-arg : (t : ℕ) → walk-lts.After-visit-arg (walk-claims t) (walk-at t) walk.Post → walk-lts.After-walk2 (walk-claims t) (walk-at t) walk.Post
-walk2·walk·After-visit-arg t c = c .before .before .before .before .before .before .before .before
-
-abbrev second·walk·After-visit-arg : (t : ℕ) → walk-lts.After-visit-arg (walk-claims t) (walk-at t) walk.Post → walk-lts.After-second (walk-claims t) (walk-at t) walk.Post
-second·walk·After-visit-arg t c = c .before .before .before .before
-
-abbrev start·walk·After-slice-known4 : (t : ℕ) → walk-lts.After-slice-known4 (walk-claims t) (walk-at t) walk.Post → walk-lts.Start (walk-claims t) (walk-at t) walk.Post
-start·walk·After-slice-known4 t c = c .before .before .before .before .before .before .before .before .before .before .before .before .before .before .before .before .before .before .before .before
-    .before .before .before .before .before .before .before .before .before
-
-abbrev walk2·walk·After-slice-known4 : (t : ℕ) → walk-lts.After-slice-known4 (walk-claims t) (walk-at t) walk.Post → walk-lts.After-walk2 (walk-claims t) (walk-at t) walk.Post
-walk2·walk·After-slice-known4 t c = c .before .before .before .before .before .before .before .before .before .before .before
-
-abbrev is-met·walk·After-slice-known4 : (t : ℕ) → walk-lts.After-slice-known4 (walk-claims t) (walk-at t) walk.Post → walk-lts.After-is-met (walk-claims t) (walk-at t) walk.Post
-is-met·walk·After-slice-known4 t c = c .before .before .before .before .before .before .before .before .before .before .before .before .before .before .before .before .before .before .before .before .before .before .before .before .before
-
-abbrev if1·walk·After-slice-known4 : (t : ℕ) → walk-lts.After-slice-known4 (walk-claims t) (walk-at t) walk.Post → walk-lts.Else1 (walk-claims t) (walk-at t) walk.Post
-if1·walk·After-slice-known4 t c = c .before .before .before .before .before .before .before .before .before .before .before .before .before .before .before .before .before .before .before .before .before .before .before .before
-
-abbrev children·walk·After-slice-known4 : (t : ℕ) → walk-lts.After-slice-known4 (walk-claims t) (walk-at t) walk.Post → walk-lts.After-children (walk-claims t) (walk-at t) walk.Post
-children·walk·After-slice-known4 t c = c .before .before .before .before .before .before .before .before .before .before .before .before .before .before .before .before .before .before .before .before .before .before .before
-
-abbrev zero·walk·After-slice-known4 : (t : ℕ) → walk-lts.After-slice-known4 (walk-claims t) (walk-at t) walk.Post → walk-lts.After-zero (walk-claims t) (walk-at t) walk.Post
-zero·walk·After-slice-known4 t c = c .before .before .before .before .before .before .before .before .before .before .before .before .before .before .before .before .before .before .before .before .before
-
-abbrev walk·walk·After-slice-known4 : (t : ℕ) → walk-lts.After-slice-known4 (walk-claims t) (walk-at t) walk.Post → walk-lts.After-walk (walk-claims t) (walk-at t) walk.Post
-walk·walk·After-slice-known4 t c = c .before .before .before .before .before .before .before .before .before .before .before .before .before .before .before .before .before .before
-
-abbrev first·walk·After-slice-known4 : (t : ℕ) → walk-lts.After-slice-known4 (walk-claims t) (walk-at t) walk.Post → walk-lts.After-first (walk-claims t) (walk-at t) walk.Post
-first·walk·After-slice-known4 t c = c .before .before .before .before .before .before .before .before .before .before .before .before .before .before
-
-abbrev second·walk·After-slice-known4 : (t : ℕ) → walk-lts.After-slice-known4 (walk-claims t) (walk-at t) walk.Post → walk-lts.After-second (walk-claims t) (walk-at t) walk.Post
-second·walk·After-slice-known4 t c = c .before .before .before .before .before .before .before
-
-abbrev if2·walk·After-slice-known4 : (t : ℕ) → walk-lts.After-slice-known4 (walk-claims t) (walk-at t) walk.Post → walk-lts.Else2 (walk-claims t) (walk-at t) walk.Post
-if2·walk·After-slice-known4 t c = c .before .before .before .before
-
 walk-is-met-requires : (t : ℕ) → walk-lts.Need-is-met-requires (walk-claims t) (walk-at t) walk.Post
 walk-is-met-requires t c κs = omega (arith, (c .before .before .before) .pre .1 .0 .0, (c .before .before .before) .pre .1 .0 .3)
 
@@ -176,11 +36,14 @@ walk-same-length t c = search needs
 
 walk-returns : (t : ℕ) → walk-lts.Need-returns (walk-claims t) (walk-at t) walk.Post
 walk-returns t c =
-    let a = (start·walk·Then1 t c) .args in
-    walk-met (a .trail) (a .p) (a .nodes .now) (a .count) (a .links .now) ((start·walk·Then1 t c) .pre .1 .0 .0) ((start·walk·Then1 t c) .pre .1 .1 .1) ((c .before) .is-met .ensures) (c .if1 .taken)
+    let at-start : walk-lts.Start (walk-claims t) (walk-at t) walk.Post = search in
+    let a = at-start .args in
+    walk-met (a .trail) (a .p) (a .nodes .now) (a .count) (a .links .now) (at-start .pre .1 .0 .0) (at-start .pre .1 .1 .1) ((c .before) .is-met .ensures) (c .if1 .taken)
 
 walk-children-requires : (t : ℕ) → walk-lts.Need-children-requires (walk-claims t) (walk-at t) walk.Post
-walk-children-requires t c κs = let q = (start·walk·Else1 t c) .pre .1 in (q .0 .0, q .0 .1, q .0 .2, q .1 .0 .0)
+walk-children-requires t c κs =
+    let at-start : walk-lts.Start (walk-claims t) (walk-at t) walk.Post = search in
+    let q = at-start .pre .1 in (q .0 .0, q .0 .1, q .0 .2, q .1 .0 .0)
 
 walk-enum-known-zero : (t : ℕ) → walk-lts.Need-enum-known-zero (walk-claims t) (walk-at t) walk.Post
 walk-enum-known-zero t c = search needs
@@ -193,16 +56,20 @@ walk-same-length-2 t c = search needs
 
 walk-returns-2 : (t : ℕ) → walk-lts.Need-returns-2 (walk-claims t) (walk-at t) walk.Post
 walk-returns-2 t c =
-    let a = (start·walk·After-enum-told t c) .args in
-    let q = (start·walk·After-enum-told t c) .pre .1 in
-    walk-no-children (a .trail) (a .p) (a .nodes .now) (a .count) (a .links .now) (q .0 .0) ((is-met·walk·After-enum-told t c) .is-met .ensures) ((c .before .before .before) .if1 .left) (a .top)
+    let at-is-met : walk-lts.After-is-met (walk-claims t) (walk-at t) walk.Post = search in
+    let at-start : walk-lts.Start (walk-claims t) (walk-at t) walk.Post = search in
+    let a = at-start .args in
+    let q = at-start .pre .1 in
+    walk-no-children (a .trail) (a .p) (a .nodes .now) (a .count) (a .links .now) (q .0 .0) (at-is-met .is-met .ensures) ((c .before .before .before) .if1 .left) (a .top)
     (q .1 .0 .0) ((c .before .before) .children .ensures) (c .enum-told .given .1)
 
 walk-walk-requires : (t : ℕ) → walk-lts.Need-walk-requires (walk-claims t) (walk-at t) walk.Post
 walk-walk-requires t c κs =
-    let q = (start·walk·After-walk-arg t c) .pre .1 in
-    let K = split-two _ _ _ _ ((c .before .before) .zero .given .1) ((children·walk·After-walk-arg t c) .children .ensures) .sides in
-    (omega (arith, (start·walk·After-walk-arg t c) .pre .0, K .zero-below), ((K .zero-within, q .0 .1, q .0 .2, q .0 .3), ((K .ztop, omega (arith, K .zero-below, q .1 .0 .1)), q .1 .1)))
+    let at-children : walk-lts.After-children (walk-claims t) (walk-at t) walk.Post = search in
+    let at-start : walk-lts.Start (walk-claims t) (walk-at t) walk.Post = search in
+    let q = at-start .pre .1 in
+    let K = split-two _ _ _ _ ((c .before .before) .zero .given .1) (at-children .children .ensures) .sides in
+    (omega (arith, at-start .pre .0, K .zero-below), ((K .zero-within, q .0 .1, q .0 .2, q .0 .3), ((K .ztop, omega (arith, K .zero-below, q .1 .0 .1)), q .1 .1)))
 
 walk-enum-known-first : (t : ℕ) → walk-lts.Need-enum-known-first (walk-claims t) (walk-at t) walk.Post
 walk-enum-known-first t c = search needs
@@ -215,17 +82,27 @@ walk-same-length-3 t c = search needs
 
 walk-returns-3 : (t : ℕ) → walk-lts.Need-returns-3 (walk-claims t) (walk-at t) walk.Post
 walk-returns-3 t c =
-    let a = (start·walk·After-enum-told2 t c) .args in
-    let q = (start·walk·After-enum-told2 t c) .pre .1 in
-    walk-first-broken (a .trail) (a .p) (a .nodes .now) (a .count) (a .links .now) (q .0 .0) ((is-met·walk·After-enum-told2 t c) .is-met .ensures) ((if1·walk·After-enum-told2 t c) .if1 .left)
-    (a .top) (q .1 .0 .0) ((children·walk·After-enum-told2 t c) .children .ensures) _ _ _ _ ((zero·walk·After-enum-told2 t c) .zero .given .1) ((walk·walk·After-enum-told2 t c) .walk .ensures) (c .enum-told2 .given .1)
+    let at-walk : walk-lts.After-walk (walk-claims t) (walk-at t) walk.Post = search in
+    let at-zero : walk-lts.After-zero (walk-claims t) (walk-at t) walk.Post = search in
+    let at-children : walk-lts.After-children (walk-claims t) (walk-at t) walk.Post = search in
+    let at-if1 : walk-lts.Else1 (walk-claims t) (walk-at t) walk.Post = search in
+    let at-is-met : walk-lts.After-is-met (walk-claims t) (walk-at t) walk.Post = search in
+    let at-start : walk-lts.Start (walk-claims t) (walk-at t) walk.Post = search in
+    let a = at-start .args in
+    let q = at-start .pre .1 in
+    walk-first-broken (a .trail) (a .p) (a .nodes .now) (a .count) (a .links .now) (q .0 .0) (at-is-met .is-met .ensures) (at-if1 .if1 .left)
+    (a .top) (q .1 .0 .0) (at-children .children .ensures) _ _ _ _ (at-zero .zero .given .1) (at-walk .walk .ensures) (c .enum-told2 .given .1)
 
 walk-walk-requires-2 : (t : ℕ) → walk-lts.Need-walk-requires-2 (walk-claims t) (walk-at t) walk.Post
 walk-walk-requires-2 t c κs =
-    let q = (start·walk·After-walk-arg2 t c) .pre .1 in
-    let K = split-two _ _ _ _ ((zero·walk·After-walk-arg2 t c) .zero .given .1) ((children·walk·After-walk-arg2 t c) .children .ensures) .sides in
-    let R = (walk·walk·After-walk-arg2 t c) .walk .ensures in (
-      omega (arith, (start·walk·After-walk-arg2 t c) .pre .0, K .one-below),
+    let at-walk : walk-lts.After-walk (walk-claims t) (walk-at t) walk.Post = search in
+    let at-zero : walk-lts.After-zero (walk-claims t) (walk-at t) walk.Post = search in
+    let at-children : walk-lts.After-children (walk-claims t) (walk-at t) walk.Post = search in
+    let at-start : walk-lts.Start (walk-claims t) (walk-at t) walk.Post = search in
+    let q = at-start .pre .1 in
+    let K = split-two _ _ _ _ (at-zero .zero .given .1) (at-children .children .ensures) .sides in
+    let R = at-walk .walk .ensures in (
+      omega (arith, at-start .pre .0, K .one-below),
       (
         (K .one-within, q .0 .1, q .0 .2, omega (arith, q .0 .3, R .long)),
         ((K .otop, omega (arith, K .one-below, q .1 .0 .1)), R .fits _ ((c .before .before) .first .given .1)),
@@ -243,29 +120,49 @@ walk-same-length-4 t c = search needs
 
 walk-returns-4 : (t : ℕ) → walk-lts.Need-returns-4 (walk-claims t) (walk-at t) walk.Post
 walk-returns-4 t c =
-    let a = (start·walk·After-enum-told3 t c) .args in
-    let q = (start·walk·After-enum-told3 t c) .pre .1 in
-    walk-second-broken (a .trail) (a .p) (a .nodes .now) (a .count) (a .links .now) (q .0 .0) ((is-met·walk·After-enum-told3 t c) .is-met .ensures) ((if1·walk·After-enum-told3 t c) .if1 .left)
-    (a .top) (q .1 .0 .0) ((children·walk·After-enum-told3 t c) .children .ensures) _ _ _ _ ((zero·walk·After-enum-told3 t c) .zero .given .1) ((walk·walk·After-enum-told3 t c) .walk .ensures) _
-    ((first·walk·After-enum-told3 t c) .first .given .1) ((walk2·walk·After-enum-told3 t c) .walk2 .ensures) (c .enum-told3 .given .1)
+    let at-walk2 : walk-lts.After-walk2 (walk-claims t) (walk-at t) walk.Post = search in
+    let at-first : walk-lts.After-first (walk-claims t) (walk-at t) walk.Post = search in
+    let at-walk : walk-lts.After-walk (walk-claims t) (walk-at t) walk.Post = search in
+    let at-zero : walk-lts.After-zero (walk-claims t) (walk-at t) walk.Post = search in
+    let at-children : walk-lts.After-children (walk-claims t) (walk-at t) walk.Post = search in
+    let at-if1 : walk-lts.Else1 (walk-claims t) (walk-at t) walk.Post = search in
+    let at-is-met : walk-lts.After-is-met (walk-claims t) (walk-at t) walk.Post = search in
+    let at-start : walk-lts.Start (walk-claims t) (walk-at t) walk.Post = search in
+    let a = at-start .args in
+    let q = at-start .pre .1 in
+    walk-second-broken (a .trail) (a .p) (a .nodes .now) (a .count) (a .links .now) (q .0 .0) (at-is-met .is-met .ensures) (at-if1 .if1 .left)
+    (a .top) (q .1 .0 .0) (at-children .children .ensures) _ _ _ _ (at-zero .zero .given .1) (at-walk .walk .ensures) _
+    (at-first .first .given .1) (at-walk2 .walk2 .ensures) (c .enum-told3 .given .1)
 
 walk-same-length-5 : (t : ℕ) → walk-lts.Need-same-length-5 (walk-claims t) (walk-at t) walk.Post
 walk-same-length-5 t c = search needs
 
 walk-returns-5 : (t : ℕ) → walk-lts.Need-returns-5 (walk-claims t) (walk-at t) walk.Post
 walk-returns-5 t c =
-    let a = (start·walk·Then2 t c) .args in
-    let q = (start·walk·Then2 t c) .pre .1 in
-    walk-many (a .trail) (a .p) (a .nodes .now) (a .count) (a .links .now) (q .0 .0) ((is-met·walk·Then2 t c) .is-met .ensures) ((if1·walk·Then2 t c) .if1 .left) (a .top) (q .1 .0 .0)
-    ((children·walk·Then2 t c) .children .ensures) _ _ _ _ ((zero·walk·Then2 t c) .zero .given .1) ((walk·walk·Then2 t c) .walk .ensures) _ ((first·walk·Then2 t c) .first .given .1)
-    ((walk2·walk·Then2 t c) .walk2 .ensures) _ ((c .before .before .before) .second .given .1) (q .0 .2) (c .if2 .taken)
+    let at-walk2 : walk-lts.After-walk2 (walk-claims t) (walk-at t) walk.Post = search in
+    let at-first : walk-lts.After-first (walk-claims t) (walk-at t) walk.Post = search in
+    let at-walk : walk-lts.After-walk (walk-claims t) (walk-at t) walk.Post = search in
+    let at-zero : walk-lts.After-zero (walk-claims t) (walk-at t) walk.Post = search in
+    let at-children : walk-lts.After-children (walk-claims t) (walk-at t) walk.Post = search in
+    let at-if1 : walk-lts.Else1 (walk-claims t) (walk-at t) walk.Post = search in
+    let at-is-met : walk-lts.After-is-met (walk-claims t) (walk-at t) walk.Post = search in
+    let at-start : walk-lts.Start (walk-claims t) (walk-at t) walk.Post = search (at-is-met) in
+    let a = at-start .args in
+    let q = at-start .pre .1 in
+    walk-many (a .trail) (a .p) (a .nodes .now) (a .count) (a .links .now) (q .0 .0) (at-is-met .is-met .ensures) (at-if1 .if1 .left) (a .top) (q .1 .0 .0)
+    (at-children .children .ensures) _ _ _ _ (at-zero .zero .given .1) (at-walk .walk .ensures) _ (at-first .first .given .1)
+    (at-walk2 .walk2 .ensures) _ ((c .before .before .before) .second .given .1) (q .0 .2) (c .if2 .taken)
 
 walk-visit-requires : (t : ℕ) → walk-lts.Need-visit-requires (walk-claims t) (walk-at t) walk.Post
 walk-visit-requires t c κs =
-    let q = (start·walk·After-visit-arg t c) .pre .1 in
-    let R = (walk·walk·After-visit-arg t c) .walk .ensures in
-    let S = (walk2·walk·After-visit-arg t c) .walk2 .ensures in
-    let F = S .fits _ ((second·walk·After-visit-arg t c) .second .given .1) in
+    let at-second : walk-lts.After-second (walk-claims t) (walk-at t) walk.Post = search in
+    let at-walk2 : walk-lts.After-walk2 (walk-claims t) (walk-at t) walk.Post = search in
+    let at-walk : walk-lts.After-walk (walk-claims t) (walk-at t) walk.Post = search in
+    let at-start : walk-lts.Start (walk-claims t) (walk-at t) walk.Post = search (at-walk) in
+    let q = at-start .pre .1 in
+    let R = at-walk .walk .ensures in
+    let S = at-walk2 .walk2 .ensures in
+    let F = S .fits _ (at-second .second .given .1) in
     ((omega (arith, q .0 .0, q .0 .3, R .long, S .long), omega (arith, F .last-held, q .0 .3, R .long, S .long)), (F .item-low, omega (arith, (c .before) .if2 .left), F .short))
 
 walk-same-length-6 : (t : ℕ) → walk-lts.Need-same-length-6 (walk-claims t) (walk-at t) walk.Post
@@ -273,13 +170,23 @@ walk-same-length-6 t c = search needs
 
 walk-returns-6 : (t : ℕ) → walk-lts.Need-returns-6 (walk-claims t) (walk-at t) walk.Post
 walk-returns-6 t c =
-    let a = (start·walk·After-slice-known4 t c) .args in
-    let q = (start·walk·After-slice-known4 t c) .pre .1 in
-    let S = (walk2·walk·After-slice-known4 t c) .walk2 .ensures in
-    walk-done (a .trail) (a .p) (a .nodes .now) (a .count) (a .links .now) (q .0 .0) ((is-met·walk·After-slice-known4 t c) .is-met .ensures) ((if1·walk·After-slice-known4 t c) .if1 .left) (a .top)
-    (q .1 .0 .0) ((children·walk·After-slice-known4 t c) .children .ensures) _ _ _ _ ((zero·walk·After-slice-known4 t c) .zero .given .1) ((walk·walk·After-slice-known4 t c) .walk .ensures) _
-    ((first·walk·After-slice-known4 t c) .first .given .1) ((walk2·walk·After-slice-known4 t c) .walk2 .ensures) _ ((second·walk·After-slice-known4 t c) .second .given .1)
-    (S .fits _ ((second·walk·After-slice-known4 t c) .second .given .1)) (q .1 .0 .1) (omega (arith, (if2·walk·After-slice-known4 t c) .if2 .left)) (q .0 .3) ((c .before .before) .visit .ensures)
+    let at-if2 : walk-lts.Else2 (walk-claims t) (walk-at t) walk.Post = search in
+    let at-second : walk-lts.After-second (walk-claims t) (walk-at t) walk.Post = search in
+    let at-walk2 : walk-lts.After-walk2 (walk-claims t) (walk-at t) walk.Post = search in
+    let at-first : walk-lts.After-first (walk-claims t) (walk-at t) walk.Post = search in
+    let at-walk : walk-lts.After-walk (walk-claims t) (walk-at t) walk.Post = search in
+    let at-zero : walk-lts.After-zero (walk-claims t) (walk-at t) walk.Post = search in
+    let at-children : walk-lts.After-children (walk-claims t) (walk-at t) walk.Post = search in
+    let at-if1 : walk-lts.Else1 (walk-claims t) (walk-at t) walk.Post = search in
+    let at-is-met : walk-lts.After-is-met (walk-claims t) (walk-at t) walk.Post = search (at-if1) in
+    let at-start : walk-lts.Start (walk-claims t) (walk-at t) walk.Post = search (at-if1) in
+    let a = at-start .args in
+    let q = at-start .pre .1 in
+    let S = at-walk2 .walk2 .ensures in
+    walk-done (a .trail) (a .p) (a .nodes .now) (a .count) (a .links .now) (q .0 .0) (at-is-met .is-met .ensures) (at-if1 .if1 .left) (a .top)
+    (q .1 .0 .0) (at-children .children .ensures) _ _ _ _ (at-zero .zero .given .1) (at-walk .walk .ensures) _
+    (at-first .first .given .1) (at-walk2 .walk2 .ensures) _ (at-second .second .given .1)
+    (S .fits _ (at-second .second .given .1)) (q .1 .0 .1) (omega (arith, at-if2 .if2 .left)) (q .0 .3) ((c .before .before) .visit .ensures)
 
 pub +walk-spec : {M : Type 1} → statement M
 +walk-spec = close μ-walk λ t. walk-lts.spec (walk-claims t)

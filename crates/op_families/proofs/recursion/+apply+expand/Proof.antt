@@ -51,135 +51,13 @@ apply-claims t = (ordered-reads.Asked, ordered-reads.Learnt, shortcut-reads.Aske
 abbrev expand-claims : ℕ → expand-lts.Claims
 expand-claims t = (fork-at-reads.Asked, fork-at-reads.Learnt, refused-reads.Asked, refused-reads.Learnt, apply-below t, apply.Post, join-reads.Asked, join-reads.Learnt)
 
-abbrev start·apply·After-ordered : (t : ℕ) → apply-lts.After-ordered (apply-claims t) (apply-at t) apply.Post → apply-lts.Start (apply-claims t) (apply-at t) apply.Post
-start·apply·After-ordered t c = c .before .before .before .before
-
-abbrev start·apply·After-placed : (t : ℕ) → apply-lts.After-placed (apply-claims t) (apply-at t) apply.Post → apply-lts.Start (apply-claims t) (apply-at t) apply.Post
-start·apply·After-placed t c = c .before .before .before .before .before .before .before .before .before
-
-abbrev ordered·apply·After-placed : (t : ℕ) → apply-lts.After-placed (apply-claims t) (apply-at t) apply.Post → apply-lts.After-ordered (apply-claims t) (apply-at t) apply.Post
-ordered·apply·After-placed t c = c .before .before .before .before .before
-
-abbrev shortcut·apply·After-placed : (t : ℕ) → apply-lts.After-placed (apply-claims t) (apply-at t) apply.Post → apply-lts.After-shortcut (apply-claims t) (apply-at t) apply.Post
-shortcut·apply·After-placed t c = c .before .before .before .before
-
-abbrev start·apply·After-recall-arg : (t : ℕ) → apply-lts.After-recall-arg (apply-claims t) (apply-at t) apply.Post → apply-lts.Start (apply-claims t) (apply-at t) apply.Post
-start·apply·After-recall-arg t c = c .before .before .before .before .before .before .before .before
-
-abbrev start·apply·After-placed2 : (t : ℕ) → apply-lts.After-placed2 (apply-claims t) (apply-at t) apply.Post → apply-lts.Start (apply-claims t) (apply-at t) apply.Post
-start·apply·After-placed2 t c = c .before .before .before .before .before .before .before .before .before .before .before .before .before
-
-abbrev ordered·apply·After-placed2 : (t : ℕ) → apply-lts.After-placed2 (apply-claims t) (apply-at t) apply.Post → apply-lts.After-ordered (apply-claims t) (apply-at t) apply.Post
-ordered·apply·After-placed2 t c = c .before .before .before .before .before .before .before .before .before
-
-abbrev recall·apply·After-placed2 : (t : ℕ) → apply-lts.After-placed2 (apply-claims t) (apply-at t) apply.Post → apply-lts.After-recall (apply-claims t) (apply-at t) apply.Post
-recall·apply·After-placed2 t c = c .before .before .before .before
-
-abbrev start·apply·After-expand-arg3 : (t : ℕ) → apply-lts.After-expand-arg3 (apply-claims t) (apply-at t) apply.Post → apply-lts.Start (apply-claims t) (apply-at t) apply.Post
-start·apply·After-expand-arg3 t c = c .before .before .before .before .before .before .before .before .before .before .before .before .before .before
-
-abbrev ordered·apply·After-expand-arg3 : (t : ℕ) → apply-lts.After-expand-arg3 (apply-claims t) (apply-at t) apply.Post → apply-lts.After-ordered (apply-claims t) (apply-at t) apply.Post
-ordered·apply·After-expand-arg3 t c = c .before .before .before .before .before .before .before .before .before .before
-
-abbrev enum-told·apply·After-expand-arg3 : (t : ℕ) → apply-lts.After-expand-arg3 (apply-claims t) (apply-at t) apply.Post → apply-lts.After-enum-told (apply-claims t) (apply-at t) apply.Post
-enum-told·apply·After-expand-arg3 t c = c .before .before .before .before .before .before .before
-
-abbrev shortcut·apply·After-expand-arg3 : (t : ℕ) → apply-lts.After-expand-arg3 (apply-claims t) (apply-at t) apply.Post → apply-lts.After-shortcut (apply-claims t) (apply-at t) apply.Post
-shortcut·apply·After-expand-arg3 t c = c .before .before .before .before .before .before .before .before .before
-
-abbrev start·apply·After-slice-known6 : (t : ℕ) → apply-lts.After-slice-known6 (apply-claims t) (apply-at t) apply.Post → apply-lts.Start (apply-claims t) (apply-at t) apply.Post
-start·apply·After-slice-known6 t c = c .before .before .before .before .before .before .before .before .before .before .before .before .before .before .before .before .before .before .before .before .before
-
-abbrev ordered·apply·After-slice-known6 : (t : ℕ) → apply-lts.After-slice-known6 (apply-claims t) (apply-at t) apply.Post → apply-lts.After-ordered (apply-claims t) (apply-at t) apply.Post
-ordered·apply·After-slice-known6 t c = c .before .before .before .before .before .before .before .before .before .before .before .before .before .before .before .before .before
-
-abbrev expand·apply·After-slice-known6 : (t : ℕ) → apply-lts.After-slice-known6 (apply-claims t) (apply-at t) apply.Post → apply-lts.After-expand (apply-claims t) (apply-at t) apply.Post
-expand·apply·After-slice-known6 t c = c .before .before .before .before .before .before
-
-abbrev start·expand·After-fork-at-arg : (t : ℕ) → expand-lts.After-fork-at-arg (expand-claims t) (expand-at t) expand.Post → expand-lts.Start (expand-claims t) (expand-at t) expand.Post
-start·expand·After-fork-at-arg t c = c .before .before .before .before
-
-abbrev start·expand·After-apply-arg3 : (t : ℕ) → expand-lts.After-apply-arg3 (expand-claims t) (expand-at t) expand.Post → expand-lts.Start (expand-claims t) (expand-at t) expand.Post
-start·expand·After-apply-arg3 t c = c .before .before .before .before .before .before .before .before .before .before .before
-
-abbrev p0·expand·After-apply-arg3 : (t : ℕ) → expand-lts.After-apply-arg3 (expand-claims t) (expand-at t) expand.Post → expand-lts.After-p0 (expand-claims t) (expand-at t) expand.Post
-p0·expand·After-apply-arg3 t c = c .before .before .before .before
-
-abbrev fork-at·expand·After-apply-arg3 : (t : ℕ) → expand-lts.After-apply-arg3 (expand-claims t) (expand-at t) expand.Post → expand-lts.After-fork-at (expand-claims t) (expand-at t) expand.Post
-fork-at·expand·After-apply-arg3 t c = c .before .before .before .before .before .before
-
-abbrev start·expand·After-enum-told2 : (t : ℕ) → expand-lts.After-enum-told2 (expand-claims t) (expand-at t) expand.Post → expand-lts.Start (expand-claims t) (expand-at t) expand.Post
-start·expand·After-enum-told2 t c = c .before .before .before .before .before .before .before .before .before .before .before .before .before .before .before .before .before .before .before .before
-
-abbrev p0·expand·After-enum-told2 : (t : ℕ) → expand-lts.After-enum-told2 (expand-claims t) (expand-at t) expand.Post → expand-lts.After-p0 (expand-claims t) (expand-at t) expand.Post
-p0·expand·After-enum-told2 t c = c .before .before .before .before .before .before .before .before .before .before .before .before .before
-
-abbrev fork-at·expand·After-enum-told2 : (t : ℕ) → expand-lts.After-enum-told2 (expand-claims t) (expand-at t) expand.Post → expand-lts.After-fork-at (expand-claims t) (expand-at t) expand.Post
-fork-at·expand·After-enum-told2 t c = c .before .before .before .before .before .before .before .before .before .before .before .before .before .before .before
-
-abbrev apply·expand·After-enum-told2 : (t : ℕ) → expand-lts.After-enum-told2 (expand-claims t) (expand-at t) expand.Post → expand-lts.After-apply (expand-claims t) (expand-at t) expand.Post
-apply·expand·After-enum-told2 t c = c .before .before .before .before .before .before .before .before
-
-abbrev start·expand·After-apply-arg6 : (t : ℕ) → expand-lts.After-apply-arg6 (expand-claims t) (expand-at t) expand.Post → expand-lts.Start (expand-claims t) (expand-at t) expand.Post
-start·expand·After-apply-arg6 t c = c .before .before .before .before .before .before .before .before .before .before .before .before .before .before .before .before .before .before .before .before .before .before .before .before .before
-
-abbrev p0·expand·After-apply-arg6 : (t : ℕ) → expand-lts.After-apply-arg6 (expand-claims t) (expand-at t) expand.Post → expand-lts.After-p0 (expand-claims t) (expand-at t) expand.Post
-p0·expand·After-apply-arg6 t c = c .before .before .before .before .before .before .before .before .before .before .before .before .before .before .before .before .before .before
-
-abbrev fork-at·expand·After-apply-arg6 : (t : ℕ) → expand-lts.After-apply-arg6 (expand-claims t) (expand-at t) expand.Post → expand-lts.After-fork-at (expand-claims t) (expand-at t) expand.Post
-fork-at·expand·After-apply-arg6 t c = c .before .before .before .before .before .before .before .before .before .before .before .before .before .before .before .before .before .before .before .before
-
-abbrev apply·expand·After-apply-arg6 : (t : ℕ) → expand-lts.After-apply-arg6 (expand-claims t) (expand-at t) expand.Post → expand-lts.After-apply (expand-claims t) (expand-at t) expand.Post
-apply·expand·After-apply-arg6 t c = c .before .before .before .before .before .before .before .before .before .before .before .before .before
-
-abbrev start·expand·After-join-arg3 : (t : ℕ) → expand-lts.After-join-arg3 (expand-claims t) (expand-at t) expand.Post → expand-lts.Start (expand-claims t) (expand-at t) expand.Post
-start·expand·After-join-arg3 t c = c .before .before .before .before .before .before .before .before .before .before .before .before .before .before .before .before .before .before .before .before .before .before .before .before .before .before .before .before .before .before .before .before .before .before .before
-
-abbrev p0·expand·After-join-arg3 : (t : ℕ) → expand-lts.After-join-arg3 (expand-claims t) (expand-at t) expand.Post → expand-lts.After-p0 (expand-claims t) (expand-at t) expand.Post
-p0·expand·After-join-arg3 t c = c .before .before .before .before .before .before .before .before .before .before .before .before .before .before .before .before .before .before .before .before .before .before .before .before .before .before .before .before
-
-abbrev fork-at·expand·After-join-arg3 : (t : ℕ) → expand-lts.After-join-arg3 (expand-claims t) (expand-at t) expand.Post → expand-lts.After-fork-at (expand-claims t) (expand-at t) expand.Post
-fork-at·expand·After-join-arg3 t c = c .before .before .before .before .before .before .before .before .before .before .before .before .before .before .before .before .before .before .before .before .before .before .before .before .before .before .before .before .before .before
-
-abbrev apply·expand·After-join-arg3 : (t : ℕ) → expand-lts.After-join-arg3 (expand-claims t) (expand-at t) expand.Post → expand-lts.After-apply (expand-claims t) (expand-at t) expand.Post
-apply·expand·After-join-arg3 t c = c .before .before .before .before .before .before .before .before .before .before .before .before .before .before .before .before .before .before .before .before .before .before .before
-
-abbrev apply2·expand·After-join-arg3 : (t : ℕ) → expand-lts.After-join-arg3 (expand-claims t) (expand-at t) expand.Post → expand-lts.After-apply2 (expand-claims t) (expand-at t) expand.Post
-apply2·expand·After-join-arg3 t c = c .before .before .before .before .before .before .before .before .before
-
-abbrev answer·expand·After-join-arg3 : (t : ℕ) → expand-lts.After-join-arg3 (expand-claims t) (expand-at t) expand.Post → expand-lts.After-answer (expand-claims t) (expand-at t) expand.Post
-answer·expand·After-join-arg3 t c = c .before .before .before .before .before .before .before .before .before .before .before .before .before .before .before
-
-abbrev start·expand·After-refused : (t : ℕ) → expand-lts.After-refused (expand-claims t) (expand-at t) expand.Post → expand-lts.Start (expand-claims t) (expand-at t) expand.Post
-start·expand·After-refused t c = c .before .before .before .before .before .before .before .before
-
-abbrev join·expand·After-slice-known12 : (t : ℕ) → expand-lts.After-slice-known12 (expand-claims t) (expand-at t) expand.Post → expand-lts.After-join (expand-claims t) (expand-at t) expand.Post
-join·expand·After-slice-known12 t c = c .before .before .before .before .before .before
-
-abbrev apply2·expand·After-slice-known12 : (t : ℕ) → expand-lts.After-slice-known12 (expand-claims t) (expand-at t) expand.Post → expand-lts.After-apply2 (expand-claims t) (expand-at t) expand.Post
-apply2·expand·After-slice-known12 t c = c .before .before .before .before .before .before .before .before .before .before .before .before .before .before .before .before
-
-abbrev apply·expand·After-slice-known12 : (t : ℕ) → expand-lts.After-slice-known12 (expand-claims t) (expand-at t) expand.Post → expand-lts.After-apply (expand-claims t) (expand-at t) expand.Post
-apply·expand·After-slice-known12 t c = c .before .before .before .before .before .before .before .before .before .before .before .before .before .before .before .before .before .before .before .before .before .before .before .before .before .before .before .before .before .before
-
-abbrev start·expand·After-slice-known12 : (t : ℕ) → expand-lts.After-slice-known12 (expand-claims t) (expand-at t) expand.Post → expand-lts.Start (expand-claims t) (expand-at t) expand.Post
-start·expand·After-slice-known12 t c = c .before .before .before .before .before .before .before .before .before .before .before .before .before .before .before .before .before .before .before .before .before .before .before .before .before .before .before .before .before .before .before .before .before .before .before .before .before .before .before .before .before .before
-
-abbrev p0·expand·After-slice-known12 : (t : ℕ) → expand-lts.After-slice-known12 (expand-claims t) (expand-at t) expand.Post → expand-lts.After-p0 (expand-claims t) (expand-at t) expand.Post
-p0·expand·After-slice-known12 t c = c .before .before .before .before .before .before .before .before .before .before .before .before .before .before .before .before .before .before .before .before .before .before .before .before .before .before .before .before .before .before .before .before .before .before .before
-
-abbrev fork-at·expand·After-slice-known12 : (t : ℕ) → expand-lts.After-slice-known12 (expand-claims t) (expand-at t) expand.Post → expand-lts.After-fork-at (expand-claims t) (expand-at t) expand.Post
-fork-at·expand·After-slice-known12 t c = c .before .before .before .before .before .before .before .before .before .before .before .before .before .before .before .before .before .before .before .before .before .before .before .before .before .before .before .before .before .before .before .before .before .before .before .before .before
-
-abbrev answer·expand·After-slice-known12 : (t : ℕ) → expand-lts.After-slice-known12 (expand-claims t) (expand-at t) expand.Post → expand-lts.After-answer (expand-claims t) (expand-at t) expand.Post
-answer·expand·After-slice-known12 t c = c .before .before .before .before .before .before .before .before .before .before .before .before .before .before .before .before .before .before .before .before .before .before
-
 apply-ordered-requires : (t : ℕ) → apply-lts.Need-ordered-requires (apply-claims t) (apply-at t) apply.Post
 apply-ordered-requires t c κs = search needs
 
 apply-shortcut-requires : (t : ℕ) → apply-lts.Need-shortcut-requires (apply-claims t) (apply-at t) apply.Post
 apply-shortcut-requires t c κs =
-    let p = (start·apply·After-ordered t c) .pre in
+    let at-start : apply-lts.Start (apply-claims t) (apply-at t) apply.Post = search in
+    let p = at-start .pre in
     let e = ordered-op (c .ordered .ensures) in
     (omega (arith, p .1 .1 .0 .0), omega (arith, p .1 .1 .0 .1))
 
@@ -191,19 +69,23 @@ apply-placed-requires t c κs = search needs
 
 apply-returns : (t : ℕ) → apply-lts.Need-returns (apply-claims t) (apply-at t) apply.Post
 apply-returns t c =
-    let a = (start·apply·After-placed t c) .args in
-    let p = (start·apply·After-placed t c) .pre in
-    let O = (ordered·apply·After-placed t c) .ordered .ensures in
+    let at-shortcut : apply-lts.After-shortcut (apply-claims t) (apply-at t) apply.Post = search in
+    let at-ordered : apply-lts.After-ordered (apply-claims t) (apply-at t) apply.Post = search in
+    let at-start : apply-lts.Start (apply-claims t) (apply-at t) apply.Post = search in
+    let a = at-start .args in
+    let p = at-start .pre in
+    let O = at-ordered .ordered .ensures in
     ran-ordered O (a .store) (a .nodes .now) (a .lookup .now) (a .cache .now) (p .1 .1 .0 .2) (p .1 .1 .0 .3)
-    (ran-shortcut (a .store) (a .nodes .now) (a .lookup .now) (a .cache .now) (p .1 .0) ((ordered·apply·After-placed t c) .ordered .result) (c .placed .result) (c .placed .ensures .0) _ (c .placed .ensures .1)
-    (ordered-first O (a .store .count) (p .1 .1 .0 .2) (p .1 .1 .0 .3)) (ordered-second O (a .store .count) (p .1 .1 .0 .2) (p .1 .1 .0 .3)) ((c .before .before) .handle .given .1) ((shortcut·apply·After-placed t c) .shortcut .ensures))
+    (ran-shortcut (a .store) (a .nodes .now) (a .lookup .now) (a .cache .now) (p .1 .0) (at-ordered .ordered .result) (c .placed .result) (c .placed .ensures .0) _ (c .placed .ensures .1)
+    (ordered-first O (a .store .count) (p .1 .1 .0 .2) (p .1 .1 .0 .3)) (ordered-second O (a .store .count) (p .1 .1 .0 .2) (p .1 .1 .0 .3)) ((c .before .before) .handle .given .1) (at-shortcut .shortcut .ensures))
 
 apply-enum-told : (t : ℕ) → apply-lts.Need-enum-told (apply-claims t) (apply-at t) apply.Post
 apply-enum-told t c = search needs
 
 apply-recall-requires : (t : ℕ) → apply-lts.Need-recall-requires (apply-claims t) (apply-at t) apply.Post
 apply-recall-requires t c κs =
-    let p = (start·apply·After-recall-arg t c) .pre in
+    let at-start : apply-lts.Start (apply-claims t) (apply-at t) apply.Post = search in
+    let p = at-start .pre in
     omega (arith, p .1 .0 .within, p .1 .0 .small)
 
 apply-enum-known-handle-2 : (t : ℕ) → apply-lts.Need-enum-known-handle-2 (apply-claims t) (apply-at t) apply.Post
@@ -217,28 +99,35 @@ apply-same-length t c = search needs
 
 apply-returns-2 : (t : ℕ) → apply-lts.Need-returns-2 (apply-claims t) (apply-at t) apply.Post
 apply-returns-2 t c =
-    let a = (start·apply·After-placed2 t c) .args in
-    let p = (start·apply·After-placed2 t c) .pre in
-    let O = (ordered·apply·After-placed2 t c) .ordered .ensures in
+    let at-recall : apply-lts.After-recall (apply-claims t) (apply-at t) apply.Post = search in
+    let at-ordered : apply-lts.After-ordered (apply-claims t) (apply-at t) apply.Post = search in
+    let at-start : apply-lts.Start (apply-claims t) (apply-at t) apply.Post = search in
+    let a = at-start .args in
+    let p = at-start .pre in
+    let O = at-ordered .ordered .ensures in
     ran-ordered O (a .store) (a .nodes .now) (a .lookup .now) (a .cache .now) (p .1 .1 .0 .2) (p .1 .1 .0 .3)
-    (ran-recalled (a .store) (a .nodes .now) (a .lookup .now) (a .cache .now) (p .1 .0) ((ordered·apply·After-placed2 t c) .ordered .result) (c .placed2 .result) (c .placed2 .ensures .0) _ (c .placed2 .ensures .1)
-    (omega (arith, ordered-op O, p .1 .1 .0 .0)) ((c .before .before) .handle2 .given .1) ((recall·apply·After-placed2 t c) .recall .ensures))
+    (ran-recalled (a .store) (a .nodes .now) (a .lookup .now) (a .cache .now) (p .1 .0) (at-ordered .ordered .result) (c .placed2 .result) (c .placed2 .ensures .0) _ (c .placed2 .ensures .1)
+    (omega (arith, ordered-op O, p .1 .1 .0 .0)) ((c .before .before) .handle2 .given .1) (at-recall .recall .ensures))
 
 apply-enum-told-2 : (t : ℕ) → apply-lts.Need-enum-told-2 (apply-claims t) (apply-at t) apply.Post
 apply-enum-told-2 t c = search needs
 
 apply-expand-requires : (t : ℕ) → apply-lts.Need-expand-requires (apply-claims t) (apply-at t) apply.Post
 apply-expand-requires t c κs =
-    let a = (start·apply·After-expand-arg3 t c) .args in
-    let p = (start·apply·After-expand-arg3 t c) .pre in
-    let O = (ordered·apply·After-expand-arg3 t c) .ordered .ensures in
+    let at-enum-told : apply-lts.After-enum-told (apply-claims t) (apply-at t) apply.Post = search in
+    let at-shortcut : apply-lts.After-shortcut (apply-claims t) (apply-at t) apply.Post = search in
+    let at-ordered : apply-lts.After-ordered (apply-claims t) (apply-at t) apply.Post = search in
+    let at-start : apply-lts.Start (apply-claims t) (apply-at t) apply.Post = search in
+    let a = at-start .args in
+    let p = at-start .pre in
+    let O = at-ordered .ordered .ensures in
     let e = ordered-op O in (
       omega (arith, p .0),
       (
         p .1 .0,
         (
           (omega (arith, p .1 .1 .0 .0), omega (arith, p .1 .1 .0 .1), ordered-first O (a .store .count) (p .1 .1 .0 .2) (p .1 .1 .0 .3), ordered-second O (a .store .count) (p .1 .1 .0 .2) (p .1 .1 .0 .3)),
-          ((ordered-level O (a .nodes .now) (p .1 .1 .1 .0), p .1 .1 .1 .1), shortcut-proper ((enum-told·apply·After-expand-arg3 t c) .enum-told .given .1) ((shortcut·apply·After-expand-arg3 t c) .shortcut .ensures)),
+          ((ordered-level O (a .nodes .now) (p .1 .1 .1 .0), p .1 .1 .1 .1), shortcut-proper (at-enum-told .enum-told .given .1) (at-shortcut .shortcut .ensures)),
         ),
       ),
     )
@@ -254,13 +143,17 @@ apply-same-length-4 t c = search needs
 
 apply-returns-3 : (t : ℕ) → apply-lts.Need-returns-3 (apply-claims t) (apply-at t) apply.Post
 apply-returns-3 t c =
-    let a = (start·apply·After-slice-known6 t c) .args in
-    let p = (start·apply·After-slice-known6 t c) .pre in
-    ran-ordered ((ordered·apply·After-slice-known6 t c) .ordered .ensures) (a .store) (a .nodes .now) (a .lookup .now) (a .cache .now) (p .1 .1 .0 .2) (p .1 .1 .0 .3) ((expand·apply·After-slice-known6 t c) .expand .ensures)
+    let at-expand : apply-lts.After-expand (apply-claims t) (apply-at t) apply.Post = search in
+    let at-ordered : apply-lts.After-ordered (apply-claims t) (apply-at t) apply.Post = search in
+    let at-start : apply-lts.Start (apply-claims t) (apply-at t) apply.Post = search in
+    let a = at-start .args in
+    let p = at-start .pre in
+    ran-ordered (at-ordered .ordered .ensures) (a .store) (a .nodes .now) (a .lookup .now) (a .cache .now) (p .1 .1 .0 .2) (p .1 .1 .0 .3) (at-expand .expand .ensures)
 
 expand-fork-at-requires : (t : ℕ) → expand-lts.Need-fork-at-requires (expand-claims t) (expand-at t) expand.Post
 expand-fork-at-requires t c κs =
-    let p = (start·expand·After-fork-at-arg t c) .pre in
+    let at-start : expand-lts.Start (expand-claims t) (expand-at t) expand.Post = search in
+    let p = at-start .pre in
     ((p .1 .1 .0 .2, p .1 .1 .0 .3, omega (arith, p .1 .0 .within, p .1 .0 .words), omega (arith, p .1 .0 .within, p .1 .0 .small)), (p .1 .1 .1 .0 .0, p .1 .1 .1 .1))
 
 expand-enum-told : (t : ℕ) → expand-lts.Need-enum-told (expand-claims t) (expand-at t) expand.Post
@@ -274,8 +167,11 @@ expand-enum-known-p0 t c = search needs
 
 expand-apply-requires : (t : ℕ) → expand-lts.Need-apply-requires (expand-claims t) (expand-at t) expand.Post
 expand-apply-requires t c κs =
-    let p = (start·expand·After-apply-arg3 t c) .pre in
-    let K = fork-two ((p0·expand·After-apply-arg3 t c) .p0 .given .1) ((fork-at·expand·After-apply-arg3 t c) .fork-at .ensures) in (
+    let at-p0 : expand-lts.After-p0 (expand-claims t) (expand-at t) expand.Post = search in
+    let at-fork-at : expand-lts.After-fork-at (expand-claims t) (expand-at t) expand.Post = search in
+    let at-start : expand-lts.Start (expand-claims t) (expand-at t) expand.Post = search in
+    let p = at-start .pre in
+    let K = fork-two (at-p0 .p0 .given .1) (at-fork-at .fork-at .ensures) in (
       omega (arith, p .0, K .first .zero-below, K .second .zero-below, K .top₀-is),
       (
         p .1 .0,
@@ -303,18 +199,26 @@ expand-same-length-3 t c = search needs
 
 expand-returns : (t : ℕ) → expand-lts.Need-returns (expand-claims t) (expand-at t) expand.Post
 expand-returns t c =
-    let a = (start·expand·After-enum-told2 t c) .args in
-    let p = (start·expand·After-enum-told2 t c) .pre in
-    let K = fork-two ((p0·expand·After-enum-told2 t c) .p0 .given .1) ((fork-at·expand·After-enum-told2 t c) .fork-at .ensures) in
+    let at-apply : expand-lts.After-apply (expand-claims t) (expand-at t) expand.Post = search in
+    let at-p0 : expand-lts.After-p0 (expand-claims t) (expand-at t) expand.Post = search in
+    let at-fork-at : expand-lts.After-fork-at (expand-claims t) (expand-at t) expand.Post = search in
+    let at-start : expand-lts.Start (expand-claims t) (expand-at t) expand.Post = search in
+    let a = at-start .args in
+    let p = at-start .pre in
+    let K = fork-two (at-p0 .p0 .given .1) (at-fork-at .fork-at .ensures) in
     step-first (a .call) _ _ (a .level) (a .store) (a .nodes .now) (a .lookup .now) (a .cache .now)
     (split-families (a .call) (a .store .count) (a .nodes .now) (a .level) (p .1 .1 .0 .2) (p .1 .1 .0 .0) (p .1 .1 .0 .1) (p .1 .1 .0 .3) (a .lookup .now) (p .1 .1 .1 .0 .0) K)
-    ((apply·expand·After-enum-told2 t c) .apply .ensures) _ (c .enum-told2 .given .1)
+    (at-apply .apply .ensures) _ (c .enum-told2 .given .1)
 
 expand-apply-requires-2 : (t : ℕ) → expand-lts.Need-apply-requires-2 (expand-claims t) (expand-at t) expand.Post
 expand-apply-requires-2 t c κs =
-    let p = (start·expand·After-apply-arg6 t c) .pre in
-    let K = fork-two ((p0·expand·After-apply-arg6 t c) .p0 .given .1) ((fork-at·expand·After-apply-arg6 t c) .fork-at .ensures) in
-    let L = (apply·expand·After-apply-arg6 t c) .apply .ensures .kept in (
+    let at-apply : expand-lts.After-apply (expand-claims t) (expand-at t) expand.Post = search in
+    let at-p0 : expand-lts.After-p0 (expand-claims t) (expand-at t) expand.Post = search in
+    let at-fork-at : expand-lts.After-fork-at (expand-claims t) (expand-at t) expand.Post = search in
+    let at-start : expand-lts.Start (expand-claims t) (expand-at t) expand.Post = search (at-fork-at) in
+    let p = at-start .pre in
+    let K = fork-two (at-p0 .p0 .given .1) (at-fork-at .fork-at .ensures) in
+    let L = at-apply .apply .ensures .kept in (
       omega (arith, p .0, K .first .one-below, K .second .one-below, K .top₁-is),
       (
         kept-roomy L (p .1 .0),
@@ -327,39 +231,65 @@ expand-apply-requires-2 t c κs =
 
 expand-join-requires : (t : ℕ) → expand-lts.Need-join-requires (expand-claims t) (expand-at t) expand.Post
 expand-join-requires t c κs =
-    let p = (start·expand·After-join-arg3 t c) .pre in
-    let K = fork-two ((p0·expand·After-join-arg3 t c) .p0 .given .1) ((fork-at·expand·After-join-arg3 t c) .fork-at .ensures) in
-    let L = (apply·expand·After-join-arg3 t c) .apply .ensures in
-    let M = (apply2·expand·After-join-arg3 t c) .apply2 .ensures in
-    (kept-roomy (kept-trans (L .kept) (M .kept)) (p .1 .0), (omega (arith, K .some), p .1 .1 .1 .0 .1, omega (arith, L .handle _ ((answer·expand·After-join-arg3 t c) .answer .given .1), M .kept .grows), M .handle))
+    let at-apply2 : expand-lts.After-apply2 (expand-claims t) (expand-at t) expand.Post = search in
+    let at-answer : expand-lts.After-answer (expand-claims t) (expand-at t) expand.Post = search in
+    let at-apply : expand-lts.After-apply (expand-claims t) (expand-at t) expand.Post = search in
+    let at-p0 : expand-lts.After-p0 (expand-claims t) (expand-at t) expand.Post = search (at-apply) in
+    let at-fork-at : expand-lts.After-fork-at (expand-claims t) (expand-at t) expand.Post = search (at-apply) in
+    let at-start : expand-lts.Start (expand-claims t) (expand-at t) expand.Post = search (at-apply) in
+    let p = at-start .pre in
+    let K = fork-two (at-p0 .p0 .given .1) (at-fork-at .fork-at .ensures) in
+    let L = at-apply .apply .ensures in
+    let M = at-apply2 .apply2 .ensures in
+    (kept-roomy (kept-trans (L .kept) (M .kept)) (p .1 .0), (omega (arith, K .some), p .1 .1 .1 .0 .1, omega (arith, L .handle _ (at-answer .answer .given .1), M .kept .grows), M .handle))
 
 expand-same-length-4 : (t : ℕ) → expand-lts.Need-same-length-4 (expand-claims t) (expand-at t) expand.Post
 expand-same-length-4 t c = search needs
 
 expand-returns-2 : (t : ℕ) → expand-lts.Need-returns-2 (expand-claims t) (expand-at t) expand.Post
 expand-returns-2 t c =
-    let a = (start·expand·After-refused t c) .args in
-    let p = (start·expand·After-refused t c) .pre in
+    let at-start : expand-lts.Start (expand-claims t) (expand-at t) expand.Post = search in
+    let a = at-start .args in
+    let p = at-start .pre in
     ran-broken (a .store) (a .nodes .now) (a .lookup .now) (a .cache .now) (p .1 .0) (a .call) (c .refused .result) (c .refused .ensures .0) (c .refused .ensures .1)
     (λ B H. fork-broken ((c .before) .enum-told .given .1) ((c .before .before .before) .fork-at .ensures) B (a .lookup .now) H)
 
 expand-same-length-5 : (t : ℕ) → expand-lts.Need-same-length-5 (expand-claims t) (expand-at t) expand.Post
-expand-same-length-5 t c = (join·expand·After-slice-known12 t c) .join .kept .1 .0 ∙ (apply2·expand·After-slice-known12 t c) .apply2 .kept .1 .1 .1 .0 ∙ (apply·expand·After-slice-known12 t c) .apply .kept .1 .1 .1 .0
+expand-same-length-5 t c =
+    let at-join : expand-lts.After-join (expand-claims t) (expand-at t) expand.Post = search in
+    let at-apply2 : expand-lts.After-apply2 (expand-claims t) (expand-at t) expand.Post = search in
+    let at-apply : expand-lts.After-apply (expand-claims t) (expand-at t) expand.Post = search (at-apply2) in
+    at-join .join .kept .1 .0 ∙ at-apply2 .apply2 .kept .1 .1 .1 .0 ∙ at-apply .apply .kept .1 .1 .1 .0
 
 expand-same-length-6 : (t : ℕ) → expand-lts.Need-same-length-6 (expand-claims t) (expand-at t) expand.Post
-expand-same-length-6 t c = (join·expand·After-slice-known12 t c) .join .kept .1 .1 .0 ∙ (apply2·expand·After-slice-known12 t c) .apply2 .kept .1 .1 .1 .1 .0 ∙ (apply·expand·After-slice-known12 t c) .apply .kept .1 .1 .1 .1 .0
+expand-same-length-6 t c =
+    let at-join : expand-lts.After-join (expand-claims t) (expand-at t) expand.Post = search in
+    let at-apply2 : expand-lts.After-apply2 (expand-claims t) (expand-at t) expand.Post = search in
+    let at-apply : expand-lts.After-apply (expand-claims t) (expand-at t) expand.Post = search (at-apply2) in
+    at-join .join .kept .1 .1 .0 ∙ at-apply2 .apply2 .kept .1 .1 .1 .1 .0 ∙ at-apply .apply .kept .1 .1 .1 .1 .0
 
 expand-same-length-7 : (t : ℕ) → expand-lts.Need-same-length-7 (expand-claims t) (expand-at t) expand.Post
-expand-same-length-7 t c = (join·expand·After-slice-known12 t c) .join .kept .1 .1 .1 .0 ∙ (apply2·expand·After-slice-known12 t c) .apply2 .kept .1 .1 .1 .1 .1 .0 ∙ (apply·expand·After-slice-known12 t c) .apply .kept .1 .1 .1 .1 .1 .0
+expand-same-length-7 t c =
+    let at-join : expand-lts.After-join (expand-claims t) (expand-at t) expand.Post = search in
+    let at-apply2 : expand-lts.After-apply2 (expand-claims t) (expand-at t) expand.Post = search in
+    let at-apply : expand-lts.After-apply (expand-claims t) (expand-at t) expand.Post = search (at-apply2) in
+    at-join .join .kept .1 .1 .1 .0 ∙ at-apply2 .apply2 .kept .1 .1 .1 .1 .1 .0 ∙ at-apply .apply .kept .1 .1 .1 .1 .1 .0
 
 expand-returns-3 : (t : ℕ) → expand-lts.Need-returns-3 (expand-claims t) (expand-at t) expand.Post
 expand-returns-3 t c =
-    let a = (start·expand·After-slice-known12 t c) .args in
-    let p = (start·expand·After-slice-known12 t c) .pre in
-    let K = fork-two ((p0·expand·After-slice-known12 t c) .p0 .given .1) ((fork-at·expand·After-slice-known12 t c) .fork-at .ensures) in
+    let at-join : expand-lts.After-join (expand-claims t) (expand-at t) expand.Post = search in
+    let at-apply2 : expand-lts.After-apply2 (expand-claims t) (expand-at t) expand.Post = search in
+    let at-answer : expand-lts.After-answer (expand-claims t) (expand-at t) expand.Post = search in
+    let at-apply : expand-lts.After-apply (expand-claims t) (expand-at t) expand.Post = search (at-answer) in
+    let at-p0 : expand-lts.After-p0 (expand-claims t) (expand-at t) expand.Post = search (at-answer) in
+    let at-fork-at : expand-lts.After-fork-at (expand-claims t) (expand-at t) expand.Post = search (at-answer) in
+    let at-start : expand-lts.Start (expand-claims t) (expand-at t) expand.Post = search (at-answer) in
+    let a = at-start .args in
+    let p = at-start .pre in
+    let K = fork-two (at-p0 .p0 .given .1) (at-fork-at .fork-at .ensures) in
     step-joined (a .call) _ _ (a .level) (a .store) (a .nodes .now) (a .lookup .now) (a .cache .now)
     (split-families (a .call) (a .store .count) (a .nodes .now) (a .level) (p .1 .1 .0 .2) (p .1 .1 .0 .0) (p .1 .1 .0 .1) (p .1 .1 .0 .3) (a .lookup .now) (p .1 .1 .1 .0 .0) K)
-    ((apply·expand·After-slice-known12 t c) .apply .ensures) _ ((answer·expand·After-slice-known12 t c) .answer .given .1) ((apply2·expand·After-slice-known12 t c) .apply2 .ensures) ((join·expand·After-slice-known12 t c) .join .ensures)
+    (at-apply .apply .ensures) _ (at-answer .answer .given .1) (at-apply2 .apply2 .ensures) (at-join .join .ensures)
 
 pub +apply+expand-spec : {M : Type 1} → statement M
 +apply+expand-spec = close μ-apply μ-expand (λ t. apply-lts.spec (apply-claims t)

@@ -9,18 +9,6 @@ use borrow.Author.Needs.{needs}
 use Rattle.op_families.proofs.recursion.fork_at.Statement.{statement}
 use Rattle.op_families.proofs.recursion.fork_at.Tie as tie
 
-abbrev if1·After-larger2 : tie.After-larger2 → tie.Else1
-if1·After-larger2 c = c .before .before .before .before .before .before .before .before .before .before
-
-abbrev p0·After-larger2 : tie.After-larger2 → tie.After-p0
-p0·After-larger2 c = c .before .before .before .before .before .before .before
-
-abbrev sides-at·After-larger2 : tie.After-larger2 → tie.After-sides-at
-sides-at·After-larger2 c = c .before .before .before .before .before .before .before .before .before
-
-abbrev sides-at2·After-larger2 : tie.After-larger2 → tie.After-sides-at2
-sides-at2·After-larger2 c = c .before .before .before .before .before
-
 returns : tie.Need-returns
 returns c =
     let a = (c .before .before) .args in
@@ -59,14 +47,18 @@ returns-3 c = broken (sides-broken (c .enum-told2 .given .1) ((c .before .before
 
 returns-4 : tie.Need-returns-4
 returns-4 c =
+    let at-sides-at2 : tie.After-sides-at2 = search in
+    let at-p0 : tie.After-p0 = search in
+    let at-sides-at : tie.After-sides-at = search in
+    let at-if1 : tie.Else1 = search in
     two record {
-      some = omega (arith, (if1·After-larger2 c) .if1 .left);
+      some = omega (arith, at-if1 .if1 .left);
       a₀ = _;
       a₁ = _;
       b₀ = _;
       b₁ = _;
-      first = sides-two ((p0·After-larger2 c) .p0 .given .1) ((sides-at·After-larger2 c) .sides-at .ensures);
-      second = sides-two ((c .before .before .before) .q0 .given .1) ((sides-at2·After-larger2 c) .sides-at2 .ensures);
+      first = sides-two (at-p0 .p0 .given .1) (at-sides-at .sides-at .ensures);
+      second = sides-two ((c .before .before .before) .q0 .given .1) (at-sides-at2 .sides-at2 .ensures);
       top₀-is = (c .before) .larger .ensures;
       top₁-is = c .larger2 .ensures;
     }

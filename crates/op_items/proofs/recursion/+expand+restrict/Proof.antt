@@ -53,126 +53,10 @@ expand-claims t = (sides-at-reads.Asked, sides-at-reads.Learnt, refused-reads.As
 abbrev restrict-claims : ℕ → restrict-lts.Claims
 restrict-claims t = (above-top-reads.Asked, above-top-reads.Learnt, at-top-reads.Asked, at-top-reads.Learnt, recall-reads.Asked, recall-reads.Learnt, placed-reads.Asked, placed-reads.Learnt, expand-below t, expand.Post)
 
-abbrev start·expand·After-sides-at-arg : (t : ℕ) → expand-lts.After-sides-at-arg (expand-claims t) (expand-at t) expand.Post → expand-lts.Start (expand-claims t) (expand-at t) expand.Post
-start·expand·After-sides-at-arg t c = c .before .before .before .before
-
-abbrev start·expand·After-restrict-arg3 : (t : ℕ) → expand-lts.After-restrict-arg3 (expand-claims t) (expand-at t) expand.Post → expand-lts.Start (expand-claims t) (expand-at t) expand.Post
-start·expand·After-restrict-arg3 t c = c .before .before .before .before .before .before .before .before .before .before .before
-
-abbrev p0·expand·After-restrict-arg3 : (t : ℕ) → expand-lts.After-restrict-arg3 (expand-claims t) (expand-at t) expand.Post → expand-lts.After-p0 (expand-claims t) (expand-at t) expand.Post
-p0·expand·After-restrict-arg3 t c = c .before .before .before .before
-
-abbrev sides-at·expand·After-restrict-arg3 : (t : ℕ) → expand-lts.After-restrict-arg3 (expand-claims t) (expand-at t) expand.Post → expand-lts.After-sides-at (expand-claims t) (expand-at t) expand.Post
-sides-at·expand·After-restrict-arg3 t c = c .before .before .before .before .before .before
-
-abbrev start·expand·After-enum-told2 : (t : ℕ) → expand-lts.After-enum-told2 (expand-claims t) (expand-at t) expand.Post → expand-lts.Start (expand-claims t) (expand-at t) expand.Post
-start·expand·After-enum-told2 t c = c .before .before .before .before .before .before .before .before .before .before .before .before .before .before .before .before .before .before .before .before
-
-abbrev p0·expand·After-enum-told2 : (t : ℕ) → expand-lts.After-enum-told2 (expand-claims t) (expand-at t) expand.Post → expand-lts.After-p0 (expand-claims t) (expand-at t) expand.Post
-p0·expand·After-enum-told2 t c = c .before .before .before .before .before .before .before .before .before .before .before .before .before
-
-abbrev sides-at·expand·After-enum-told2 : (t : ℕ) → expand-lts.After-enum-told2 (expand-claims t) (expand-at t) expand.Post → expand-lts.After-sides-at (expand-claims t) (expand-at t) expand.Post
-sides-at·expand·After-enum-told2 t c = c .before .before .before .before .before .before .before .before .before .before .before .before .before .before .before
-
-abbrev restrict·expand·After-enum-told2 : (t : ℕ) → expand-lts.After-enum-told2 (expand-claims t) (expand-at t) expand.Post → expand-lts.After-restrict (expand-claims t) (expand-at t) expand.Post
-restrict·expand·After-enum-told2 t c = c .before .before .before .before .before .before .before .before
-
-abbrev start·expand·After-restrict-arg6 : (t : ℕ) → expand-lts.After-restrict-arg6 (expand-claims t) (expand-at t) expand.Post → expand-lts.Start (expand-claims t) (expand-at t) expand.Post
-start·expand·After-restrict-arg6 t c = c .before .before .before .before .before .before .before .before .before .before .before .before .before .before .before .before .before .before .before .before .before .before .before .before .before
-
-abbrev p0·expand·After-restrict-arg6 : (t : ℕ) → expand-lts.After-restrict-arg6 (expand-claims t) (expand-at t) expand.Post → expand-lts.After-p0 (expand-claims t) (expand-at t) expand.Post
-p0·expand·After-restrict-arg6 t c = c .before .before .before .before .before .before .before .before .before .before .before .before .before .before .before .before .before .before
-
-abbrev sides-at·expand·After-restrict-arg6 : (t : ℕ) → expand-lts.After-restrict-arg6 (expand-claims t) (expand-at t) expand.Post → expand-lts.After-sides-at (expand-claims t) (expand-at t) expand.Post
-sides-at·expand·After-restrict-arg6 t c = c .before .before .before .before .before .before .before .before .before .before .before .before .before .before .before .before .before .before .before .before
-
-abbrev restrict·expand·After-restrict-arg6 : (t : ℕ) → expand-lts.After-restrict-arg6 (expand-claims t) (expand-at t) expand.Post → expand-lts.After-restrict (expand-claims t) (expand-at t) expand.Post
-restrict·expand·After-restrict-arg6 t c = c .before .before .before .before .before .before .before .before .before .before .before .before .before
-
-abbrev start·expand·After-join-arg3 : (t : ℕ) → expand-lts.After-join-arg3 (expand-claims t) (expand-at t) expand.Post → expand-lts.Start (expand-claims t) (expand-at t) expand.Post
-start·expand·After-join-arg3 t c = c .before .before .before .before .before .before .before .before .before .before .before .before .before .before .before .before .before .before .before .before .before .before .before .before .before .before .before .before .before .before .before .before .before .before .before
-
-abbrev p0·expand·After-join-arg3 : (t : ℕ) → expand-lts.After-join-arg3 (expand-claims t) (expand-at t) expand.Post → expand-lts.After-p0 (expand-claims t) (expand-at t) expand.Post
-p0·expand·After-join-arg3 t c = c .before .before .before .before .before .before .before .before .before .before .before .before .before .before .before .before .before .before .before .before .before .before .before .before .before .before .before .before
-
-abbrev sides-at·expand·After-join-arg3 : (t : ℕ) → expand-lts.After-join-arg3 (expand-claims t) (expand-at t) expand.Post → expand-lts.After-sides-at (expand-claims t) (expand-at t) expand.Post
-sides-at·expand·After-join-arg3 t c = c .before .before .before .before .before .before .before .before .before .before .before .before .before .before .before .before .before .before .before .before .before .before .before .before .before .before .before .before .before .before
-
-abbrev restrict·expand·After-join-arg3 : (t : ℕ) → expand-lts.After-join-arg3 (expand-claims t) (expand-at t) expand.Post → expand-lts.After-restrict (expand-claims t) (expand-at t) expand.Post
-restrict·expand·After-join-arg3 t c = c .before .before .before .before .before .before .before .before .before .before .before .before .before .before .before .before .before .before .before .before .before .before .before
-
-abbrev restrict2·expand·After-join-arg3 : (t : ℕ) → expand-lts.After-join-arg3 (expand-claims t) (expand-at t) expand.Post → expand-lts.After-restrict2 (expand-claims t) (expand-at t) expand.Post
-restrict2·expand·After-join-arg3 t c = c .before .before .before .before .before .before .before .before .before
-
-abbrev answer·expand·After-join-arg3 : (t : ℕ) → expand-lts.After-join-arg3 (expand-claims t) (expand-at t) expand.Post → expand-lts.After-answer (expand-claims t) (expand-at t) expand.Post
-answer·expand·After-join-arg3 t c = c .before .before .before .before .before .before .before .before .before .before .before .before .before .before .before
-
-abbrev start·expand·After-refused : (t : ℕ) → expand-lts.After-refused (expand-claims t) (expand-at t) expand.Post → expand-lts.Start (expand-claims t) (expand-at t) expand.Post
-start·expand·After-refused t c = c .before .before .before .before .before .before .before .before
-
-abbrev join·expand·After-slice-known12 : (t : ℕ) → expand-lts.After-slice-known12 (expand-claims t) (expand-at t) expand.Post → expand-lts.After-join (expand-claims t) (expand-at t) expand.Post
-join·expand·After-slice-known12 t c = c .before .before .before .before .before .before
-
-abbrev restrict2·expand·After-slice-known12 : (t : ℕ) → expand-lts.After-slice-known12 (expand-claims t) (expand-at t) expand.Post → expand-lts.After-restrict2 (expand-claims t) (expand-at t) expand.Post
-restrict2·expand·After-slice-known12 t c = c .before .before .before .before .before .before .before .before .before .before .before .before .before .before .before .before
-
-abbrev restrict·expand·After-slice-known12 : (t : ℕ) → expand-lts.After-slice-known12 (expand-claims t) (expand-at t) expand.Post → expand-lts.After-restrict (expand-claims t) (expand-at t) expand.Post
-restrict·expand·After-slice-known12 t c = c .before .before .before .before .before .before .before .before .before .before .before .before .before .before .before .before .before .before .before .before .before .before .before .before .before .before .before .before .before .before
-
-abbrev start·expand·After-slice-known12 : (t : ℕ) → expand-lts.After-slice-known12 (expand-claims t) (expand-at t) expand.Post → expand-lts.Start (expand-claims t) (expand-at t) expand.Post
-start·expand·After-slice-known12 t c = c .before .before .before .before .before .before .before .before .before .before .before .before .before .before .before .before .before .before .before .before .before .before .before .before .before .before .before .before .before .before .before .before .before .before .before .before .before .before .before .before .before .before
-
-abbrev p0·expand·After-slice-known12 : (t : ℕ) → expand-lts.After-slice-known12 (expand-claims t) (expand-at t) expand.Post → expand-lts.After-p0 (expand-claims t) (expand-at t) expand.Post
-p0·expand·After-slice-known12 t c = c .before .before .before .before .before .before .before .before .before .before .before .before .before .before .before .before .before .before .before .before .before .before .before .before .before .before .before .before .before .before .before .before .before .before .before
-
-abbrev sides-at·expand·After-slice-known12 : (t : ℕ) → expand-lts.After-slice-known12 (expand-claims t) (expand-at t) expand.Post → expand-lts.After-sides-at (expand-claims t) (expand-at t) expand.Post
-sides-at·expand·After-slice-known12 t c = c .before .before .before .before .before .before .before .before .before .before .before .before .before .before .before .before .before .before .before .before .before .before .before .before .before .before .before .before .before .before .before .before .before .before .before .before .before
-
-abbrev answer·expand·After-slice-known12 : (t : ℕ) → expand-lts.After-slice-known12 (expand-claims t) (expand-at t) expand.Post → expand-lts.After-answer (expand-claims t) (expand-at t) expand.Post
-answer·expand·After-slice-known12 t c = c .before .before .before .before .before .before .before .before .before .before .before .before .before .before .before .before .before .before .before .before .before .before
-
-abbrev start·restrict·After-above-top-arg2 : (t : ℕ) → restrict-lts.After-above-top-arg2 (restrict-claims t) (restrict-at t) restrict.Post → restrict-lts.Start (restrict-claims t) (restrict-at t) restrict.Post
-start·restrict·After-above-top-arg2 t c = c .before .before .before .before .before .before .before
-
-abbrev start·restrict·After-slice-known5 : (t : ℕ) → restrict-lts.After-slice-known5 (restrict-claims t) (restrict-at t) restrict.Post → restrict-lts.Start (restrict-claims t) (restrict-at t) restrict.Post
-start·restrict·After-slice-known5 t c = c .before .before .before .before .before .before .before .before .before .before .before .before
-
-abbrev above-top·restrict·After-slice-known5 : (t : ℕ) → restrict-lts.After-slice-known5 (restrict-claims t) (restrict-at t) restrict.Post → restrict-lts.After-above-top (restrict-claims t) (restrict-at t) restrict.Post
-above-top·restrict·After-slice-known5 t c = c .before .before .before .before
-
-abbrev start·restrict·After-at-top-arg2 : (t : ℕ) → restrict-lts.After-at-top-arg2 (restrict-claims t) (restrict-at t) restrict.Post → restrict-lts.Start (restrict-claims t) (restrict-at t) restrict.Post
-start·restrict·After-at-top-arg2 t c = c .before .before .before .before .before .before .before .before .before
-
-abbrev start·restrict·After-slice-known7 : (t : ℕ) → restrict-lts.After-slice-known7 (restrict-claims t) (restrict-at t) restrict.Post → restrict-lts.Start (restrict-claims t) (restrict-at t) restrict.Post
-start·restrict·After-slice-known7 t c = c .before .before .before .before .before .before .before .before .before .before .before .before .before .before
-
-abbrev at-top·restrict·After-slice-known7 : (t : ℕ) → restrict-lts.After-slice-known7 (restrict-claims t) (restrict-at t) restrict.Post → restrict-lts.After-at-top (restrict-claims t) (restrict-at t) restrict.Post
-at-top·restrict·After-slice-known7 t c = c .before .before .before .before
-
-abbrev start·restrict·After-recall-arg : (t : ℕ) → restrict-lts.After-recall-arg (restrict-claims t) (restrict-at t) restrict.Post → restrict-lts.Start (restrict-claims t) (restrict-at t) restrict.Post
-start·restrict·After-recall-arg t c = c .before .before .before .before .before .before .before .before
-
-abbrev start·restrict·After-placed : (t : ℕ) → restrict-lts.After-placed (restrict-claims t) (restrict-at t) restrict.Post → restrict-lts.Start (restrict-claims t) (restrict-at t) restrict.Post
-start·restrict·After-placed t c = c .before .before .before .before .before .before .before .before .before .before .before .before .before
-
-abbrev recall·restrict·After-placed : (t : ℕ) → restrict-lts.After-placed (restrict-claims t) (restrict-at t) restrict.Post → restrict-lts.After-recall (restrict-claims t) (restrict-at t) restrict.Post
-recall·restrict·After-placed t c = c .before .before .before .before
-
-abbrev start·restrict·After-expand-arg3 : (t : ℕ) → restrict-lts.After-expand-arg3 (restrict-claims t) (restrict-at t) restrict.Post → restrict-lts.Start (restrict-claims t) (restrict-at t) restrict.Post
-start·restrict·After-expand-arg3 t c = c .before .before .before .before .before .before .before .before .before .before .before .before .before .before
-
-abbrev if1·restrict·After-expand-arg3 : (t : ℕ) → restrict-lts.After-expand-arg3 (restrict-claims t) (restrict-at t) restrict.Post → restrict-lts.Else1 (restrict-claims t) (restrict-at t) restrict.Post
-if1·restrict·After-expand-arg3 t c = c .before .before .before .before .before .before .before .before .before
-
-abbrev if2·restrict·After-expand-arg3 : (t : ℕ) → restrict-lts.After-expand-arg3 (restrict-claims t) (restrict-at t) restrict.Post → restrict-lts.Else2 (restrict-claims t) (restrict-at t) restrict.Post
-if2·restrict·After-expand-arg3 t c = c .before .before .before .before .before .before .before
-
-abbrev expand·restrict·After-slice-known10 : (t : ℕ) → restrict-lts.After-slice-known10 (restrict-claims t) (restrict-at t) restrict.Post → restrict-lts.After-expand (restrict-claims t) (restrict-at t) restrict.Post
-expand·restrict·After-slice-known10 t c = c .before .before .before .before .before .before
-
 expand-sides-at-requires : (t : ℕ) → expand-lts.Need-sides-at-requires (expand-claims t) (expand-at t) expand.Post
 expand-sides-at-requires t c κs =
-    let p = (start·expand·After-sides-at-arg t c) .pre in
+    let at-start : expand-lts.Start (expand-claims t) (expand-at t) expand.Post = search in
+    let p = at-start .pre in
     ((p .1 .1 .0 .2, omega (arith, p .1 .0 .within, p .1 .0 .words), omega (arith, p .1 .0 .within, p .1 .0 .small)), (omega (arith, p .1 .1 .1 .0), omega (arith, p .1 .1 .1 .2)))
 
 expand-enum-told : (t : ℕ) → expand-lts.Need-enum-told (expand-claims t) (expand-at t) expand.Post
@@ -186,8 +70,11 @@ expand-enum-known-p0 t c = search needs
 
 expand-restrict-requires : (t : ℕ) → expand-lts.Need-restrict-requires (expand-claims t) (expand-at t) expand.Post
 expand-restrict-requires t c κs =
-    let p = (start·expand·After-restrict-arg3 t c) .pre in
-    let K = sides-two ((p0·expand·After-restrict-arg3 t c) .p0 .given .1) ((sides-at·expand·After-restrict-arg3 t c) .sides-at .ensures) in
+    let at-p0 : expand-lts.After-p0 (expand-claims t) (expand-at t) expand.Post = search in
+    let at-sides-at : expand-lts.After-sides-at (expand-claims t) (expand-at t) expand.Post = search in
+    let at-start : expand-lts.Start (expand-claims t) (expand-at t) expand.Post = search in
+    let p = at-start .pre in
+    let K = sides-two (at-p0 .p0 .given .1) (at-sides-at .sides-at .ensures) in
     (omega (arith, p .0, K .zero-below), (p .1 .0, ((p .1 .1 .0 .0, p .1 .1 .0 .1, K .zero-within, p .1 .1 .0 .3, p .1 .1 .0 .4), (K .ztop, omega (arith, K .zero-below, p .1 .1 .1 .1)))))
 
 expand-enum-known-answer : (t : ℕ) → expand-lts.Need-enum-known-answer (expand-claims t) (expand-at t) expand.Post
@@ -207,17 +94,25 @@ expand-same-length-3 t c = search needs
 
 expand-returns : (t : ℕ) → expand-lts.Need-returns (expand-claims t) (expand-at t) expand.Post
 expand-returns t c =
-    let a = (start·expand·After-enum-told2 t c) .args in
-    let p = (start·expand·After-enum-told2 t c) .pre in
+    let at-restrict : expand-lts.After-restrict (expand-claims t) (expand-at t) expand.Post = search in
+    let at-p0 : expand-lts.After-p0 (expand-claims t) (expand-at t) expand.Post = search in
+    let at-sides-at : expand-lts.After-sides-at (expand-claims t) (expand-at t) expand.Post = search in
+    let at-start : expand-lts.Start (expand-claims t) (expand-at t) expand.Post = search in
+    let a = at-start .args in
+    let p = at-start .pre in
     step-first (a .call) _ _ (a .level) (a .store) (a .nodes .now) (a .lookup .now) (a .cache .now)
-    (split-item (a .call) (a .store .count) (a .nodes .now) (a .level) (p .1 .1 .0 .2) (p .1 .1 .0 .0) (p .1 .1 .0 .1) (p .1 .1 .0 .3) (p .1 .1 .0 .4) (a .lookup .now) (p .1 .1 .1 .0) (p .1 .1 .1 .2) (sides-two ((p0·expand·After-enum-told2 t c) .p0 .given .1) ((sides-at·expand·After-enum-told2 t c) .sides-at .ensures)))
-    ((restrict·expand·After-enum-told2 t c) .restrict .ensures) _ (c .enum-told2 .given .1)
+    (split-item (a .call) (a .store .count) (a .nodes .now) (a .level) (p .1 .1 .0 .2) (p .1 .1 .0 .0) (p .1 .1 .0 .1) (p .1 .1 .0 .3) (p .1 .1 .0 .4) (a .lookup .now) (p .1 .1 .1 .0) (p .1 .1 .1 .2) (sides-two (at-p0 .p0 .given .1) (at-sides-at .sides-at .ensures)))
+    (at-restrict .restrict .ensures) _ (c .enum-told2 .given .1)
 
 expand-restrict-requires-2 : (t : ℕ) → expand-lts.Need-restrict-requires-2 (expand-claims t) (expand-at t) expand.Post
 expand-restrict-requires-2 t c κs =
-    let p = (start·expand·After-restrict-arg6 t c) .pre in
-    let K = sides-two ((p0·expand·After-restrict-arg6 t c) .p0 .given .1) ((sides-at·expand·After-restrict-arg6 t c) .sides-at .ensures) in
-    let L = (restrict·expand·After-restrict-arg6 t c) .restrict .ensures .kept in (
+    let at-restrict : expand-lts.After-restrict (expand-claims t) (expand-at t) expand.Post = search in
+    let at-p0 : expand-lts.After-p0 (expand-claims t) (expand-at t) expand.Post = search in
+    let at-sides-at : expand-lts.After-sides-at (expand-claims t) (expand-at t) expand.Post = search in
+    let at-start : expand-lts.Start (expand-claims t) (expand-at t) expand.Post = search (at-sides-at) in
+    let p = at-start .pre in
+    let K = sides-two (at-p0 .p0 .given .1) (at-sides-at .sides-at .ensures) in
+    let L = at-restrict .restrict .ensures .kept in (
       omega (arith, p .0, K .one-below),
       (
         kept-roomy L (p .1 .0),
@@ -230,42 +125,69 @@ expand-restrict-requires-2 t c κs =
 
 expand-join-requires : (t : ℕ) → expand-lts.Need-join-requires (expand-claims t) (expand-at t) expand.Post
 expand-join-requires t c κs =
-    let p = (start·expand·After-join-arg3 t c) .pre in
-    let K = sides-two ((p0·expand·After-join-arg3 t c) .p0 .given .1) ((sides-at·expand·After-join-arg3 t c) .sides-at .ensures) in
-    let L = (restrict·expand·After-join-arg3 t c) .restrict .ensures in
-    let M = (restrict2·expand·After-join-arg3 t c) .restrict2 .ensures in
-    (kept-roomy (kept-trans (L .kept) (M .kept)) (p .1 .0), (omega (arith, p .1 .1 .1 .2), p .1 .1 .1 .1, omega (arith, L .handle _ ((answer·expand·After-join-arg3 t c) .answer .given .1), M .kept .grows), M .handle))
+    let at-restrict2 : expand-lts.After-restrict2 (expand-claims t) (expand-at t) expand.Post = search in
+    let at-answer : expand-lts.After-answer (expand-claims t) (expand-at t) expand.Post = search in
+    let at-restrict : expand-lts.After-restrict (expand-claims t) (expand-at t) expand.Post = search in
+    let at-p0 : expand-lts.After-p0 (expand-claims t) (expand-at t) expand.Post = search (at-restrict) in
+    let at-sides-at : expand-lts.After-sides-at (expand-claims t) (expand-at t) expand.Post = search (at-restrict) in
+    let at-start : expand-lts.Start (expand-claims t) (expand-at t) expand.Post = search (at-restrict) in
+    let p = at-start .pre in
+    let K = sides-two (at-p0 .p0 .given .1) (at-sides-at .sides-at .ensures) in
+    let L = at-restrict .restrict .ensures in
+    let M = at-restrict2 .restrict2 .ensures in
+    (kept-roomy (kept-trans (L .kept) (M .kept)) (p .1 .0), (omega (arith, p .1 .1 .1 .2), p .1 .1 .1 .1, omega (arith, L .handle _ (at-answer .answer .given .1), M .kept .grows), M .handle))
 
 expand-same-length-4 : (t : ℕ) → expand-lts.Need-same-length-4 (expand-claims t) (expand-at t) expand.Post
 expand-same-length-4 t c = search needs
 
 expand-returns-2 : (t : ℕ) → expand-lts.Need-returns-2 (expand-claims t) (expand-at t) expand.Post
 expand-returns-2 t c =
-    let a = (start·expand·After-refused t c) .args in
-    let p = (start·expand·After-refused t c) .pre in
+    let at-start : expand-lts.Start (expand-claims t) (expand-at t) expand.Post = search in
+    let a = at-start .args in
+    let p = at-start .pre in
     ran-broken (a .store) (a .nodes .now) (a .lookup .now) (a .cache .now) (p .1 .0) (a .call) (c .refused .result) (c .refused .ensures .0) (c .refused .ensures .1)
     (λ B H. sides-broken ((c .before) .enum-told .given .1) ((c .before .before .before) .sides-at .ensures) B (a .lookup .now) H)
 
 expand-same-length-5 : (t : ℕ) → expand-lts.Need-same-length-5 (expand-claims t) (expand-at t) expand.Post
-expand-same-length-5 t c = (join·expand·After-slice-known12 t c) .join .kept .1 .0 ∙ (restrict2·expand·After-slice-known12 t c) .restrict2 .kept .1 .1 .1 .0 ∙ (restrict·expand·After-slice-known12 t c) .restrict .kept .1 .1 .1 .0
+expand-same-length-5 t c =
+    let at-join : expand-lts.After-join (expand-claims t) (expand-at t) expand.Post = search in
+    let at-restrict2 : expand-lts.After-restrict2 (expand-claims t) (expand-at t) expand.Post = search in
+    let at-restrict : expand-lts.After-restrict (expand-claims t) (expand-at t) expand.Post = search (at-restrict2) in
+    at-join .join .kept .1 .0 ∙ at-restrict2 .restrict2 .kept .1 .1 .1 .0 ∙ at-restrict .restrict .kept .1 .1 .1 .0
 
 expand-same-length-6 : (t : ℕ) → expand-lts.Need-same-length-6 (expand-claims t) (expand-at t) expand.Post
-expand-same-length-6 t c = (join·expand·After-slice-known12 t c) .join .kept .1 .1 .0 ∙ (restrict2·expand·After-slice-known12 t c) .restrict2 .kept .1 .1 .1 .1 .0 ∙ (restrict·expand·After-slice-known12 t c) .restrict .kept .1 .1 .1 .1 .0
+expand-same-length-6 t c =
+    let at-join : expand-lts.After-join (expand-claims t) (expand-at t) expand.Post = search in
+    let at-restrict2 : expand-lts.After-restrict2 (expand-claims t) (expand-at t) expand.Post = search in
+    let at-restrict : expand-lts.After-restrict (expand-claims t) (expand-at t) expand.Post = search (at-restrict2) in
+    at-join .join .kept .1 .1 .0 ∙ at-restrict2 .restrict2 .kept .1 .1 .1 .1 .0 ∙ at-restrict .restrict .kept .1 .1 .1 .1 .0
 
 expand-same-length-7 : (t : ℕ) → expand-lts.Need-same-length-7 (expand-claims t) (expand-at t) expand.Post
-expand-same-length-7 t c = (join·expand·After-slice-known12 t c) .join .kept .1 .1 .1 .0 ∙ (restrict2·expand·After-slice-known12 t c) .restrict2 .kept .1 .1 .1 .1 .1 .0 ∙ (restrict·expand·After-slice-known12 t c) .restrict .kept .1 .1 .1 .1 .1 .0
+expand-same-length-7 t c =
+    let at-join : expand-lts.After-join (expand-claims t) (expand-at t) expand.Post = search in
+    let at-restrict2 : expand-lts.After-restrict2 (expand-claims t) (expand-at t) expand.Post = search in
+    let at-restrict : expand-lts.After-restrict (expand-claims t) (expand-at t) expand.Post = search (at-restrict2) in
+    at-join .join .kept .1 .1 .1 .0 ∙ at-restrict2 .restrict2 .kept .1 .1 .1 .1 .1 .0 ∙ at-restrict .restrict .kept .1 .1 .1 .1 .1 .0
 
 expand-returns-3 : (t : ℕ) → expand-lts.Need-returns-3 (expand-claims t) (expand-at t) expand.Post
 expand-returns-3 t c =
-    let a = (start·expand·After-slice-known12 t c) .args in
-    let p = (start·expand·After-slice-known12 t c) .pre in
+    let at-join : expand-lts.After-join (expand-claims t) (expand-at t) expand.Post = search in
+    let at-restrict2 : expand-lts.After-restrict2 (expand-claims t) (expand-at t) expand.Post = search in
+    let at-answer : expand-lts.After-answer (expand-claims t) (expand-at t) expand.Post = search in
+    let at-restrict : expand-lts.After-restrict (expand-claims t) (expand-at t) expand.Post = search (at-answer) in
+    let at-p0 : expand-lts.After-p0 (expand-claims t) (expand-at t) expand.Post = search (at-answer) in
+    let at-sides-at : expand-lts.After-sides-at (expand-claims t) (expand-at t) expand.Post = search (at-answer) in
+    let at-start : expand-lts.Start (expand-claims t) (expand-at t) expand.Post = search (at-answer) in
+    let a = at-start .args in
+    let p = at-start .pre in
     step-joined (a .call) _ _ (a .level) (a .store) (a .nodes .now) (a .lookup .now) (a .cache .now)
-    (split-item (a .call) (a .store .count) (a .nodes .now) (a .level) (p .1 .1 .0 .2) (p .1 .1 .0 .0) (p .1 .1 .0 .1) (p .1 .1 .0 .3) (p .1 .1 .0 .4) (a .lookup .now) (p .1 .1 .1 .0) (p .1 .1 .1 .2) (sides-two ((p0·expand·After-slice-known12 t c) .p0 .given .1) ((sides-at·expand·After-slice-known12 t c) .sides-at .ensures)))
-    ((restrict·expand·After-slice-known12 t c) .restrict .ensures) _ ((answer·expand·After-slice-known12 t c) .answer .given .1) ((restrict2·expand·After-slice-known12 t c) .restrict2 .ensures) ((join·expand·After-slice-known12 t c) .join .ensures)
+    (split-item (a .call) (a .store .count) (a .nodes .now) (a .level) (p .1 .1 .0 .2) (p .1 .1 .0 .0) (p .1 .1 .0 .1) (p .1 .1 .0 .3) (p .1 .1 .0 .4) (a .lookup .now) (p .1 .1 .1 .0) (p .1 .1 .1 .2) (sides-two (at-p0 .p0 .given .1) (at-sides-at .sides-at .ensures)))
+    (at-restrict .restrict .ensures) _ (at-answer .answer .given .1) (at-restrict2 .restrict2 .ensures) (at-join .join .ensures)
 
 restrict-above-top-requires : (t : ℕ) → restrict-lts.Need-above-top-requires (restrict-claims t) (restrict-at t) restrict.Post
 restrict-above-top-requires t c κs =
-    let p = (start·restrict·After-above-top-arg2 t c) .pre in
+    let at-start : restrict-lts.Start (restrict-claims t) (restrict-at t) restrict.Post = search in
+    let p = at-start .pre in
     (p .1 .0, (p .1 .1 .0, omega (arith, p .1 .1 .1 .0, (c .before .before) .if1 .taken)))
 
 restrict-same-length : (t : ℕ) → restrict-lts.Need-same-length (restrict-claims t) (restrict-at t) restrict.Post
@@ -276,12 +198,15 @@ restrict-same-length-2 t c = search needs
 
 restrict-returns : (t : ℕ) → restrict-lts.Need-returns (restrict-claims t) (restrict-at t) restrict.Post
 restrict-returns t c =
-    let a = (start·restrict·After-slice-known5 t c) .args in
-    plain-ran (of (a .call)) (a .store) (a .nodes .now) (a .lookup .now) (a .cache .now) ((above-top·restrict·After-slice-known5 t c) .above-top .ensures)
+    let at-above-top : restrict-lts.After-above-top (restrict-claims t) (restrict-at t) restrict.Post = search in
+    let at-start : restrict-lts.Start (restrict-claims t) (restrict-at t) restrict.Post = search in
+    let a = at-start .args in
+    plain-ran (of (a .call)) (a .store) (a .nodes .now) (a .lookup .now) (a .cache .now) (at-above-top .above-top .ensures)
 
 restrict-at-top-requires : (t : ℕ) → restrict-lts.Need-at-top-requires (restrict-claims t) (restrict-at t) restrict.Post
 restrict-at-top-requires t c κs =
-    let p = (start·restrict·After-at-top-arg2 t c) .pre in
+    let at-start : restrict-lts.Start (restrict-claims t) (restrict-at t) restrict.Post = search in
+    let p = at-start .pre in
     (p .1 .0, (p .1 .1 .0, omega (arith, p .1 .1 .1 .0, (c .before .before) .if2 .taken)))
 
 restrict-same-length-3 : (t : ℕ) → restrict-lts.Need-same-length-3 (restrict-claims t) (restrict-at t) restrict.Post
@@ -292,12 +217,15 @@ restrict-same-length-4 t c = search needs
 
 restrict-returns-2 : (t : ℕ) → restrict-lts.Need-returns-2 (restrict-claims t) (restrict-at t) restrict.Post
 restrict-returns-2 t c =
-    let a = (start·restrict·After-slice-known7 t c) .args in
-    plain-ran (of (a .call)) (a .store) (a .nodes .now) (a .lookup .now) (a .cache .now) ((at-top·restrict·After-slice-known7 t c) .at-top .ensures)
+    let at-at-top : restrict-lts.After-at-top (restrict-claims t) (restrict-at t) restrict.Post = search in
+    let at-start : restrict-lts.Start (restrict-claims t) (restrict-at t) restrict.Post = search in
+    let a = at-start .args in
+    plain-ran (of (a .call)) (a .store) (a .nodes .now) (a .lookup .now) (a .cache .now) (at-at-top .at-top .ensures)
 
 restrict-recall-requires : (t : ℕ) → restrict-lts.Need-recall-requires (restrict-claims t) (restrict-at t) restrict.Post
 restrict-recall-requires t c κs =
-    let p = (start·restrict·After-recall-arg t c) .pre in
+    let at-start : restrict-lts.Start (restrict-claims t) (restrict-at t) restrict.Post = search in
+    let p = at-start .pre in
     omega (arith, p .1 .0 .within, p .1 .0 .small)
 
 restrict-enum-known-handle : (t : ℕ) → restrict-lts.Need-enum-known-handle (restrict-claims t) (restrict-at t) restrict.Post
@@ -311,18 +239,23 @@ restrict-same-length-5 t c = search needs
 
 restrict-returns-3 : (t : ℕ) → restrict-lts.Need-returns-3 (restrict-claims t) (restrict-at t) restrict.Post
 restrict-returns-3 t c =
-    let a = (start·restrict·After-placed t c) .args in
-    let p = (start·restrict·After-placed t c) .pre in
+    let at-recall : restrict-lts.After-recall (restrict-claims t) (restrict-at t) restrict.Post = search in
+    let at-start : restrict-lts.Start (restrict-claims t) (restrict-at t) restrict.Post = search in
+    let a = at-start .args in
+    let p = at-start .pre in
     ran-recalled (a .store) (a .nodes .now) (a .lookup .now) (a .cache .now) (p .1 .0) (a .call) (c .placed .result) (c .placed .ensures .0) _ (c .placed .ensures .1)
-    (p .1 .1 .0 .0) ((c .before .before) .handle .given .1) ((recall·restrict·After-placed t c) .recall .ensures)
+    (p .1 .1 .0 .0) ((c .before .before) .handle .given .1) (at-recall .recall .ensures)
 
 restrict-enum-told : (t : ℕ) → restrict-lts.Need-enum-told (restrict-claims t) (restrict-at t) restrict.Post
 restrict-enum-told t c = search needs
 
 restrict-expand-requires : (t : ℕ) → restrict-lts.Need-expand-requires (restrict-claims t) (restrict-at t) restrict.Post
 restrict-expand-requires t c κs =
-    let p = (start·restrict·After-expand-arg3 t c) .pre in
-    (omega (arith, p .0), (p .1 .0, (p .1 .1 .0, (p .1 .1 .1 .0, p .1 .1 .1 .1, omega (arith, (if1·restrict·After-expand-arg3 t c) .if1 .left, (if2·restrict·After-expand-arg3 t c) .if2 .left)))))
+    let at-if2 : restrict-lts.Else2 (restrict-claims t) (restrict-at t) restrict.Post = search in
+    let at-if1 : restrict-lts.Else1 (restrict-claims t) (restrict-at t) restrict.Post = search in
+    let at-start : restrict-lts.Start (restrict-claims t) (restrict-at t) restrict.Post = search in
+    let p = at-start .pre in
+    (omega (arith, p .0), (p .1 .0, (p .1 .1 .0, (p .1 .1 .1 .0, p .1 .1 .1 .1, omega (arith, at-if1 .if1 .left, at-if2 .if2 .left)))))
 
 restrict-same-length-6 : (t : ℕ) → restrict-lts.Need-same-length-6 (restrict-claims t) (restrict-at t) restrict.Post
 restrict-same-length-6 t c = search needs
@@ -334,7 +267,9 @@ restrict-same-length-8 : (t : ℕ) → restrict-lts.Need-same-length-8 (restrict
 restrict-same-length-8 t c = search needs
 
 restrict-returns-4 : (t : ℕ) → restrict-lts.Need-returns-4 (restrict-claims t) (restrict-at t) restrict.Post
-restrict-returns-4 t c = (expand·restrict·After-slice-known10 t c) .expand .ensures
+restrict-returns-4 t c =
+    let at-expand : restrict-lts.After-expand (restrict-claims t) (restrict-at t) restrict.Post = search in
+    at-expand .expand .ensures
 
 pub +expand+restrict-spec : {M : Type 1} → statement M
 +expand+restrict-spec = close μ-expand μ-restrict (λ t. expand-lts.spec (expand-claims t)

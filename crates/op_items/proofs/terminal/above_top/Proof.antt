@@ -5,31 +5,14 @@ use borrow.Author.Needs.{needs}
 use Rattle.op_items.proofs.terminal.above_top.Statement.{statement}
 use Rattle.op_items.proofs.terminal.above_top.Tie as tie
 
-abbrev start·After-placed : tie.After-placed → tie.Start
-start·After-placed c = c .before .before .before .before .before
-
-abbrev start·After-placed2 : tie.After-placed2 → tie.Start
-start·After-placed2 c = c .before .before .before .before .before .before .before
-
-abbrev start·After-slice-known4 : tie.After-slice-known4 → tie.Start
-start·After-slice-known4 c = c .before .before .before .before .before .before .before .before .before .before .before .before .before
-
-abbrev get-node·After-slice-known4 : tie.After-slice-known4 → tie.After-get-node
-get-node·After-slice-known4 c = c .before .before .before .before
-
-abbrev if1·After-slice-known4 : tie.After-slice-known4 → tie.Else1
-if1·After-slice-known4 c = c .before .before .before .before .before .before .before .before .before
-
-abbrev if2·After-slice-known4 : tie.After-slice-known4 → tie.Else2
-if2·After-slice-known4 c = c .before .before .before .before .before .before .before
-
 placed-requires : tie.Need-placed-requires
 placed-requires c κs = search needs
 
 returns : tie.Need-returns
 returns c =
-    let a = (start·After-placed c) .args in
-    let p = (start·After-placed c) .pre in
+    let at-start : tie.Start = search in
+    let a = at-start .args in
+    let p = at-start .pre in
     above-none (a .call) (a .store) (a .nodes .now) (a .lookup .now) (p .0) (p .1 .0 .0) (p .1 .0 .1) (p .1 .0 .2) (p .1 .0 .3) (p .1 .1) (c .placed .result) (c .placed .ensures .0) (c .placed .ensures .1) ((c .before) .if1 .taken)
 
 placed-requires-2 : tie.Need-placed-requires-2
@@ -37,8 +20,9 @@ placed-requires-2 c κs = search needs
 
 returns-2 : tie.Need-returns-2
 returns-2 c =
-    let a = (start·After-placed2 c) .args in
-    let p = (start·After-placed2 c) .pre in
+    let at-start : tie.Start = search in
+    let a = at-start .args in
+    let p = at-start .pre in
     above-same (a .call) (a .store) (a .nodes .now) (a .lookup .now) (p .0) (p .1 .0 .0) (p .1 .0 .1) (p .1 .0 .2) (p .1 .0 .3) (p .1 .1) (c .placed2 .result) (c .placed2 .ensures .0) (c .placed2 .ensures .1) ((c .before) .if2 .taken)
 
 get-node-requires : tie.Need-get-node-requires
@@ -52,9 +36,13 @@ same-length-2 c = search needs
 
 returns-3 : tie.Need-returns-3
 returns-3 c =
-    let a = (start·After-slice-known4 c) .args in
-    let p = (start·After-slice-known4 c) .pre in
-    above-node (a .call) (a .store) (a .nodes .now) (a .lookup .now) (p .0) (p .1 .0 .0) (p .1 .0 .1) (p .1 .0 .2) (p .1 .0 .3) (p .1 .1) ((get-node·After-slice-known4 c) .get-node .result) ((if1·After-slice-known4 c) .if1 .left) ((if2·After-slice-known4 c) .if2 .left) ((get-node·After-slice-known4 c) .get-node .ensures)
+    let at-get-node : tie.After-get-node = search in
+    let at-if2 : tie.Else2 = search in
+    let at-if1 : tie.Else1 = search in
+    let at-start : tie.Start = search in
+    let a = at-start .args in
+    let p = at-start .pre in
+    above-node (a .call) (a .store) (a .nodes .now) (a .lookup .now) (p .0) (p .1 .0 .0) (p .1 .0 .1) (p .1 .0 .2) (p .1 .0 .3) (p .1 .1) (at-get-node .get-node .result) (at-if1 .if1 .left) (at-if2 .if2 .left) (at-get-node .get-node .ensures)
 
 pub above-top-spec : {M : Type 1} → statement M
 above-top-spec =

@@ -7,54 +7,6 @@ use borrow.Author.Needs.{needs}
 use Rattle.op_items.proofs.terminal.at_top.Statement.{statement}
 use Rattle.op_items.proofs.terminal.at_top.Tie as tie
 
-abbrev start·After-placed : tie.After-placed → tie.Start
-start·After-placed c = c .before .before .before .before .before .before .before .before .before .before
-
-abbrev zero·After-placed : tie.After-placed → tie.After-zero
-zero·After-placed c = c .before .before .before .before
-
-abbrev sides-at·After-placed : tie.After-placed → tie.After-sides-at
-sides-at·After-placed c = c .before .before .before .before .before .before
-
-abbrev start·After-placed2 : tie.After-placed2 → tie.Start
-start·After-placed2 c = c .before .before .before .before .before .before .before .before .before .before .before .before
-
-abbrev zero·After-placed2 : tie.After-placed2 → tie.After-zero
-zero·After-placed2 c = c .before .before .before .before .before .before
-
-abbrev sides-at·After-placed2 : tie.After-placed2 → tie.After-sides-at
-sides-at·After-placed2 c = c .before .before .before .before .before .before .before .before
-
-abbrev start·After-get-node-arg2 : tie.After-get-node-arg2 → tie.Start
-start·After-get-node-arg2 c = c .before .before .before .before .before .before .before .before .before .before .before .before .before
-
-abbrev zero·After-get-node-arg2 : tie.After-get-node-arg2 → tie.After-zero
-zero·After-get-node-arg2 c = c .before .before .before .before .before .before .before
-
-abbrev sides-at·After-get-node-arg2 : tie.After-get-node-arg2 → tie.After-sides-at
-sides-at·After-get-node-arg2 c = c .before .before .before .before .before .before .before .before .before
-
-abbrev start·After-refused : tie.After-refused → tie.Start
-start·After-refused c = c .before .before .before .before .before .before .before
-
-abbrev start·After-slice-known4 : tie.After-slice-known4 → tie.Start
-start·After-slice-known4 c = c .before .before .before .before .before .before .before .before .before .before .before .before .before .before .before .before .before .before
-
-abbrev zero·After-slice-known4 : tie.After-slice-known4 → tie.After-zero
-zero·After-slice-known4 c = c .before .before .before .before .before .before .before .before .before .before .before .before
-
-abbrev sides-at·After-slice-known4 : tie.After-slice-known4 → tie.After-sides-at
-sides-at·After-slice-known4 c = c .before .before .before .before .before .before .before .before .before .before .before .before .before .before
-
-abbrev get-node·After-slice-known4 : tie.After-slice-known4 → tie.After-get-node
-get-node·After-slice-known4 c = c .before .before .before .before
-
-abbrev if1·After-slice-known4 : tie.After-slice-known4 → tie.Else1
-if1·After-slice-known4 c = c .before .before .before .before .before .before .before .before .before
-
-abbrev if2·After-slice-known4 : tie.After-slice-known4 → tie.Else2
-if2·After-slice-known4 c = c .before .before .before .before .before .before .before
-
 sides-at-requires : tie.Need-sides-at-requires
 sides-at-requires c κs = search needs
 
@@ -75,10 +27,13 @@ same-length c = search needs
 
 returns : tie.Need-returns
 returns c =
-    let a = (start·After-placed c) .args in
-    let p = (start·After-placed c) .pre in
+    let at-zero : tie.After-zero = search in
+    let at-sides-at : tie.After-sides-at = search in
+    let at-start : tie.Start = search in
+    let a = at-start .args in
+    let p = at-start .pre in
     at-one (a .call) (a .store) (a .nodes .now) (a .lookup .now) (p .0) (p .1 .0 .0) (p .1 .0 .1) (p .1 .0 .2) (p .1 .0 .3) (p .1 .1)
-    (sides-two ((zero·After-placed c) .zero .given .1) ((sides-at·After-placed c) .sides-at .ensures)) (c .placed .result) (c .placed .ensures .0) (c .placed .ensures .1) ((c .before) .if1 .taken)
+    (sides-two (at-zero .zero .given .1) (at-sides-at .sides-at .ensures)) (c .placed .result) (c .placed .ensures .0) (c .placed .ensures .1) ((c .before) .if1 .taken)
 
 placed-requires-2 : tie.Need-placed-requires-2
 placed-requires-2 c κs = search needs
@@ -88,15 +43,21 @@ same-length-2 c = search needs
 
 returns-2 : tie.Need-returns-2
 returns-2 c =
-    let a = (start·After-placed2 c) .args in
-    let p = (start·After-placed2 c) .pre in
+    let at-zero : tie.After-zero = search in
+    let at-sides-at : tie.After-sides-at = search in
+    let at-start : tie.Start = search in
+    let a = at-start .args in
+    let p = at-start .pre in
     at-zero (a .call) (a .store) (a .nodes .now) (a .lookup .now) (p .0) (p .1 .0 .0) (p .1 .0 .1) (p .1 .0 .2) (p .1 .0 .3) (p .1 .1)
-    (sides-two ((zero·After-placed2 c) .zero .given .1) ((sides-at·After-placed2 c) .sides-at .ensures)) (c .placed2 .result) (c .placed2 .ensures .0) (c .placed2 .ensures .1) ((c .before) .if2 .taken)
+    (sides-two (at-zero .zero .given .1) (at-sides-at .sides-at .ensures)) (c .placed2 .result) (c .placed2 .ensures .0) (c .placed2 .ensures .1) ((c .before) .if2 .taken)
 
 get-node-requires : tie.Need-get-node-requires
 get-node-requires c κs =
-    let p = (start·After-get-node-arg2 c) .pre in
-    let T = sides-two ((zero·After-get-node-arg2 c) .zero .given .1) ((sides-at·After-get-node-arg2 c) .sides-at .ensures) in
+    let at-zero : tie.After-zero = search in
+    let at-sides-at : tie.After-sides-at = search in
+    let at-start : tie.Start = search in
+    let p = at-start .pre in
+    let T = sides-two (at-zero .zero .given .1) (at-sides-at .sides-at .ensures) in
     (p .0, (p .1 .0 .3, p .1 .0 .4, T .one-within, T .zero-within))
 
 same-length-3 : tie.Need-same-length-3
@@ -104,8 +65,9 @@ same-length-3 c = search needs
 
 returns-3 : tie.Need-returns-3
 returns-3 c =
-    let a = (start·After-refused c) .args in
-    let p = (start·After-refused c) .pre in
+    let at-start : tie.Start = search in
+    let a = at-start .args in
+    let p = at-start .pre in
     plain-broken _ (a .store) (a .nodes .now) (a .lookup .now) (p .0) (c .refused .result) (c .refused .ensures .0) (c .refused .ensures .1)
     (λ B H. sides-broken ((c .before) .enum-told .given .1) ((c .before .before .before) .sides-at .ensures) B (a .lookup .now) H)
 
@@ -117,11 +79,17 @@ same-length-5 c = search needs
 
 returns-4 : tie.Need-returns-4
 returns-4 c =
-    let a = (start·After-slice-known4 c) .args in
-    let p = (start·After-slice-known4 c) .pre in
+    let at-get-node : tie.After-get-node = search in
+    let at-if2 : tie.Else2 = search in
+    let at-if1 : tie.Else1 = search in
+    let at-zero : tie.After-zero = search in
+    let at-sides-at : tie.After-sides-at = search in
+    let at-start : tie.Start = search in
+    let a = at-start .args in
+    let p = at-start .pre in
     at-node (a .call) (a .store) (a .nodes .now) (a .lookup .now) (p .0) (p .1 .0 .0) (p .1 .0 .1) (p .1 .0 .2) (p .1 .0 .3) (p .1 .1)
-    (sides-two ((zero·After-slice-known4 c) .zero .given .1) ((sides-at·After-slice-known4 c) .sides-at .ensures)) ((get-node·After-slice-known4 c) .get-node .result)
-    ((if1·After-slice-known4 c) .if1 .left) ((if2·After-slice-known4 c) .if2 .left) ((get-node·After-slice-known4 c) .get-node .ensures)
+    (sides-two (at-zero .zero .given .1) (at-sides-at .sides-at .ensures)) (at-get-node .get-node .result)
+    (at-if1 .if1 .left) (at-if2 .if2 .left) (at-get-node .get-node .ensures)
 
 pub at-top-spec : {M : Type 1} → statement M
 at-top-spec =

@@ -24,18 +24,6 @@ spoiled-requires-3 c κs = search needs
 join-item-requires : tie.Need-join-item-requires
 join-item-requires c κs = search needs
 
-abbrev start·After-spoiled3 : tie.After-spoiled3 → tie.Start
-start·After-spoiled3 c = c .before .before .before .before .before .before
-
-abbrev start·After-join-item : tie.After-join-item → tie.Start
-start·After-join-item c = c .before .before .before .before .before .before
-
-abbrev if1·After-join-item : tie.After-join-item → tie.Else1
-if1·After-join-item c = c .before .before .before .before .before
-
-abbrev if2·After-join-item : tie.After-join-item → tie.Else2
-if2·After-join-item c = c .before .before .before .before
-
 returns : tie.Need-returns
 returns c = progress-is (c .spoiled .ensures) (closed-not ((c .before .before) .args .self .side) _ ((c .before .before) .args .b) _ (free-zero _ _ ((c .before) .if1 .taken)))
 
@@ -43,10 +31,16 @@ returns-2 : tie.Need-returns-2
 returns-2 c = progress-is (c .spoiled2 .ensures) (closed-not ((c .before .before .before) .args .self .side) _ ((c .before .before .before) .args .b) _ (free-high _ _ ((c .before) .if2 .taken)))
 
 returns-3 : tie.Need-returns-3
-returns-3 c = progress-is (c .spoiled3 .ensures) (closed-not ((start·After-spoiled3 c) .args .self .side) _ ((start·After-spoiled3 c) .args .b) _ (free-held _ _ (sym ((c .before .before) .contains .ensures) ∙ (c .before) .if3 .taken)))
+returns-3 c =
+    let at-start : tie.Start = search in
+    progress-is (c .spoiled3 .ensures) (closed-not (at-start .args .self .side) _ (at-start .args .b) _ (free-held _ _ (sym ((c .before .before) .contains .ensures) ∙ (c .before) .if3 .taken)))
 
 returns-4 : tie.Need-returns-4
-returns-4 c = progress-is (c .join-item .ensures) (closed-free ((start·After-join-item c) .args .self .side) _ ((start·After-join-item c) .args .b) _ (free-item _ _ (omega (arith, (if1·After-join-item c) .if1 .left)) ((if2·After-join-item c) .if2 .left) (sym ((c .before .before) .contains .ensures) ∙ (c .before) .if3 .left)))
+returns-4 c =
+    let at-if2 : tie.Else2 = search in
+    let at-if1 : tie.Else1 = search in
+    let at-start : tie.Start = search in
+    progress-is (c .join-item .ensures) (closed-free (at-start .args .self .side) _ (at-start .args .b) _ (free-item _ _ (omega (arith, at-if1 .if1 .left)) (at-if2 .if2 .left) (sym ((c .before .before) .contains .ensures) ∙ (c .before) .if3 .left)))
 
 pub close-item-spec : {M : Type 1} → statement M
 close-item-spec =

@@ -17,14 +17,13 @@ sub-self c = search needs
 take-next-requires : tie.Need-take-next-requires
 take-next-requires c κs = search needs
 
-abbrev start·After-take-next : tie.After-take-next → tie.Start
-start·After-take-next c = c .before .before .before .before
-
 returns : tie.Need-returns
 returns c = c .spoiled .ensures ∙ sym (step-none (stateOf ((c .before .before .before) .args .self)) _ ((c .before) .if1 .taken))
 
 returns-2 : tie.Need-returns-2
-returns-2 c = c .take-next .ensures ∙ sym (step-some (stateOf ((start·After-take-next c) .args .self)) _ ((c .before .before) .if1 .left))
+returns-2 c =
+    let at-start : tie.Start = search in
+    c .take-next .ensures ∙ sym (step-some (stateOf (at-start .args .self)) _ ((c .before .before) .if1 .left))
 
 pub take-spec : {M : Type 1} → statement M
 take-spec = tie.close (tie.spec spoiled-requires returns sub-self take-next-requires returns-2)

@@ -45,24 +45,15 @@ same-length-2 c = search needs
 same-length-3 : tie.Need-same-length-3
 same-length-3 c = search needs
 
-abbrev add·After-line-end : tie.After-line-end → tie.After-add
-add·After-line-end c = c .before .before .before .before .before .before .before
-
-abbrev family-of·After-line-end : tie.After-line-end → tie.After-family-of
-family-of·After-line-end c = c .before .before .before .before .before .before .before .before .before .before .before
-
-abbrev enum-told2·After-line-end : tie.After-line-end → tie.After-enum-told2
-enum-told2·After-line-end c = c .before .before .before .before .before .before .before .before .before .before .before .before
-
-abbrev take·After-line-end : tie.After-line-end → tie.After-take
-take·After-line-end c = c .before .before .before .before .before .before .before .before .before .before .before .before .before .before
-
 returns-2 : tie.Need-returns-2
 returns-2 c =
+    let at-add : tie.After-add = search in
+    let at-family-of : tie.After-family-of = search in
+    let at-enum-told2 : tie.After-enum-told2 = search in
     let T = take·After-line-end c in
     byte-going ((T .before .before) .enum-told .given .1)
-    (next-whole _ (T .take .result) (T .take .ensures) ((enum-told2·After-line-end c) .enum-told2 .given .1)
-    (line-added _ ((family-of·After-line-end c) .family-of .ensures) ((add·After-line-end c) .add .ensures) (c .line-end .ensures)))
+    (next-whole _ (T .take .result) (T .take .ensures) (at-enum-told2 .enum-told2 .given .1)
+    (line-added _ (at-family-of .family-of .ensures) (at-add .add .ensures) (c .line-end .ensures)))
 
 returns-3 : tie.Need-returns-3
 returns-3 c =

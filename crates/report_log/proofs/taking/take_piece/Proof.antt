@@ -15,18 +15,6 @@ Inv-loop nodes₀ lookup₀ cache₀ piece taken₀ i₀ nodes lookup cache take
 abbrev μ-loop : tie.MeasureT-loop
 μ-loop nodes₀ lookup₀ cache₀ piece taken₀ i₀ nodes lookup cache taken i = length piece - i
 
-abbrev start·After-slice-known6 : tie.After-slice-known6 Inv-loop μ-loop → tie.Start Inv-loop μ-loop
-start·After-slice-known6 c = c .before .before .before .before .before .before .before .before .before .before .before .before .before .before .before .before .before
-
-abbrev loop-test·After-slice-known6 : tie.After-slice-known6 Inv-loop μ-loop → tie.In-loop Inv-loop μ-loop
-loop-test·After-slice-known6 c = c .before .before .before .before .before .before .before .before .before .before .before
-
-abbrev loop·After-slice-known6 : tie.After-slice-known6 Inv-loop μ-loop → tie.At-loop Inv-loop μ-loop
-loop·After-slice-known6 c = c .before .before .before .before .before .before .before .before .before .before .before .before
-
-abbrev take-byte·After-slice-known6 : tie.After-slice-known6 Inv-loop μ-loop → tie.After-take-byte Inv-loop μ-loop
-take-byte·After-slice-known6 c = c .before .before .before .before .before .before
-
 loop-holds : tie.Need-loop-holds Inv-loop μ-loop
 loop-holds c = taking-start _ _ _ _ _ _ refl
 
@@ -37,13 +25,20 @@ take-byte-requires : tie.Need-take-byte-requires Inv-loop μ-loop
 take-byte-requires c κs = search needs
 
 add-i : tie.Need-add-i Inv-loop μ-loop
-add-i c = record { fits = omega (arith, (start·After-slice-known6 c) .good .1 .1 .1 .1 .0, (loop-test·After-slice-known6 c) .loop-test .taken) }
+add-i c =
+    let at-loop-test : tie.In-loop Inv-loop μ-loop = search in
+    let at-start : tie.Start Inv-loop μ-loop = search in
+    record { fits = omega (arith, at-start .good .1 .1 .1 .1 .0, at-loop-test .loop-test .taken) }
 
 loop-less : tie.Need-loop-less Inv-loop μ-loop
 loop-less c = search needs
 
 loop-again : tie.Need-loop-again Inv-loop μ-loop
-loop-again c = taking-again ((loop·After-slice-known6 c) .loop .inv) ((loop-test·After-slice-known6 c) .loop-test .taken) ((take-byte·After-slice-known6 c) .take-byte .ensures) ((take-byte·After-slice-known6 c) .take-byte .kept .1 .0) ((take-byte·After-slice-known6 c) .take-byte .kept .1 .1 .0) ((take-byte·After-slice-known6 c) .take-byte .kept .1 .1 .1 .0)
+loop-again c =
+    let at-take-byte : tie.After-take-byte Inv-loop μ-loop = search in
+    let at-loop-test : tie.In-loop Inv-loop μ-loop = search in
+    let at-loop : tie.At-loop Inv-loop μ-loop = search in
+    taking-again (at-loop .loop .inv) (at-loop-test .loop-test .taken) (at-take-byte .take-byte .ensures) (at-take-byte .take-byte .kept .1 .0) (at-take-byte .take-byte .kept .1 .1 .0) (at-take-byte .take-byte .kept .1 .1 .1 .0)
 
 same-length : tie.Need-same-length Inv-loop μ-loop
 same-length c = (c .before) .loop .inv .long

@@ -28,11 +28,10 @@ same-length-2 c = search needs
 same-length-3 : tie.Need-same-length-3
 same-length-3 c = search needs
 
-abbrev fresh·After-tally-of : tie.After-tally-of → tie.After-fresh
-fresh·After-tally-of c = c .before .before .before .before .before .before .before .before .before .before
-
 returns : tie.Need-returns
-returns c = opened ((fresh·After-tally-of c) .fresh .ensures) refl ((c .before .before) .empty .ensures) ((c .before) .empty2 .ensures) refl refl (c .tally-of .ensures)
+returns c =
+    let at-fresh : tie.After-fresh = search in
+    opened (at-fresh .fresh .ensures) refl ((c .before .before) .empty .ensures) ((c .before) .empty2 .ensures) refl refl (c .tally-of .ensures)
 
 pub open-log-spec : {M : Type 1} → statement M
 open-log-spec =

@@ -14,18 +14,6 @@ Inv-loop fd most nodes₀ lookup₀ cache₀ turn₀ turns₀ nodes lookup cache
 abbrev μ-loop : tie.MeasureT-loop
 μ-loop fd most nodes₀ lookup₀ cache₀ turn₀ turns₀ nodes lookup cache turn turns = turns
 
-abbrev read-piece·At-match-keys2 : tie.At-match-keys2 Inv-loop μ-loop → tie.After-read-piece Inv-loop μ-loop
-read-piece·At-match-keys2 c = c .before .before .before .before .before .before .before
-
-abbrev loop·At-match-keys2 : tie.At-match-keys2 Inv-loop μ-loop → tie.At-loop Inv-loop μ-loop
-loop·At-match-keys2 c = c .before .before .before .before .before .before .before .before .before .before .before .before
-
-abbrev loop·After-enum-told : tie.After-enum-told Inv-loop μ-loop → tie.At-loop Inv-loop μ-loop
-loop·After-enum-told c = c .before .before .before .before .before .before .before .before .before .before .before .before .before
-
-abbrev read-piece·After-enum-told : tie.After-enum-told Inv-loop μ-loop → tie.After-read-piece Inv-loop μ-loop
-read-piece·After-enum-told c = c .before .before .before .before .before .before .before .before
-
 loop-holds : tie.Need-loop-holds Inv-loop μ-loop
 loop-holds c = onward-start _ _ _ _
 
@@ -36,16 +24,28 @@ enum-told : tie.Need-enum-told Inv-loop μ-loop
 enum-told c = search needs
 
 same-length : tie.Need-same-length Inv-loop μ-loop
-same-length c = (read-piece·At-match-keys2 c) .read-piece .kept .1 .1 .1 .0 ∙ (loop·At-match-keys2 c) .loop .inv .long
+same-length c =
+    let at-read-piece : tie.After-read-piece Inv-loop μ-loop = search in
+    let at-loop : tie.At-loop Inv-loop μ-loop = search in
+    at-read-piece .read-piece .kept .1 .1 .1 .0 ∙ at-loop .loop .inv .long
 
 same-length-2 : tie.Need-same-length-2 Inv-loop μ-loop
-same-length-2 c = (read-piece·At-match-keys2 c) .read-piece .kept .1 .1 .1 .1 .0 ∙ (loop·At-match-keys2 c) .loop .inv .long-lookup
+same-length-2 c =
+    let at-read-piece : tie.After-read-piece Inv-loop μ-loop = search in
+    let at-loop : tie.At-loop Inv-loop μ-loop = search in
+    at-read-piece .read-piece .kept .1 .1 .1 .1 .0 ∙ at-loop .loop .inv .long-lookup
 
 same-length-3 : tie.Need-same-length-3 Inv-loop μ-loop
-same-length-3 c = (read-piece·At-match-keys2 c) .read-piece .kept .1 .1 .1 .1 .1 .0 ∙ (loop·At-match-keys2 c) .loop .inv .long-cache
+same-length-3 c =
+    let at-read-piece : tie.After-read-piece Inv-loop μ-loop = search in
+    let at-loop : tie.At-loop Inv-loop μ-loop = search in
+    at-read-piece .read-piece .kept .1 .1 .1 .1 .1 .0 ∙ at-loop .loop .inv .long-cache
 
 returns : tie.Need-returns Inv-loop μ-loop
-returns c = onward-again ((loop·At-match-keys2 c) .loop .inv) ((read-piece·At-match-keys2 c) .read-piece .ensures) ((read-piece·At-match-keys2 c) .read-piece .kept .1 .1 .1 .0) ((read-piece·At-match-keys2 c) .read-piece .kept .1 .1 .1 .1 .0) ((read-piece·At-match-keys2 c) .read-piece .kept .1 .1 .1 .1 .1 .0) .follows
+returns c =
+    let at-read-piece : tie.After-read-piece Inv-loop μ-loop = search in
+    let at-loop : tie.At-loop Inv-loop μ-loop = search in
+    onward-again (at-loop .loop .inv) (at-read-piece .read-piece .ensures) (at-read-piece .read-piece .kept .1 .1 .1 .0) (at-read-piece .read-piece .kept .1 .1 .1 .1 .0) (at-read-piece .read-piece .kept .1 .1 .1 .1 .1 .0) .follows
 
 sub-turns : tie.Need-sub-turns Inv-loop μ-loop
 sub-turns c = search needs
@@ -54,7 +54,10 @@ loop-less : tie.Need-loop-less Inv-loop μ-loop
 loop-less c = search needs
 
 loop-again : tie.Need-loop-again Inv-loop μ-loop
-loop-again c = onward-again ((loop·After-enum-told c) .loop .inv) ((read-piece·After-enum-told c) .read-piece .ensures) ((read-piece·After-enum-told c) .read-piece .kept .1 .1 .1 .0) ((read-piece·After-enum-told c) .read-piece .kept .1 .1 .1 .1 .0) ((read-piece·After-enum-told c) .read-piece .kept .1 .1 .1 .1 .1 .0)
+loop-again c =
+    let at-read-piece : tie.After-read-piece Inv-loop μ-loop = search in
+    let at-loop : tie.At-loop Inv-loop μ-loop = search in
+    onward-again (at-loop .loop .inv) (at-read-piece .read-piece .ensures) (at-read-piece .read-piece .kept .1 .1 .1 .0) (at-read-piece .read-piece .kept .1 .1 .1 .1 .0) (at-read-piece .read-piece .kept .1 .1 .1 .1 .1 .0)
 
 same-length-4 : tie.Need-same-length-4 Inv-loop μ-loop
 same-length-4 c = (c .before) .loop .inv .long

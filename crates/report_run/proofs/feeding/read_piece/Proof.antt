@@ -42,9 +42,6 @@ same-length-2 c = search needs
 same-length-3 : tie.Need-same-length-3
 same-length-3 c = search needs
 
-abbrev take-piece·After-step-after : tie.After-step-after → tie.After-take-piece
-take-piece·After-step-after c = c .before .before .before .before .before .before .before
-
 returns : tie.Need-returns
 returns c = follows-none _ _ _ _
 
@@ -52,7 +49,9 @@ returns-2 : tie.Need-returns-2
 returns-2 c = follows-none _ _ _ _
 
 returns-3 : tie.Need-returns-3
-returns-3 c = follows-piece _ ((take-piece·After-step-after c) .take-piece .ensures)
+returns-3 c =
+    let at-take-piece : tie.After-take-piece = search in
+    follows-piece _ (at-take-piece .take-piece .ensures)
 
 pub read-piece-spec : {M : Type 1} → statement M
 read-piece-spec =

@@ -51,20 +51,15 @@ slice-aggregate-close-4 c = search needs
 close-requires : tie.Need-close-requires
 close-requires c κs = search needs
 
-abbrev open-log·After-sizes2 : tie.After-sizes2 → tie.After-open-log
-open-log·After-sizes2 c = c .before .before .before .before .before .before .before .before .before .before .before .before .before .before .before .before .before .before .before .before .before .before
-
-abbrev read-all·After-sizes2 : tie.After-sizes2 → tie.After-read-all
-read-all·After-sizes2 c = c .before .before .before .before .before .before .before .before .before .before .before .before .before .before .before
-
-abbrev close·After-sizes2 : tie.After-sizes2 → tie.After-close
-close·After-sizes2 c = c .before .before .before .before
-
 returns : tie.Need-returns
 returns c = none-reported _
 
 returns-2 : tie.Need-returns-2
-returns-2 c = reported (length-replicate {A = ℕ} 1500 0) (length-replicate {A = ℕ} 1001 0) ((open-log·After-sizes2 c) .open-log .ensures) ((read-all·After-sizes2 c) .read-all .ensures) (length-replicate {A = ℕ} 500 0) ((close·After-sizes2 c) .close .ensures)
+returns-2 c =
+    let at-close : tie.After-close = search in
+    let at-read-all : tie.After-read-all = search in
+    let at-open-log : tie.After-open-log = search in
+    reported (length-replicate {A = ℕ} 1500 0) (length-replicate {A = ℕ} 1001 0) (at-open-log .open-log .ensures) (at-read-all .read-all .ensures) (length-replicate {A = ℕ} 500 0) (at-close .close .ensures)
 
 pub make-report-spec : {M : Type 1} → statement M
 make-report-spec =

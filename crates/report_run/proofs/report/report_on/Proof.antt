@@ -8,9 +8,6 @@ use Rattle.words.proofs.Cases.{clash}
 use Rattle.report_run.proofs.report.report_on.Statement.{statement}
 use Rattle.report_run.proofs.report.report_on.Tie as tie
 
-abbrev make-report·After-write-all : tie.After-write-all → tie.After-make-report
-make-report·After-write-all c = c .before .before .before .before
-
 make-report-requires : tie.Need-make-report-requires
 make-report-requires c κs = search needs
 
@@ -24,7 +21,9 @@ write-all-requires : tie.Need-write-all-requires
 write-all-requires c κs = search needs
 
 returns-2 : tie.Need-returns-2
-returns-2 c = record { report = _; out = _; is = (make-report·After-write-all c) .make-report .ensures; made = λ e. not-false _ ((c .before .before) .if1 .left) }
+returns-2 c =
+    let at-make-report : tie.After-make-report = search in
+    record { report = _; out = _; is = at-make-report .make-report .ensures; made = λ e. not-false _ ((c .before .before) .if1 .left) }
 
 slice-aggregate-write-all : tie.Need-slice-aggregate-write-all
 slice-aggregate-write-all c = sym (length-take-le _ _ ((c .before .before .before) .make-report .ensures .inside))

@@ -10,39 +10,6 @@ use borrow.Author.Needs.{needs}
 use Rattle.store.proofs.node.sides_at.Statement.{statement}
 use Rattle.store.proofs.node.sides_at.Tie as tie
 
-abbrev start·Then2 : tie.Then2 → tie.Start
-start·Then2 c = c .before .before .before .before .before .before
-
-abbrev start·Then3 : tie.Then3 → tie.Start
-start·Then3 c = c .before .before .before .before .before .before .before
-
-abbrev if1·Then3 : tie.Then3 → tie.Else1
-if1·Then3 c = c .before .before .before .before
-
-abbrev start·Then4 : tie.Then4 → tie.Start
-start·Then4 c = c .before .before .before .before .before .before .before .before .before
-
-abbrev if1·Then4 : tie.Then4 → tie.Else1
-if1·Then4 c = c .before .before .before .before .before .before
-
-abbrev start·Then5 : tie.Then5 → tie.Start
-start·Then5 c = c .before .before .before .before .before .before .before .before .before .before .before
-
-abbrev if1·Then5 : tie.Then5 → tie.Else1
-if1·Then5 c = c .before .before .before .before .before .before .before .before
-
-abbrev start·Else5 : tie.Else5 → tie.Start
-start·Else5 c = c .before .before .before .before .before .before .before .before .before .before .before
-
-abbrev if1·Else5 : tie.Else5 → tie.Else1
-if1·Else5 c = c .before .before .before .before .before .before .before .before
-
-abbrev if2·Else5 : tie.Else5 → tie.Else2
-if2·Else5 c = c .before .before .before .before .before
-
-abbrev if3·Else5 : tie.Else5 → tie.Else3
-if3·Else5 c = c .before .before .before .before
-
 -- p is a node of the level
 record Here (c : tie.Start) : Type 0 where
   high : c .args .level ≤ topAt (c .args .nodes .now) (c .args .p)
@@ -97,8 +64,9 @@ add-if2 c = search needs
 
 returns-2 : tie.Need-returns-2
 returns-2 c =
-    let a = (start·Then2 c) .args in
-    let pre = (start·Then2 c) .pre in
+    let at-start : tie.Start = search in
+    let a = at-start .args in
+    let pre = at-start .pre in
     broken (λ B lookup H. omega (arith, zero-inside (a .nodes .now) (a .count) (a .p) (a .level) (pre .0 .0) (pre .1 .1) (here (c .before .before .before) .high) (pre .1 .0) H))
 
 add-if3 : tie.Need-add-if3
@@ -106,33 +74,43 @@ add-if3 c = search needs
 
 returns-3 : tie.Need-returns-3
 returns-3 c =
-    let a = (start·Then3 c) .args in
-    let pre = (start·Then3 c) .pre in
-    broken (λ B lookup H. omega (arith, one-inside (a .nodes .now) (a .count) (a .p) (a .level) (pre .0 .0) (pre .1 .1) (here (if1·Then3 c) .high) (pre .1 .0) H))
+    let at-if1 : tie.Else1 = search in
+    let at-start : tie.Start = search in
+    let a = at-start .args in
+    let pre = at-start .pre in
+    broken (λ B lookup H. omega (arith, one-inside (a .nodes .now) (a .count) (a .p) (a .level) (pre .0 .0) (pre .1 .1) (here at-if1 .high) (pre .1 .0) H))
 
 top-of-requires-2 : tie.Need-top-of-requires-2
 top-of-requires-2 c κs = search needs
 
 returns-4 : tie.Need-returns-4
 returns-4 c =
-    let a = (start·Then4 c) .args in
-    let pre = (start·Then4 c) .pre in
-    broken (λ B lookup H. omega (arith, zero-low (a .nodes .now) (a .count) (a .p) (a .level) (pre .0 .0) (pre .1 .1) (here (if1·Then4 c) .high) (pre .1 .0) H, (c .before) .top-of2 .ensures))
+    let at-if1 : tie.Else1 = search in
+    let at-start : tie.Start = search in
+    let a = at-start .args in
+    let pre = at-start .pre in
+    broken (λ B lookup H. omega (arith, zero-low (a .nodes .now) (a .count) (a .p) (a .level) (pre .0 .0) (pre .1 .1) (here at-if1 .high) (pre .1 .0) H, (c .before) .top-of2 .ensures))
 
 top-of-requires-3 : tie.Need-top-of-requires-3
 top-of-requires-3 c κs = search needs
 
 returns-5 : tie.Need-returns-5
 returns-5 c =
-    let a = (start·Then5 c) .args in
-    let pre = (start·Then5 c) .pre in
-    broken (λ B lookup H. omega (arith, one-low (a .nodes .now) (a .count) (a .p) (a .level) (pre .0 .0) (pre .1 .1) (here (if1·Then5 c) .high) (pre .1 .0) H, (c .before) .top-of3 .ensures))
+    let at-if1 : tie.Else1 = search in
+    let at-start : tie.Start = search in
+    let a = at-start .args in
+    let pre = at-start .pre in
+    broken (λ B lookup H. omega (arith, one-low (a .nodes .now) (a .count) (a .p) (a .level) (pre .0 .0) (pre .1 .1) (here at-if1 .high) (pre .1 .0) H, (c .before) .top-of3 .ensures))
 
 returns-6 : tie.Need-returns-6
 returns-6 c =
-    let a = (start·Else5 c) .args in
-    let pre = (start·Else5 c) .pre in
-    two (sides-here (a .nodes .now) (a .count) (a .p) (a .level) (pre .0 .0) (pre .1 .1) (here (if1·Else5 c) .high) (pre .1 .0) _ _ ((if2·Else5 c) .if2 .left) ((if3·Else5 c) .if3 .left)
+    let at-if3 : tie.Else3 = search in
+    let at-if2 : tie.Else2 = search in
+    let at-if1 : tie.Else1 = search in
+    let at-start : tie.Start = search in
+    let a = at-start .args in
+    let pre = at-start .pre in
+    two (sides-here (a .nodes .now) (a .count) (a .p) (a .level) (pre .0 .0) (pre .1 .1) (here at-if1 .high) (pre .1 .0) _ _ (at-if2 .if2 .left) (at-if3 .if3 .left)
     ((c .before .before .before) .top-of2 .ensures) ((c .before) .top-of3 .ensures) ((c .before .before) .if4 .left) (c .if5 .left))
 
 pub sides-at-spec : {M : Type 1} → statement M

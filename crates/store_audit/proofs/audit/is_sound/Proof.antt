@@ -10,33 +10,6 @@ use Rattle.store_audit.proofs.Verdict.{tells-no, tells-last, sound-fits
 use Rattle.store_audit.proofs.audit.is_sound.Statement.{statement}
 use Rattle.store_audit.proofs.audit.is_sound.Tie as tie
 
-abbrev start·After-struct-known : tie.After-struct-known → tie.Start
-start·After-struct-known c = c .before .before .before .before .before .before .before
-
-abbrev fits2·After-struct-known : tie.After-struct-known → tie.After-fits2
-fits2·After-struct-known c = c .before .before .before .before
-
-abbrev start·Else3 : tie.Else3 → tie.Start
-start·Else3 c = c .before .before .before .before .before .before .before .before .before
-
-abbrev fits2·Else3 : tie.Else3 → tie.After-fits2
-fits2·Else3 c = c .before .before .before .before .before .before
-
-abbrev if1·Else3 : tie.Else3 → tie.Else1
-if1·Else3 c = c .before .before .before .before .before
-
-abbrev fits2·After-all-obey : tie.After-all-obey → tie.After-fits2
-fits2·After-all-obey c = c .before .before .before .before .before .before .before
-
-abbrev if1·After-all-obey : tie.After-all-obey → tie.Else1
-if1·After-all-obey c = c .before .before .before .before .before .before
-
-abbrev used-slots·After-all-obey : tie.After-all-obey → tie.After-used-slots
-used-slots·After-all-obey c = c .before .before .before .before .before
-
-abbrev if2·After-all-obey : tie.After-all-obey → tie.Else2
-if2·After-all-obey c = c .before .before .before .before
-
 fits-requires : tie.Need-fits-requires
 fits-requires c κs = search needs
 
@@ -66,8 +39,10 @@ mul-are-zero-2 c = search needs
 
 are-zero-requires : tie.Need-are-zero-requires
 are-zero-requires c κs =
-    let a = (start·After-struct-known c) .args in
-    let R = fits-roomy (a .store) (a .nodes .now) (a .lookup .now) (test-passed ((fits2·After-struct-known c) .fits2 .ensures) ((c .before .before .before) .if1 .left)) in
+    let at-fits2 : tie.After-fits2 = search in
+    let at-start : tie.Start = search in
+    let a = at-start .args in
+    let R = fits-roomy (a .store) (a .nodes .now) (a .lookup .now) (test-passed (at-fits2 .fits2 .ensures) ((c .before .before .before) .if1 .left)) in
     (omega (arith, R .within), R .words)
 
 returns-3 : tie.Need-returns-3
@@ -75,14 +50,21 @@ returns-3 c = tells-no _ _ _ (λ cache S. (c .before) .are-zero .ensures .says-n
 
 all-obey-requires : tie.Need-all-obey-requires
 all-obey-requires c κs =
-    let a = (start·Else3 c) .args in
-    let R = fits-roomy (a .store) (a .nodes .now) (a .lookup .now) (test-passed ((fits2·Else3 c) .fits2 .ensures) ((if1·Else3 c) .if1 .left)) in
+    let at-if1 : tie.Else1 = search in
+    let at-fits2 : tie.After-fits2 = search in
+    let at-start : tie.Start = search in
+    let a = at-start .args in
+    let R = fits-roomy (a .store) (a .nodes .now) (a .lookup .now) (test-passed (at-fits2 .fits2 .ensures) (at-if1 .if1 .left)) in
     (omega (arith, R .within, R .words), omega (arith, R .within, R .small), omega (arith, R .longer))
 
 returns-4 : tie.Need-returns-4
 returns-4 c =
-    tells-last _ _ _ _ (test-passed ((fits2·After-all-obey c) .fits2 .ensures) ((if1·After-all-obey c) .if1 .left))
-    (omega (arith, (used-slots·After-all-obey c) .used-slots .ensures, (if2·After-all-obey c) .if2 .left))
+    let at-if2 : tie.Else2 = search in
+    let at-used-slots : tie.After-used-slots = search in
+    let at-if1 : tie.Else1 = search in
+    let at-fits2 : tie.After-fits2 = search in
+    tells-last _ _ _ _ (test-passed (at-fits2 .fits2 .ensures) (at-if1 .if1 .left))
+    (omega (arith, at-used-slots .used-slots .ensures, at-if2 .if2 .left))
     ((c .before .before) .are-zero .ensures .says-yes (not-false _ ((c .before) .if3 .left))) (c .all-obey .ensures)
 
 pub is-sound-spec : {M : Type 1} → statement M

@@ -15,15 +15,6 @@ Inv-loop nodes lookup count k₀ k = (k ≤ count) × NodesTo nodes lookup k
 abbrev μ-loop : tie.MeasureT-loop
 μ-loop nodes lookup count k₀ k = count - k
 
-abbrev loop·Then2 : tie.Then2 Inv-loop μ-loop → tie.At-loop Inv-loop μ-loop
-loop·Then2 c = c .before .before .before .before .before
-
-abbrev loop-test·Then2 : tie.Then2 Inv-loop μ-loop → tie.In-loop Inv-loop μ-loop
-loop-test·Then2 c = c .before .before .before .before
-
-abbrev loop·Else2 : tie.Else2 Inv-loop μ-loop → tie.At-loop Inv-loop μ-loop
-loop·Else2 c = c .before .before .before .before .before
-
 loop-holds : tie.Need-loop-holds Inv-loop μ-loop
 loop-holds c = (search needs, nodes-none _ _)
 
@@ -37,7 +28,10 @@ is-entered-requires : tie.Need-is-entered-requires Inv-loop μ-loop
 is-entered-requires c κs = search needs
 
 returns-2 : tie.Need-returns-2 Inv-loop μ-loop
-returns-2 c = decides-no (λ N. (c .before) .is-entered .ensures .says-no (not-true _ (c .if2 .taken)) (N .own ((loop·Then2 c) .loop .k) ((loop-test·Then2 c) .loop-test .taken)))
+returns-2 c =
+    let at-loop-test : tie.In-loop Inv-loop μ-loop = search in
+    let at-loop : tie.At-loop Inv-loop μ-loop = search in
+    decides-no (λ N. (c .before) .is-entered .ensures .says-no (not-true _ (c .if2 .taken)) (N .own (at-loop .loop .k) (at-loop-test .loop-test .taken)))
 
 add-k : tie.Need-add-k Inv-loop μ-loop
 add-k c = search needs
@@ -46,7 +40,9 @@ loop-less : tie.Need-loop-less Inv-loop μ-loop
 loop-less c = search needs
 
 loop-again : tie.Need-loop-again Inv-loop μ-loop
-loop-again c = (search needs, nodes-more _ _ _ ((loop·Else2 c) .loop .inv .1) ((c .before .before .before) .obeys .ensures .says-yes (not-false _ ((c .before .before) .if1 .left))) ((c .before) .is-entered .ensures .says-yes (not-false _ (c .if2 .left))))
+loop-again c =
+    let at-loop : tie.At-loop Inv-loop μ-loop = search in
+    (search needs, nodes-more _ _ _ (at-loop .loop .inv .1) ((c .before .before .before) .obeys .ensures .says-yes (not-false _ ((c .before .before) .if1 .left))) ((c .before) .is-entered .ensures .says-yes (not-false _ (c .if2 .left))))
 
 returns-3 : tie.Need-returns-3 Inv-loop μ-loop
 returns-3 c = decides-yes (nodes-to _ _ _ _ ((c .before) .loop .inv .1) (c .loop-test .left))

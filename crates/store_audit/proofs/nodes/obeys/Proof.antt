@@ -7,15 +7,6 @@ use Rattle.store_audit.proofs.Testing.{rules-last}
 use Rattle.store_audit.proofs.nodes.obeys.Statement.{statement}
 use Rattle.store_audit.proofs.nodes.obeys.Tie as tie
 
-abbrev if1·After-top-of2 : tie.After-top-of2 → tie.Else1
-if1·After-top-of2 c = c .before .before .before .before .before .before
-
-abbrev if2·After-top-of2 : tie.After-top-of2 → tie.Else2
-if2·After-top-of2 c = c .before .before .before .before .before
-
-abbrev if3·After-top-of2 : tie.After-top-of2 → tie.Else3
-if3·After-top-of2 c = c .before .before .before .before
-
 mul-base : tie.Need-mul-base
 mul-base c = search needs
 
@@ -72,9 +63,12 @@ top-of-requires-2 c κs = search needs
 
 returns-6 : tie.Need-returns-6
 returns-6 c =
+    let at-if3 : tie.Else3 = search in
+    let at-if2 : tie.Else2 = search in
+    let at-if1 : tie.Else1 = search in
     rules-last _ _ _ _ _ _ _ ((c .before .before) .top-of .ensures) (c .top-of2 .ensures)
-    (omega (arith, (if1·After-top-of2 c) .if1 .left)) (λ e. omega (arith, (if2·After-top-of2 c) .if2 .left, e))
-    (omega (arith, (if3·After-top-of2 c) .if3 .left)) (omega (arith, (c .before .before .before) .if4 .left)) (omega (arith, (c .before) .if5 .left))
+    (omega (arith, at-if1 .if1 .left)) (λ e. omega (arith, at-if2 .if2 .left, e))
+    (omega (arith, at-if3 .if3 .left)) (omega (arith, (c .before .before .before) .if4 .left)) (omega (arith, (c .before) .if5 .left))
 
 pub obeys-spec : {M : Type 1} → statement M
 obeys-spec =

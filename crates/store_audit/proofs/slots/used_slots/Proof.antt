@@ -17,9 +17,6 @@ Inv-loop lookup filled₀ slot₀ filled slot = (slot ≤ length lookup) × (fil
 abbrev μ-loop : tie.MeasureT-loop
 μ-loop lookup filled₀ slot₀ filled slot = length lookup - slot
 
-abbrev start·Joined1 : tie.Joined1 Inv-loop μ-loop → tie.Start Inv-loop μ-loop
-start·Joined1 c = c .before .before .before .before
-
 loop-holds : tie.Need-loop-holds Inv-loop μ-loop
 loop-holds c = (search needs, search needs, omega arith)
 
@@ -40,7 +37,8 @@ loop-less c = search needs
 
 loop-again : tie.Need-loop-again Inv-loop μ-loop
 loop-again c =
-    let l = (start·Joined1 c) .args .lookup .now in
+    let at-start : tie.Start Inv-loop μ-loop = search in
+    let l = at-start .args .lookup .now in
     let k = (c .before .before .before) .loop .slot in
     ⊎-elim
     (λ w. let e = used-more l k ((c .before .before) .loop-test .taken) (λ d. omega (arith, w .0 .taken, d)) in (omega arith, omega arith, omega arith))

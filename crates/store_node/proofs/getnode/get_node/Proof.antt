@@ -5,52 +5,14 @@ use borrow.Author.Needs.{needs}
 use Rattle.store_node.proofs.getnode.get_node.Statement.{statement}
 use Rattle.store_node.proofs.getnode.get_node.Tie as tie
 
-abbrev start·After-placed : tie.After-placed → tie.Start
-start·After-placed c = c .before .before .before .before
-
-abbrev start·After-placed2 : tie.After-placed2 → tie.Start
-start·After-placed2 c = c .before .before .before .before .before .before .before .before .before .before .before .before .before .before .before
-
-abbrev if1·After-placed2 : tie.After-placed2 → tie.Else1
-if1·After-placed2 c = c .before .before .before .before .before .before .before .before .before .before .before .before
-
-abbrev make·After-placed2 : tie.After-placed2 → tie.After-make
-make·After-placed2 c = c .before .before .before .before .before .before .before .before .before
-
-abbrev start·After-placed3 : tie.After-placed3 → tie.Start
-start·After-placed3 c = c .before .before .before .before .before .before .before .before .before .before .before .before .before .before .before
-
-abbrev if1·After-placed3 : tie.After-placed3 → tie.Else1
-if1·After-placed3 c = c .before .before .before .before .before .before .before .before .before .before .before .before
-
-abbrev make·After-placed3 : tie.After-placed3 → tie.After-make
-make·After-placed3 c = c .before .before .before .before .before .before .before .before .before
-
-abbrev start·After-refused : tie.After-refused → tie.Start
-start·After-refused c = c .before .before .before .before .before .before .before .before .before .before .before .before .before .before
-
-abbrev if1·After-refused : tie.After-refused → tie.Else1
-if1·After-refused c = c .before .before .before .before .before .before .before .before .before .before .before
-
-abbrev make·After-refused : tie.After-refused → tie.After-make
-make·After-refused c = c .before .before .before .before .before .before .before .before
-
-abbrev start·After-refused2 : tie.After-refused2 → tie.Start
-start·After-refused2 c = c .before .before .before .before .before .before .before .before .before .before .before .before .before .before
-
-abbrev if1·After-refused2 : tie.After-refused2 → tie.Else1
-if1·After-refused2 c = c .before .before .before .before .before .before .before .before .before .before .before
-
-abbrev make·After-refused2 : tie.After-refused2 → tie.After-make
-make·After-refused2 c = c .before .before .before .before .before .before .before .before
-
 placed-requires : tie.Need-placed-requires
 placed-requires c κs = search needs
 
 returns : tie.Need-returns
 returns c =
-    let a = (start·After-placed c) .args in
-    let p = (start·After-placed c) .pre in
+    let at-start : tie.Start = search in
+    let a = at-start .args in
+    let p = at-start .pre in
     node-zero (a .store) (a .nodes .now) (a .lookup .now) (a .item) (a .zero) (a .one) (p .1 .1) (p .1 .2) (p .1 .3) (p .0) (c .placed .result) (c .placed .ensures .0) (c .placed .ensures .1) ((c .before) .if1 .taken)
 
 make-requires : tie.Need-make-requires
@@ -88,9 +50,12 @@ same-length-2 c = search needs
 
 returns-2 : tie.Need-returns-2
 returns-2 c =
-    let a = (start·After-placed2 c) .args in
-    let p = (start·After-placed2 c) .pre in
-    node-found (a .store) (a .nodes .now) (a .lookup .now) (a .item) (a .zero) (a .one) (p .1 .1) (p .1 .2) (p .1 .3) ((if1·After-placed2 c) .if1 .left) ((make·After-placed2 c) .make .ensures) (c .placed2 .result) (c .placed2 .ensures .0) _ ((c .before .before) .made .given .1) (c .placed2 .ensures .1)
+    let at-make : tie.After-make = search in
+    let at-if1 : tie.Else1 = search in
+    let at-start : tie.Start = search in
+    let a = at-start .args in
+    let p = at-start .pre in
+    node-found (a .store) (a .nodes .now) (a .lookup .now) (a .item) (a .zero) (a .one) (p .1 .1) (p .1 .2) (p .1 .3) (at-if1 .if1 .left) (at-make .make .ensures) (c .placed2 .result) (c .placed2 .ensures .0) _ ((c .before .before) .made .given .1) (c .placed2 .ensures .1)
 
 same-length-3 : tie.Need-same-length-3
 same-length-3 c = search needs
@@ -100,9 +65,12 @@ same-length-4 c = search needs
 
 returns-3 : tie.Need-returns-3
 returns-3 c =
-    let a = (start·After-placed3 c) .args in
-    let p = (start·After-placed3 c) .pre in
-    node-new (a .store) (a .nodes .now) (a .lookup .now) (a .item) (a .zero) (a .one) (p .1 .1) (p .1 .2) (p .1 .3) ((if1·After-placed3 c) .if1 .left) ((make·After-placed3 c) .make .ensures) (c .placed3 .result) (c .placed3 .ensures .0) _ ((c .before .before) .made2 .given .1) (c .placed3 .ensures .1)
+    let at-make : tie.After-make = search in
+    let at-if1 : tie.Else1 = search in
+    let at-start : tie.Start = search in
+    let a = at-start .args in
+    let p = at-start .pre in
+    node-new (a .store) (a .nodes .now) (a .lookup .now) (a .item) (a .zero) (a .one) (p .1 .1) (p .1 .2) (p .1 .3) (at-if1 .if1 .left) (at-make .make .ensures) (c .placed3 .result) (c .placed3 .ensures .0) _ ((c .before .before) .made2 .given .1) (c .placed3 .ensures .1)
 
 same-length-5 : tie.Need-same-length-5
 same-length-5 c = search needs
@@ -112,9 +80,12 @@ same-length-6 c = search needs
 
 returns-4 : tie.Need-returns-4
 returns-4 c =
-    let a = (start·After-refused c) .args in
-    let p = (start·After-refused c) .pre in
-    node-full (a .store) (a .nodes .now) (a .lookup .now) (a .item) (a .zero) (a .one) (p .1 .1) (p .1 .2) (p .1 .3) ((if1·After-refused c) .if1 .left) ((make·After-refused c) .make .ensures) (c .refused .result) (c .refused .ensures .0) ((c .before) .enum-told .given .1) (c .refused .ensures .1)
+    let at-make : tie.After-make = search in
+    let at-if1 : tie.Else1 = search in
+    let at-start : tie.Start = search in
+    let a = at-start .args in
+    let p = at-start .pre in
+    node-full (a .store) (a .nodes .now) (a .lookup .now) (a .item) (a .zero) (a .one) (p .1 .1) (p .1 .2) (p .1 .3) (at-if1 .if1 .left) (at-make .make .ensures) (c .refused .result) (c .refused .ensures .0) ((c .before) .enum-told .given .1) (c .refused .ensures .1)
 
 same-length-7 : tie.Need-same-length-7
 same-length-7 c = search needs
@@ -124,9 +95,12 @@ same-length-8 c = search needs
 
 returns-5 : tie.Need-returns-5
 returns-5 c =
-    let a = (start·After-refused2 c) .args in
-    let p = (start·After-refused2 c) .pre in
-    node-damaged (a .store) (a .nodes .now) (a .lookup .now) (a .item) (a .zero) (a .one) (p .1 .1) (p .1 .2) (p .1 .3) ((if1·After-refused2 c) .if1 .left) ((make·After-refused2 c) .make .ensures) (c .refused2 .result) (c .refused2 .ensures .0) ((c .before) .enum-told2 .given .1) (c .refused2 .ensures .1)
+    let at-make : tie.After-make = search in
+    let at-if1 : tie.Else1 = search in
+    let at-start : tie.Start = search in
+    let a = at-start .args in
+    let p = at-start .pre in
+    node-damaged (a .store) (a .nodes .now) (a .lookup .now) (a .item) (a .zero) (a .one) (p .1 .1) (p .1 .2) (p .1 .3) (at-if1 .if1 .left) (at-make .make .ensures) (c .refused2 .result) (c .refused2 .ensures .0) ((c .before) .enum-told2 .given .1) (c .refused2 .ensures .1)
 
 pub get-node-spec : {M : Type 1} → statement M
 get-node-spec =

@@ -7,48 +7,6 @@ use borrow.Author.Needs.{needs}
 use Rattle.store_node.proofs.unique.make.Statement.{statement}
 use Rattle.store_node.proofs.unique.make.Tie as tie
 
-abbrev start·Then1 : tie.Then1 → tie.Start
-start·Then1 c = c .before .before .before .before .before .before
-
-abbrev start·Then3 : tie.Then3 → tie.Start
-start·Then3 c = c .before .before .before .before .before .before .before .before .before
-
-abbrev probe·Then3 : tie.Then3 → tie.After-probe
-probe·Then3 c = c .before .before .before .before
-
-abbrev enter·After-appended : tie.After-appended → tie.After-enter
-enter·After-appended c = c .before .before .before .before .before
-
-abbrev start·After-appended : tie.After-appended → tie.Start
-start·After-appended c = c .before .before .before .before .before .before .before .before .before .before .before .before .before .before .before .before .before
-
-abbrev probe·After-appended : tie.After-appended → tie.After-probe
-probe·After-appended c = c .before .before .before .before .before .before .before .before .before .before .before .before
-
-abbrev if2·After-appended : tie.After-appended → tie.Then2
-if2·After-appended c = c .before .before .before .before .before .before .before .before .before
-
-abbrev if3·After-appended : tie.After-appended → tie.Else3
-if3·After-appended c = c .before .before .before .before .before .before .before .before
-
-abbrev start·Then4 : tie.Then4 → tie.Start
-start·Then4 c = c .before .before .before .before .before .before .before .before .before
-
-abbrev probe·Then4 : tie.Then4 → tie.After-probe
-probe·Then4 c = c .before .before .before .before
-
-abbrev start·Then5 : tie.Then5 → tie.Start
-start·Then5 c = c .before .before .before .before .before .before .before .before .before .before
-
-abbrev probe·Then5 : tie.Then5 → tie.After-probe
-probe·Then5 c = c .before .before .before .before .before
-
-abbrev start·Else5 : tie.Else5 → tie.Start
-start·Else5 c = c .before .before .before .before .before .before .before .before .before .before
-
-abbrev probe·Else5 : tie.Else5 → tie.After-probe
-probe·Else5 c = c .before .before .before .before .before
-
 probe-requires : tie.Need-probe-requires
 probe-requires c κs = search needs
 
@@ -60,8 +18,9 @@ same-length-2 c = search needs
 
 returns : tie.Need-returns
 returns c =
-    let a = (start·Then1 c) .args in
-    let p = (start·Then1 c) .pre in
+    let at-start : tie.Start = search in
+    let a = at-start .args in
+    let p = at-start .pre in
     made-damaged (a .store) (a .nodes .now) (a .lookup .now) (a .item) (a .zero) (a .one) _ (p .0) (p .1 .2) (p .1 .3) ((c .before) .probe .ensures)
     (not-past (a .store) (a .nodes .now) (a .lookup .now) (a .item) (a .zero) (a .one) _ (p .0) (p .1 .2) (p .1 .3) ((c .before) .probe .ensures) (c .if1 .taken))
 
@@ -79,9 +38,11 @@ same-length-4 c = search needs
 
 returns-2 : tie.Need-returns-2
 returns-2 c =
-    let a = (start·Then3 c) .args in
-    let p = (start·Then3 c) .pre in
-    made-full (a .store) (a .nodes .now) (a .lookup .now) (a .item) (a .zero) (a .one) _ (p .0) (p .1 .2) (p .1 .3) ((probe·Then3 c) .probe .ensures) ((c .before) .if2 .taken) (c .if3 .taken)
+    let at-probe : tie.After-probe = search in
+    let at-start : tie.Start = search in
+    let a = at-start .args in
+    let p = at-start .pre in
+    made-full (a .store) (a .nodes .now) (a .lookup .now) (a .item) (a .zero) (a .one) _ (p .0) (p .1 .2) (p .1 .3) (at-probe .probe .ensures) ((c .before) .if2 .taken) (c .if3 .taken)
 
 enter-requires : tie.Need-enter-requires
 enter-requires c κs = search needs
@@ -93,17 +54,26 @@ add-t28 : tie.Need-add-t28
 add-t28 c = search needs
 
 same-length-5 : tie.Need-same-length-5
-same-length-5 c = (enter·After-appended c) .enter .kept .0
+same-length-5 c =
+    let at-enter : tie.After-enter = search in
+    at-enter .enter .kept .0
 
 same-length-6 : tie.Need-same-length-6
-same-length-6 c = (enter·After-appended c) .enter .kept .1 .0
+same-length-6 c =
+    let at-enter : tie.After-enter = search in
+    at-enter .enter .kept .1 .0
 
 returns-3 : tie.Need-returns-3
 returns-3 c =
-    let a = (start·After-appended c) .args in
-    let p = (start·After-appended c) .pre in
-    made-new (a .store) (a .nodes .now) (a .lookup .now) (a .item) (a .zero) (a .one) _ (p .0) (p .1 .2) (p .1 .3) ((probe·After-appended c) .probe .ensures)
-    (c .appended .result) ((enter·After-appended c) .enter .last .0) ((enter·After-appended c) .enter .last .1 .0) (c .appended .ensures .0) (c .appended .ensures .1) ((enter·After-appended c) .enter .ensures .0) ((enter·After-appended c) .enter .ensures .1) ((if2·After-appended c) .if2 .taken) ((if3·After-appended c) .if3 .left)
+    let at-enter : tie.After-enter = search in
+    let at-if3 : tie.Else3 = search in
+    let at-if2 : tie.Then2 = search in
+    let at-probe : tie.After-probe = search in
+    let at-start : tie.Start = search in
+    let a = at-start .args in
+    let p = at-start .pre in
+    made-new (a .store) (a .nodes .now) (a .lookup .now) (a .item) (a .zero) (a .one) _ (p .0) (p .1 .2) (p .1 .3) (at-probe .probe .ensures)
+    (c .appended .result) (at-enter .enter .last .0) (at-enter .enter .last .1 .0) (c .appended .ensures .0) (c .appended .ensures .1) (at-enter .enter .ensures .0) (at-enter .enter .ensures .1) (at-if2 .if2 .taken) (at-if3 .if3 .left)
 
 same-length-7 : tie.Need-same-length-7
 same-length-7 c = search needs
@@ -113,10 +83,12 @@ same-length-8 c = search needs
 
 returns-4 : tie.Need-returns-4
 returns-4 c =
-    let a = (start·Then4 c) .args in
-    let p = (start·Then4 c) .pre in
-    made-damaged (a .store) (a .nodes .now) (a .lookup .now) (a .item) (a .zero) (a .one) _ (p .0) (p .1 .2) (p .1 .3) ((probe·Then4 c) .probe .ensures)
-    (not-one (a .store) (a .nodes .now) (a .lookup .now) (a .item) (a .zero) (a .one) _ (p .0) (p .1 .2) (p .1 .3) ((probe·Then4 c) .probe .ensures) ((c .before) .if2 .left) (c .if4 .taken))
+    let at-probe : tie.After-probe = search in
+    let at-start : tie.Start = search in
+    let a = at-start .args in
+    let p = at-start .pre in
+    made-damaged (a .store) (a .nodes .now) (a .lookup .now) (a .item) (a .zero) (a .one) _ (p .0) (p .1 .2) (p .1 .3) (at-probe .probe .ensures)
+    (not-one (a .store) (a .nodes .now) (a .lookup .now) (a .item) (a .zero) (a .one) _ (p .0) (p .1 .2) (p .1 .3) (at-probe .probe .ensures) ((c .before) .if2 .left) (c .if4 .taken))
 
 add-if5 : tie.Need-add-if5
 add-if5 c = search needs
@@ -129,10 +101,12 @@ same-length-10 c = search needs
 
 returns-5 : tie.Need-returns-5
 returns-5 c =
-    let a = (start·Then5 c) .args in
-    let p = (start·Then5 c) .pre in
-    made-damaged (a .store) (a .nodes .now) (a .lookup .now) (a .item) (a .zero) (a .one) _ (p .0) (p .1 .2) (p .1 .3) ((probe·Then5 c) .probe .ensures)
-    (not-above (a .store) (a .nodes .now) (a .lookup .now) (a .item) (a .zero) (a .one) _ (p .0) (p .1 .2) (p .1 .3) ((probe·Then5 c) .probe .ensures) ((c .before .before) .if2 .left) (c .if5 .taken))
+    let at-probe : tie.After-probe = search in
+    let at-start : tie.Start = search in
+    let a = at-start .args in
+    let p = at-start .pre in
+    made-damaged (a .store) (a .nodes .now) (a .lookup .now) (a .item) (a .zero) (a .one) _ (p .0) (p .1 .2) (p .1 .3) (at-probe .probe .ensures)
+    (not-above (a .store) (a .nodes .now) (a .lookup .now) (a .item) (a .zero) (a .one) _ (p .0) (p .1 .2) (p .1 .3) (at-probe .probe .ensures) ((c .before .before) .if2 .left) (c .if5 .taken))
 
 same-length-11 : tie.Need-same-length-11
 same-length-11 c = search needs
@@ -142,9 +116,11 @@ same-length-12 c = search needs
 
 returns-6 : tie.Need-returns-6
 returns-6 c =
-    let a = (start·Else5 c) .args in
-    let p = (start·Else5 c) .pre in
-    made-found (a .store) (a .nodes .now) (a .lookup .now) (a .item) (a .zero) (a .one) _ (p .0) (p .1 .2) (p .1 .3) ((probe·Else5 c) .probe .ensures) ((c .before .before) .if2 .left) (c .if5 .left)
+    let at-probe : tie.After-probe = search in
+    let at-start : tie.Start = search in
+    let a = at-start .args in
+    let p = at-start .pre in
+    made-found (a .store) (a .nodes .now) (a .lookup .now) (a .item) (a .zero) (a .one) _ (p .0) (p .1 .2) (p .1 .3) (at-probe .probe .ensures) ((c .before .before) .if2 .left) (c .if5 .left)
 
 pub make-spec : {M : Type 1} → statement M
 make-spec =

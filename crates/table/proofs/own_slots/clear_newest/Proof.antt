@@ -18,21 +18,6 @@ Inv-loop nodes lookup₀ keep count k₀ lookup k =
 abbrev μ-loop : tie.MeasureT-loop
 μ-loop nodes lookup₀ keep count k₀ lookup k = k
 
-abbrev start·Then1 : tie.Then1 Inv-loop μ-loop → tie.Start Inv-loop μ-loop
-start·Then1 c = c .before .before .before .before .before .before .before
-
-abbrev loop·Then1 : tie.Then1 Inv-loop μ-loop → tie.At-loop Inv-loop μ-loop
-loop·Then1 c = c .before .before .before .before
-
-abbrev start·Else1 : tie.Else1 Inv-loop μ-loop → tie.Start Inv-loop μ-loop
-start·Else1 c = c .before .before .before .before .before .before .before
-
-abbrev loop·Else1 : tie.Else1 Inv-loop μ-loop → tie.At-loop Inv-loop μ-loop
-loop·Else1 c = c .before .before .before .before
-
-abbrev start·After-loop : tie.After-loop Inv-loop μ-loop → tie.Start Inv-loop μ-loop
-start·After-loop c = c .before .before .before .before
-
 loop-holds : tie.Need-loop-holds Inv-loop μ-loop
 loop-holds c = search needs
 
@@ -53,8 +38,10 @@ loop-less c = search needs
 
 loop-again : tie.Need-loop-again Inv-loop μ-loop
 loop-again c =
-    let a = (start·Then1 c) .args in
-    let l = (loop·Then1 c) .loop in (
+    let at-loop : tie.At-loop Inv-loop μ-loop = search in
+    let at-start : tie.Start Inv-loop μ-loop = search in
+    let a = at-start .args in
+    let l = at-loop .loop in (
       search needs,
       search needs,
       length-set (l .lookup) _ 0 ∙ l .inv .2,
@@ -68,8 +55,10 @@ loop-less-2 c = search needs
 
 loop-again-2 : tie.Need-loop-again-2 Inv-loop μ-loop
 loop-again-2 c =
-    let a = (start·Else1 c) .args in
-    let l = (loop·Else1 c) .loop in (
+    let at-loop : tie.At-loop Inv-loop μ-loop = search in
+    let at-start : tie.Start Inv-loop μ-loop = search in
+    let a = at-start .args in
+    let l = at-loop .loop in (
       search needs,
       search needs,
       l .inv .2,
@@ -80,7 +69,9 @@ same-length : tie.Need-same-length Inv-loop μ-loop
 same-length c = (c .before) .loop .inv .2
 
 returns : tie.Need-returns Inv-loop μ-loop
-returns c = let a = (start·After-loop c) .args in let l = (c .before) .loop in sym (cleared-none (a .nodes .now) (l .lookup) (a .keep) (l .k) (c .loop-test .left)) ∙ l .inv .3
+returns c =
+    let at-start : tie.Start Inv-loop μ-loop = search in
+    let a = at-start .args in let l = (c .before) .loop in sym (cleared-none (a .nodes .now) (l .lookup) (a .keep) (l .k) (c .loop-test .left)) ∙ l .inv .3
 
 pub clear-newest-spec : {M : Type 1} → statement M
 clear-newest-spec =

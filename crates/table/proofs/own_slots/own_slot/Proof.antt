@@ -6,9 +6,6 @@ use borrow.Author.Needs.{needs}
 use Rattle.table.proofs.own_slots.own_slot.Statement.{statement}
 use Rattle.table.proofs.own_slots.own_slot.Tie as tie
 
-abbrev if1·After-probe : tie.After-probe → tie.Else1
-if1·After-probe c = c .before .before .before .before
-
 mul-base : tie.Need-mul-base
 mul-base c = search needs
 
@@ -46,7 +43,9 @@ probe-requires : tie.Need-probe-requires
 probe-requires c κs = search needs
 
 returns-3 : tie.Need-returns-3
-returns-3 c = c .probe .ensures ∙ sym (own-search _ _ _ ((if1·After-probe c) .if1 .left) ((c .before .before .before) .if2 .left))
+returns-3 c =
+    let at-if1 : tie.Else1 = search in
+    c .probe .ensures ∙ sym (own-search _ _ _ (at-if1 .if1 .left) ((c .before .before .before) .if2 .left))
 
 pub own-slot-spec : {M : Type 1} → statement M
 own-slot-spec =

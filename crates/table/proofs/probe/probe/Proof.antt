@@ -24,24 +24,6 @@ Inv-loop nodes lookup count item zero one length slot₀ left₀ slot left =
 abbrev μ-loop : tie.MeasureT-loop
 μ-loop nodes lookup count item zero one length slot₀ left₀ slot left = left
 
-abbrev start·After-next-slot : tie.After-next-slot Inv-loop μ-loop → tie.Start Inv-loop μ-loop
-start·After-next-slot c = c .before .before .before .before .before .before .before .before .before
-
-abbrev loop·After-next-slot : tie.After-next-slot Inv-loop μ-loop → tie.At-loop Inv-loop μ-loop
-loop·After-next-slot c = c .before .before .before .before .before
-
-abbrev if1·After-next-slot : tie.After-next-slot Inv-loop μ-loop → tie.Else1 Inv-loop μ-loop
-if1·After-next-slot c = c .before .before .before .before
-
-abbrev start·Then1 : tie.Then1 Inv-loop μ-loop → tie.Start Inv-loop μ-loop
-start·Then1 c = c .before .before .before .before .before
-
-abbrev start·Then2 : tie.Then2 Inv-loop μ-loop → tie.Start Inv-loop μ-loop
-start·Then2 c = c .before .before .before .before .before .before .before .before
-
-abbrev loop·Then2 : tie.Then2 Inv-loop μ-loop → tie.At-loop Inv-loop μ-loop
-loop·Then2 c = c .before .before .before .before
-
 -- what stops the search, slot by slot
 abbrev stop : List ℕ → List ℕ → ℕ → ℕ → ℕ → ℕ → ℕ → Bool
 stop nodes lookup count item z o x = stopOn nodes count item z o (getD lookup x 0)
@@ -77,25 +59,31 @@ loop-less c = search needs
 
 loop-again : tie.Need-loop-again Inv-loop μ-loop
 loop-again c =
-    let a = (start·After-next-slot c) .args in
-    let l = (loop·After-next-slot c) .loop in
+    let at-if1 : tie.Else1 Inv-loop μ-loop = search in
+    let at-loop : tie.At-loop Inv-loop μ-loop = search in
+    let at-start : tie.Start Inv-loop μ-loop = search in
+    let a = at-start .args in
+    let l = at-loop .loop in
     let f = stop (a .nodes .now) (a .lookup .now) (a .count) (a .item) (a .zero) (a .one) in (
       rw (c .next-slot .ensures) (after-lt _ _ (l .inv .0)),
       omega arith,
       refl,
-      rw (c .next-slot .ensures) (sym (left-miss f _ (l .left) (l .slot) ((if1·After-next-slot c) .if1 .left) (sym ((c .before .before) .stops .ensures) ∙ (c .before) .if2 .left)) ∙ l .inv .3),
+      rw (c .next-slot .ensures) (sym (left-miss f _ (l .left) (l .slot) (at-if1 .if1 .left) (sym ((c .before .before) .stops .ensures) ∙ (c .before) .if2 .left)) ∙ l .inv .3),
     )
 
 returns : tie.Need-returns Inv-loop μ-loop
 returns c =
-    let a = (start·Then1 c) .args in
+    let at-start : tie.Start Inv-loop μ-loop = search in
+    let a = at-start .args in
     let l = (c .before) .loop in
     sym (left-none (stop (a .nodes .now) (a .lookup .now) (a .count) (a .item) (a .zero) (a .one)) _ (l .left) (l .slot) (c .if1 .taken)) ∙ l .inv .3
 
 returns-2 : tie.Need-returns-2 Inv-loop μ-loop
 returns-2 c =
-    let a = (start·Then2 c) .args in
-    let l = (loop·Then2 c) .loop in
+    let at-loop : tie.At-loop Inv-loop μ-loop = search in
+    let at-start : tie.Start Inv-loop μ-loop = search in
+    let a = at-start .args in
+    let l = at-loop .loop in
     sym (left-hit (stop (a .nodes .now) (a .lookup .now) (a .count) (a .item) (a .zero) (a .one)) _ (l .left) (l .slot) ((c .before .before .before) .if1 .left) (sym ((c .before) .stops .ensures) ∙ c .if2 .taken)) ∙ l .inv .3
 
 pub probe-spec : {M : Type 1} → statement M

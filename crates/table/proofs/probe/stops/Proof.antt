@@ -7,18 +7,6 @@ use borrow.Author.Needs.{needs}
 use Rattle.table.proofs.probe.stops.Statement.{statement}
 use Rattle.table.proofs.probe.stops.Tie as tie
 
-abbrev if1·Then4 : tie.Then4 → tie.Else1
-if1·Then4 c = c .before .before .before .before .before
-
-abbrev if2·Then4 : tie.Then4 → tie.Else2
-if2·Then4 c = c .before .before .before .before
-
-abbrev if1·After-shared-slice-known3 : tie.After-shared-slice-known3 → tie.Else1
-if1·After-shared-slice-known3 c = c .before .before .before .before .before .before
-
-abbrev if2·After-shared-slice-known3 : tie.After-shared-slice-known3 → tie.Else2
-if2·After-shared-slice-known3 c = c .before .before .before .before .before
-
 returns : tie.Need-returns
 returns c = sym (stop-low _ _ _ _ _ _ (c .if1 .taken))
 
@@ -53,7 +41,10 @@ shared-slice-read-if4 : tie.Need-shared-slice-read-if4
 shared-slice-read-if4 c = search needs
 
 returns-4 : tie.Need-returns-4
-returns-4 c = sym (stop-zero _ _ _ _ _ _ ((if1·Then4 c) .if1 .left) ((if2·Then4 c) .if2 .left) ((c .before .before) .if3 .left) (c .if4 .taken))
+returns-4 c =
+    let at-if2 : tie.Else2 = search in
+    let at-if1 : tie.Else1 = search in
+    sym (stop-zero _ _ _ _ _ _ (at-if1 .if1 .left) (at-if2 .if2 .left) ((c .before .before) .if3 .left) (c .if4 .taken))
 
 add-result : tie.Need-add-result
 add-result c = search needs
@@ -65,7 +56,10 @@ shared-slice-read-result : tie.Need-shared-slice-read-result
 shared-slice-read-result c = search needs
 
 returns-5 : tie.Need-returns-5
-returns-5 c = sym (stop-one _ _ _ _ _ _ ((if1·After-shared-slice-known3 c) .if1 .left) ((if2·After-shared-slice-known3 c) .if2 .left) ((c .before .before .before) .if3 .left) ((c .before) .if4 .left))
+returns-5 c =
+    let at-if2 : tie.Else2 = search in
+    let at-if1 : tie.Else1 = search in
+    sym (stop-one _ _ _ _ _ _ (at-if1 .if1 .left) (at-if2 .if2 .left) ((c .before .before .before) .if3 .left) ((c .before) .if4 .left))
 
 pub stops-spec : {M : Type 1} → statement M
 stops-spec =

@@ -8,9 +8,6 @@ use borrow.Author.Needs.{needs}
 use Rattle.table.proofs.start.start_slot.Statement.{statement}
 use Rattle.table.proofs.start.start_slot.Tie as tie
 
-abbrev times-65599·After-wrapping-add-u322 : tie.After-wrapping-add-u322 → tie.After-times-65599
-times-65599·After-wrapping-add-u322 c = c .before .before .before .before
-
 times-65599-requires : tie.Need-times-65599-requires
 times-65599-requires c κs = search needs
 
@@ -34,7 +31,8 @@ rem-result c = search needs
 
 returns : tie.Need-returns
 returns c =
-    start-steps _ _ _ _ _ _ _ _ _ ((times-65599·After-wrapping-add-u322 c) .times-65599 .ensures) ((c .before .before .before) .wrapping-add-u32 .ensures) ((c .before .before) .mix .ensures) ((c .before) .times-655992 .ensures) (c .wrapping-add-u322 .ensures)
+    let at-times-65599 : tie.After-times-65599 = search in
+    start-steps _ _ _ _ _ _ _ _ _ (at-times-65599 .times-65599 .ensures) ((c .before .before .before) .wrapping-add-u32 .ensures) ((c .before .before) .mix .ensures) ((c .before) .times-655992 .ensures) (c .wrapping-add-u322 .ensures)
 
 pub start-slot-spec : {M : Type 1} → statement M
 start-slot-spec =

@@ -6,9 +6,6 @@ use borrow.Author.Needs.{needs}
 use Rattle.store.proofs.record.Store.fits.Statement.{statement}
 use Rattle.store.proofs.record.Store.fits.Tie as tie
 
-abbrev capacity-of·After-struct-known3 : tie.After-struct-known3 → tie.After-capacity-of
-capacity-of·After-struct-known3 c = c .before .before .before .before .before
-
 capacity-of-requires : tie.Need-capacity-of-requires
 capacity-of-requires c κs = search needs
 
@@ -22,7 +19,9 @@ returns-2 : tie.Need-returns-2
 returns-2 c = sym (not-longer _ _ _ _ (c .if2 .taken))
 
 returns-3 : tie.Need-returns-3
-returns-3 c = sym (last-test _ _ _ _ ((c .before .before .before) .if1 .left ∙ (capacity-of·After-struct-known3 c) .capacity-of .ensures) ((c .before) .if2 .left))
+returns-3 c =
+    let at-capacity-of : tie.After-capacity-of = search in
+    sym (last-test _ _ _ _ ((c .before .before .before) .if1 .left ∙ at-capacity-of .capacity-of .ensures) ((c .before) .if2 .left))
 
 pub fits-spec : {M : Type 1} → statement M
 fits-spec = tie.close (tie.spec capacity-of-requires returns cast-if2 returns-2 returns-3)
