@@ -2,15 +2,14 @@
 -- A held family has the place where it first stands, an absent one the book's length; so appending keeps every number, and the number of F after adding F is its number before.
 use Prim.Native.Nat.{ℕ, zero, suc, _+_, _≤_, _<_}
 use mathlib.Core.Path.{_≡_, refl, sym, ap, _∙_}
-use mathlib.Core.Bool.{Bool, true, false, cond, decide, decide-iff}
+use mathlib.Core.Bool.{true, false, decide, decide-iff}
 use mathlib.Core.List.{List, [], _∷_, _++_, append-assoc, append-nil}
 use native.Mathlib.Decide.{ℕ-discrete}
 use native.Mathlib.Omega.{arith}
-use lib.Dec.{ltb}
-use lib.ListN.{length, getD, length-append, List·getD-append}
+use lib.ListN.{length, length-append, List·getD-append}
 use lib.Seq.{getD-append-seam}
 use borrow.Author.Tests.{lt-ltb, le-ltb}
-use Rattle.family.specs.Family.{Family, empty, base, node, Family-discrete, Within, top}
+use Rattle.family.specs.Family.{Family, empty, base, node, Family-discrete, Within}
 use Rattle.family.specs.Book.{start, same, at, number, Held, held, add, Grown, Book}
 use Rattle.words.proofs.Cases.{by-test, by-lt, clash}
 

@@ -2,11 +2,11 @@
 -- All three are one operation by level with a rule f on memberships, so each law is proved once, for every f that leaves out what neither family has.
 use mathlib.Core.Path.{_≡_, refl, sym, ap, ap₂, _∙_}
 use Prim.Native.Nat.{ℕ, zero, suc, _≤_, _<_, max}
-use mathlib.Core.Bool.{Bool, true, false, _&&_, _||_, and-false, or-false, and-true, or-self, and-self, and-not-self}
+use mathlib.Core.Bool.{Bool, false, _&&_, _||_, and-false, or-false, and-true, or-self, and-self, and-not-self}
 use mathlib.Core.List.{List, [], _∷_}
 use native.Mathlib.Omega.{arith}
 use borrow.Author.Tests.{eq-eqb}
-use Rattle.family.specs.Family.{Family, empty, base, node, top, Ordered, Within, has, mk}
+use Rattle.family.specs.Family.{Family, empty, node, top, Ordered, Within, has, mk}
 use Rattle.family.specs.Operation.{lacking, holding, isBase, leaf, apply, combine, union, intsec, diff, minus}
 use Rattle.words.proofs.Cases.{by-eq}
 use Rattle.family.proofs.Diagrams.{within-self, within-more, within-leaf, within-mk, within-lacking, within-holding, lacking-above, holding-above, has-mk, has-sides, leaf-nil, leaf-cons, is-leaf}

@@ -3,12 +3,11 @@
 use Prim.Native.Nat.{ℕ, zero, suc, _^_}
 use mathlib.Core.Path.{_≡_, refl}
 use mathlib.Core.Bool.{decide}
-use mathlib.Core.List.{List, [], _∷_}
-use mathlib.Core.Option.{Option, none, some}
-use native.Mathlib.Decide.{ℕ-discrete}
+use mathlib.Core.List.{[], _∷_}
+use mathlib.Core.Option.{none, some}
 use Rattle.family.specs.Family.{Family, empty, base, node, members, size, parts}
 use Rattle.family.specs.Operation.{subset1, subset0, change, union, intsec, diff, combine}
-use Rattle.family.specs.Book.{start, same, number, add, place}
+use Rattle.family.specs.Book.{start, same, add, place}
 use Rattle.family.specs.Record.{mapOf, recordBytes, readFields, readRecord}
 use Rattle.family.specs.File.{fileOf, familyOf, fileOfBook, readParts, lastOf, fits}
 

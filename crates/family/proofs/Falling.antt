@@ -1,13 +1,13 @@
 -- Combinations as falling lists: which items they hold decides them, and what taking an item out leaves, and putting one in.
 -- A falling list holds nothing above its first item, so two of them with the same items agree from the front on.
-use Prim.Native.Nat.{ℕ, zero, suc, max, _≤_, _<_}
+use Prim.Native.Nat.{ℕ, max, _≤_, _<_}
 use mathlib.Core.Path.{_≡_, refl, sym, ap, _∙_}
-use mathlib.Core.Bool.{Bool, true, false, cond, not, _&&_, _||_, or-false}
+use mathlib.Core.Bool.{Bool, true, false, not, _&&_, _||_}
 use mathlib.Core.List.{List, [], _∷_}
 use native.Mathlib.Omega.{arith}
 use lib.Dec.{eqb}
 use borrow.Author.Tests.{eq-eqb, ne-eqb}
-use Rattle.family.specs.Combination.{largest, Falling, Combined, holds, insert, remove}
+use Rattle.family.specs.Combination.{largest, Falling, holds, insert, remove}
 use Rattle.words.proofs.Cases.{by-eq, by-lt, by-order, clash}
 
 pub holds-high : (v : ℕ) (c : List ℕ) → Falling c → largest c < v → holds v c ≡ false

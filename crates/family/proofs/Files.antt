@@ -1,8 +1,8 @@
 -- The file of a family and the family of a file belong together: reading gives F exactly for the bytes that are F's file.
 -- The bytes give a local book and that book gives the bytes; the order walk says that the book is what placing its last family gives.
-use Prim.Native.Nat.{ℕ, zero, suc, _+_, _-_, _<_, _≤_}
+use Prim.Native.Nat.{ℕ, suc, _+_, _-_, _<_, _≤_}
 use mathlib.Core.Path.{_≡_, refl, sym, ap, _∙_}
-use mathlib.Core.Bool.{Bool, true, false, cond, _&&_}
+use mathlib.Core.Bool.{cond, _&&_}
 use mathlib.Core.List.{List, [], _∷_, _++_, append-assoc, append-nil}
 use mathlib.Core.Option.{Option, none, some}
 use mathlib.Core.Logic.{_↔_}
@@ -10,9 +10,9 @@ use native.Mathlib.Omega.{arith}
 use lib.Dec.{eqb, ltb}
 use lib.ListN.{length, drop}
 use borrow.Author.Tests.{lt-ltb, eq-eqb, eqb-true, ltb-true}
-use Rattle.family.specs.Family.{Family, empty, base, node, top, Ordered, Within}
+use Rattle.family.specs.Family.{Family, empty, base, node, Within}
 use Rattle.family.specs.Book.{start, at, number, Held, place, Grown, Book}
-use Rattle.family.specs.Record.{Bytes, Front, front, then, bytesOf, readNumber, Triple, itemOf, recordBytes}
+use Rattle.family.specs.Record.{Bytes, front, bytesOf, readNumber, Triple, itemOf, recordBytes}
 use Rattle.family.specs.File.{triplesOf, recordsBytes, fileOfBook, fileOf, HasFile, readRecords, andThen, order, lastOf, readParts, alone, familyOf}
 use Rattle.words.proofs.Cases.{by-eq, by-lt, and-inv}
 use Rattle.family.proofs.Books.{number-empty, number-base, number-at, grown-self, held-back, start-node, book-start}

@@ -4,10 +4,10 @@ use Prim.Native.Nat.{ℕ, zero, suc, _+_, _-_, _≤_, _<_}
 use mathlib.Core.Path.{_≡_, refl, sym, ap, _∙_}
 use mathlib.Core.List.{List, [], _∷_, _++_, append-assoc, append-nil}
 use native.Mathlib.Omega.{arith}
-use lib.ListN.{length, getD, drop, length-append, length-drop, drop-of-length-le}
+use lib.ListN.{length, getD, drop, length-drop, drop-of-length-le}
 use lib.Seq.{drop-cons, drop-append-le, getD-drop}
-use Rattle.family.specs.Family.{Family, empty, base, node, top, withoutSide, withSide}
-use Rattle.family.specs.Book.{start, at, number, Held, Grown, Book}
+use Rattle.family.specs.Family.{Family, empty, node, top, withoutSide, withSide}
+use Rattle.family.specs.Book.{at, number, Held, Grown, Book}
 use Rattle.family.specs.Record.{Triple, triple, itemOf, recordBytes}
 use Rattle.family.specs.File.{triplesOf, recordsBytes}
 use Rattle.words.proofs.Cases.{by-lt}

@@ -1,17 +1,16 @@
 -- The list of members: its length is the size, no combination stands in it twice, and it holds exactly the combinations that `has` says yes to.
 -- Each is an induction on the family; the two halves of a node's list differ in the item in front.
-use Prim.Native.Nat.{ℕ, _≤_, _<_}
-use mathlib.Core.Path.{_≡_, refl, sym, ap, _∙_}
+use Prim.Native.Nat.{ℕ}
+use mathlib.Core.Path.{_≡_, refl}
 use mathlib.Core.Logic.{_↔_, ⊎-elim, ∥∥₁-elim}
 use mathlib.Core.HLevel.{⊥-prop, ¬-prop}
-use mathlib.Core.Bool.{Bool, true, false}
-use mathlib.Core.List.{List, [], _∷_, _++_, map, List·Memᴰ, List·Memᴰ·head, List·Memᴰ·not-nil, List·Memᴰ·append-cases, List·Memᴰ·eq-of-singleton, List·Mem, List·Nodup, Pairwise·nil, Pairwise·cons, Pairwise·map, nodup-append, not-mem-nil, tail-eq-of-cons-eq, Memᴰ·append-left, Memᴰ·append-right, Memᴰ·map, Memᴰ·of-map}
+use mathlib.Core.Bool.{true}
+use mathlib.Core.List.{List, [], _∷_, map, List·Memᴰ, List·Memᴰ·head, List·Memᴰ·not-nil, List·Memᴰ·append-cases, List·Memᴰ·eq-of-singleton, List·Mem, List·Nodup, Pairwise·nil, Pairwise·cons, Pairwise·map, nodup-append, not-mem-nil, tail-eq-of-cons-eq, Memᴰ·append-left, Memᴰ·append-right, Memᴰ·map, Memᴰ·of-map}
 use native.Mathlib.Omega.{arith}
 use borrow.Author.Tests.{eq-eqb}
-use lib.Dec.{eqb}
 use lib.ListN.{length, length-append, length-map}
-use Rattle.family.specs.Family.{Family, empty, base, node, top, Ordered, has, members, size}
-use Rattle.words.proofs.Cases.{by-test, by-eq, clash}
+use Rattle.family.specs.Family.{Family, empty, base, node, Ordered, has, members, size}
+use Rattle.words.proofs.Cases.{by-eq, clash}
 use Rattle.family.proofs.Diagrams.{has-above}
 
 pub size-members : (F : Family) → length (members F) ≡ size F

@@ -6,11 +6,11 @@ use mathlib.Core.Bool.{Bool, true, false, cond}
 use mathlib.Core.List.{List, [], _∷_, _++_, append-assoc, append-nil}
 use mathlib.Core.Option.{Option, none, some}
 use native.Mathlib.Omega.{arith}
-use lib.Dec.{eqb, ltb}
+use lib.Dec.{eqb}
 use lib.ListN.{length, length-append}
 use lib.Seq.{getD-append-seam}
 use borrow.Author.Tests.{eq-eqb, eqb-true}
-use Rattle.family.specs.Family.{Family, empty, base, node, top, Ordered, Within}
+use Rattle.family.specs.Family.{Family, empty, base, node, Ordered, Within}
 use Rattle.family.specs.Book.{at, number, Held, add, place, Grown, Book}
 use Rattle.family.specs.File.{andThen, order}
 use Rattle.words.proofs.Cases.{by-lt}

@@ -8,10 +8,9 @@ use native.Mathlib.Omega.{arith}
 use lib.Dec.{T}
 use lib.ListN.{length, drop, length-append}
 use Rattle.family.specs.Family.{Family, empty, base, node, Ordered, Within, top, mk, parts}
-use Rattle.family.specs.Book.{start, at, number, Held, add, place, made, Grown, Book}
+use Rattle.family.specs.Book.{start, number, Held, add, place, made, Grown, Book}
 use Rattle.words.proofs.Cases.{by-lt}
-use Rattle.family.proofs.Diagrams.{within-more, within-self}
-use Rattle.family.proofs.Books.{number-le, number-add, add-same, add-new, add-grown, add-held, by-added, grown-self, grown-trans, grown-length, grown-number, grown-held, start-node, held-empty, held-base, book-add}
+use Rattle.family.proofs.Books.{number-le, number-add, add-same, add-new, add-grown, add-held, by-added, grown-self, grown-trans, grown-length, grown-held, start-node, held-empty, held-base, book-add}
 
 pub place-parts : (B : List Family) (F : Family) → place B F ≡ foldl add B (parts F)
 place-parts B empty = refl

@@ -2,17 +2,17 @@
 -- A triple is taken exactly when its node is the book's next one, so each step adds one node to a book within the limit.
 use Prim.Native.Nat.{ℕ, zero, suc, _+_, _<_, _≤_}
 use mathlib.Core.Path.{_≡_, refl, sym, ap, _∙_}
-use mathlib.Core.Bool.{Bool, true, false, cond, not, _&&_}
+use mathlib.Core.Bool.{true, cond}
 use mathlib.Core.List.{List, [], _∷_, _++_, append-assoc, append-nil}
 use mathlib.Core.Option.{Option, none, some}
 use native.Mathlib.Omega.{arith}
-use lib.Dec.{T, ltb, leb}
+use lib.Dec.{T, leb}
 use lib.ListN.{length, length-append}
 use lib.Seq.{getD-append-seam}
 use borrow.Author.Tests.{lt-ltb, le-ltb, le-leb, ltb-true, ltb-false, leb-true, not-true}
-use Rattle.family.specs.Family.{Family, empty, base, node, top, inhabited, Ordered, Within}
-use Rattle.family.specs.Book.{at, number, Held, held, add, Grown, Book}
-use Rattle.family.specs.Record.{Bytes, Front, front, then, Triple, triple, itemOf, recordBytes, readRecord}
+use Rattle.family.specs.Family.{Family, empty, base, node, top, inhabited, Within}
+use Rattle.family.specs.Book.{at, number, Held, Grown, Book}
+use Rattle.family.specs.Record.{Bytes, front, Triple, triple, itemOf, recordBytes, readRecord}
 use Rattle.family.specs.File.{triplesOf, recordsBytes, nodeOf, fits, readRecords}
 use Rattle.words.proofs.Cases.{by-lt, and-inv}
 use Rattle.family.proofs.Books.{number-at, grown-number, grown-held, held-back, held-at, add-new, number-empty, number-base, two-long, book-add}

@@ -1,12 +1,12 @@
 -- Records: what is written is read back, and what is read was written exactly so; hence the code is canonical and no record is the beginning of another.
 -- One law over the number of bytes serves fields of two and of four; a record is three fields after a map byte of three bits.
 use Prim.Native.Nat.{ℕ, zero, suc, _+_, _*_, _/_, _%_, _<_}
-use mathlib.Core.Path.{_≡_, refl, sym, ap, _∙_}
-use mathlib.Core.Bool.{Bool, true, false, cond, not}
+use mathlib.Core.Path.{_≡_, refl, sym, ap}
+use mathlib.Core.Bool.{Bool, true, false, cond}
 use mathlib.Core.List.{List, [], _∷_, _++_, append-assoc}
 use mathlib.Core.Option.{Option, none, some}
 use native.Mathlib.Omega.{arith}
-use lib.Dec.{eqb, ltb}
+use lib.Dec.{eqb}
 use borrow.Author.Tests.{lt-ltb, eq-eqb}
 use Rattle.family.specs.Record.{Bytes, Front, front, then, bytesOf, readNumber, stands, field, readField, Triple, triple, bit, mapOf, recordBytes, bit1, bit2, bit4, readFields, readRecord}
 use Rattle.words.proofs.Cases.{by-eq, by-lt}

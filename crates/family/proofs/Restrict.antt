@@ -2,13 +2,13 @@
 -- Each is an induction on the family with three cases, the node's item below, at and above v.
 use mathlib.Core.Path.{_≡_, refl, sym, ap, _∙_}
 use Prim.Native.Nat.{ℕ, _≤_, _<_, max}
-use mathlib.Core.Bool.{Bool, true, false, cond, not, _&&_, and-false}
+use mathlib.Core.Bool.{false, cond, not, _&&_, and-false}
 use mathlib.Core.List.{List, [], _∷_}
 use native.Mathlib.Omega.{arith}
 use lib.Dec.{eqb, ltb}
 use borrow.Author.Tests.{eq-eqb, ne-eqb, lt-ltb, le-ltb}
 use Rattle.family.specs.Family.{Family, empty, base, node, top, Ordered, Within, has, mk}
-use Rattle.family.specs.Combination.{largest, Falling, holds, insert, remove, toggle}
+use Rattle.family.specs.Combination.{largest, Falling, holds, insert, toggle}
 use Rattle.family.specs.Operation.{subset1, subset0, change}
 use Rattle.words.proofs.Cases.{by-test, by-eq, by-lt, by-order}
 use Rattle.family.proofs.Falling.{holds-high}

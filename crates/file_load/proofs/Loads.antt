@@ -1,12 +1,12 @@
 -- Each way out of `load` keeps its promise: refused as damaged, for its scratch or for its bytes, or with the file's family placed.
 -- What the bytes hold decides the promise's own tests, and placing ends as for every call.
-use Prim.Native.Nat.{ℕ, suc, _+_, _*_, _-_, _/_, _≤_, _<_}
-use mathlib.Core.Path.{_≡_, refl, sym, ap, _∙_}
-use mathlib.Core.Bool.{Bool, true, false}
+use Prim.Native.Nat.{ℕ, _+_, _*_, _-_, _/_, _≤_, _<_}
+use mathlib.Core.Path.{_≡_, refl, _∙_}
+use mathlib.Core.Bool.{true, false}
 use mathlib.Core.List.{List}
-use mathlib.Core.Option.{Option, none, some}
+use mathlib.Core.Option.{none, some}
 use native.Mathlib.Omega.{arith}
-use lib.ListN.{length, getD, drop}
+use lib.ListN.{length, getD}
 use borrow.Author.Tests.{lt-ltb, le-ltb}
 use Rattle.family.specs.Family.{Family}
 use Rattle.family.specs.Book.{start, at, place}
@@ -18,18 +18,19 @@ use Rattle.store.specs.declared.record.Refusal.the-variants.{Scratch, NoFile, D
 use Rattle.store.specs.declared.record.PlaceAnswer.the-variants.{Handle, Refused}
 use Rattle.store.specs.declared.record.Placed.{Placed}
 use Rattle.store.specs.Capacity.{fitting}
-use Rattle.store.specs.Words.{itemLimit, bookOf}
+use Rattle.store.specs.Words.{itemLimit}
 use Rattle.store.specs.Promise.{PlaceCall}
-use Rattle.store.specs.Inner.{Roomy, Holds, Kept, Finished}
+use Rattle.store_undo.specs.Inner.{Finished}
+use Rattle.store.specs.Inner.{Roomy, Holds}
 use Rattle.store.proofs.Held.{at-0, at-1}
-use Rattle.store.proofs.Endings.{finished-gave}
-use Rattle.store.proofs.Calls.{call-misfit, call-refused, call-done, fits-roomy}
+use Rattle.store_undo.proofs.Finishing.{finished-gave}
+use Rattle.store_undo.proofs.Done.{call-done}
+use Rattle.store.proofs.Calls.{call-misfit, call-refused, fits-roomy}
 use Rattle.store.proofs.Growing.{kept-roomy}
-use Rattle.op_cache.specs.Inner.{RanPlain}
-use Rattle.op_cache.proofs.Plain.{plain-handle, plain-ran}
+use Rattle.store.proofs.Plain.{plain-handle, plain-ran}
 use Rattle.file_read.specs.declared.file.Content.{Content}
 use Rattle.file_read.specs.declared.file.Content.the-variants.{Leaf, Parts, Bad}
-use Rattle.file_load.specs.Promise.{noFile, found, loadRefusal, loadFamily, LoadCall}
+use Rattle.file_load.specs.Promise.{loadRefusal, loadFamily, LoadCall}
 use Rattle.file_table.specs.Inner.{Local, Nodes}
 use Rattle.file_place.specs.Inner.{PlacedOf}
 use Rattle.file_read.specs.Inner.{Holding, leaf, parts, nothing, ContentOf}

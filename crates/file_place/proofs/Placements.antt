@@ -1,15 +1,14 @@
 -- Each way out of the functions that place the local parts: after k turns the store holds its book with the first k families of the local book added, and the scratch has their handles.
 -- Adding the families of a family's own book, in its order, is placing that family.
-use Prim.Native.Nat.{ℕ, suc, _+_, _*_, _-_, _≤_, _<_}
+use Prim.Native.Nat.{ℕ, _+_, _*_, _-_, _≤_, _<_}
 use mathlib.Core.Path.{_≡_, refl, sym, ap, _∙_}
-use mathlib.Core.List.{List, [], _∷_, _++_, foldl, foldl-append}
+use mathlib.Core.List.{List, [], _∷_, foldl, foldl-append}
 use native.Mathlib.Omega.{arith}
 use native.Mathlib.Numerals.{add-one}
-use lib.Dec.{T}
 use lib.ListN.{length, getD, set, take, drop, length-set, length-drop, take-append-drop}
 use lib.Seq.{take-suc, take-all, getD-drop, getD-set-same, getD-set-other}
 use borrow.Author.Tests.{lt-ltb, le-ltb}
-use Rattle.family.specs.Family.{Family, empty, node, top, inhabited, mk, Within}
+use Rattle.family.specs.Family.{Family, empty, node, Within}
 use Rattle.family.specs.Book.{start, at, add, place, made, Grown}
 use Rattle.family.proofs.Diagrams.{mk-node}
 use Rattle.family.proofs.Books.{add-grown, grown-self, grown-trans, grown-length, grown-at}
@@ -17,16 +16,15 @@ use Rattle.family.proofs.Placing.{place-own}
 use Rattle.words.proofs.Cases.{by-lt, by-eq}
 use Rattle.store.specs.declared.record.Store.{Store}
 use Rattle.store.specs.declared.record.Refusal.{Refusal}
-use Rattle.store.specs.declared.record.PlaceAnswer.{PlaceAnswer}
 use Rattle.store.specs.declared.record.PlaceAnswer.the-variants.{Handle, Refused}
 use Rattle.store.specs.declared.record.Placed.{Placed}
 use Rattle.store.specs.Words.{itemLimit}
-use Rattle.store.specs.Inner.{Roomy, Holds, Handed, Answer, gave, full, Kept, NodeIt}
-use Rattle.store.proofs.Held.{at-0, at-1, inside, within}
+use Rattle.store_node.specs.Inner.{NodeIt}
+use Rattle.store.specs.Inner.{Roomy, Holds, Handed, Answer, gave, Kept}
+use Rattle.store.proofs.Held.{at-0, at-1, within}
 use Rattle.store.proofs.Growing.{kept-self, kept-trans, kept-roomy}
-use Rattle.store_node.proofs.Getting.{handle-is, made-inhabited}
-use Rattle.store.proofs.Endings.{handed-of, refused-on, not-both}
-use Rattle.op_cache.specs.Inner.{RanPlain}
+use Rattle.store.proofs.Answers.{handle-is, handed-of, refused-on, not-both}
+use Rattle.store_node.proofs.Getting.{made-inhabited}
 use Rattle.file_table.specs.Inner.{Local, NodeAt, Nodes}
 use Rattle.file_place.specs.Inner.{handleIn, Handles, PlacedOf}
 

@@ -9,8 +9,7 @@ use Rattle.family.specs.Family.{Family}
 use Rattle.family.specs.Book.{start, at, place}
 use Rattle.store.specs.declared.record.Store.{Store}
 use Rattle.store.specs.declared.record.Placed.{Placed}
-use Rattle.store.specs.Inner.{Kept}
-use Rattle.op_cache.specs.Inner.{RanPlain}
+use Rattle.store.specs.Inner.{Kept, RanPlain}
 use Rattle.file_table.specs.Inner.{Local}
 
 -- the handle in the store of a local number

@@ -2,7 +2,8 @@
 ghost use mathlib.Core.Path.{_≡_};
 ghost use Prim.Native.Nat.{_+_, _*_, _<_, _≤_};
 ghost use lib.ListN.{length, getD};
-ghost use Rattle.store.specs.Inner.{Roomy, NodeIt};
+ghost use Rattle.store_node.specs.Inner.{NodeIt};
+ghost use Rattle.store.specs.Inner.{Roomy};
 ghost use Rattle.file_table.specs.Inner.{NodeAt, Nodes};
 ghost use Rattle.file_place.specs.Inner.{handleIn, Handles, PlacedOf};
 use store_node::getnode::get_node;

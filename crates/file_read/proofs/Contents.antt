@@ -1,23 +1,22 @@
 -- Each way out of `read_parts` and `read_file`: what the bytes hold is the family that the definition reads from them.
 -- Each is one branch of that definition.
-use Prim.Native.Nat.{ℕ, suc, _+_, _*_, _-_, _≤_, _<_}
+use Prim.Native.Nat.{ℕ, _+_, _*_, _-_, _≤_, _<_}
 use mathlib.Core.Path.{_≡_, refl, sym, ap, _∙_}
-use mathlib.Core.Bool.{Bool, true, false, cond, _&&_}
+use mathlib.Core.Bool.{Bool, true, false, cond}
 use mathlib.Core.List.{List, [], _∷_}
 use mathlib.Core.Option.{Option, none, some}
 use native.Mathlib.Omega.{arith}
-use lib.Dec.{eqb, ltb}
+use lib.Dec.{eqb}
 use lib.ListN.{length, getD, drop, length-drop}
-use borrow.Author.Tests.{lt-ltb, le-ltb, eq-eqb, ne-eqb}
+use borrow.Author.Tests.{lt-ltb, le-ltb, ne-eqb}
 use Rattle.family.specs.Family.{Family}
-use Rattle.family.specs.Book.{start, at, place}
+use Rattle.family.specs.Book.{start, at}
 use Rattle.family.specs.Record.{front, readNumber}
-use Rattle.family.specs.File.{andThen, readRecords, lastOf, readParts, alone, familyOf}
+use Rattle.family.specs.File.{andThen, readRecords, lastOf, readParts, familyOf}
 use Rattle.store.specs.Words.{itemLimit}
 use Rattle.file_record.proofs.Taking.{number-short, number-four}
 use Rattle.file_read.specs.declared.file.Content.{Content}
 use Rattle.file_read.specs.declared.file.Content.the-variants.{Leaf, Parts, Bad}
-use Rattle.file_table.specs.Inner.{Local}
 use Rattle.file_read.specs.Inner.{Table, own, no-records, no-order, TableOf, Holding, leaf, parts, nothing, ContentOf}
 
 -- bytes that hold no family

@@ -2,24 +2,24 @@
 -- What is left to read gives what the whole gives, and the local table holds the book so far.
 use Prim.Native.Nat.{ℕ, zero, suc, _+_, _*_, _-_, _≤_, _<_}
 use mathlib.Core.Path.{_≡_, refl, sym, ap, _∙_}
-use mathlib.Core.Bool.{Bool, true, false, cond}
+use mathlib.Core.Bool.{Bool, true, false}
 use mathlib.Core.List.{List, [], _∷_, _++_}
-use mathlib.Core.Option.{Option, none, some}
+use mathlib.Core.Option.{none, some}
 use native.Mathlib.Omega.{arith}
 use lib.Dec.{eqb}
 use lib.ListN.{length, getD, drop, length-drop}
 use borrow.Author.Tests.{eq-eqb, ne-eqb}
 use Rattle.family.specs.Family.{Family, node}
 use Rattle.family.specs.Book.{start, at}
-use Rattle.family.specs.Record.{front, triple, itemOf, readRecord}
-use Rattle.family.specs.File.{nodeOf, fits, readRecords}
+use Rattle.family.specs.Record.{front, triple, readRecord}
+use Rattle.family.specs.File.{fits, readRecords}
 use Rattle.store.specs.Words.{itemLimit}
 use Rattle.file_record.specs.declared.field.Last.{Last}
 use Rattle.file_record.specs.declared.field.Part.{Part}
 use Rattle.file_record.specs.declared.read.Record.{Record}
 use Rattle.file_record.specs.declared.read.Record.the-variants.{Taken, Bad}
 use Rattle.file_record.specs.Inner.{RecordOf}
-use Rattle.file_read.specs.Inner.{Reading, whole, none-such, RecordsOf}
+use Rattle.file_read.specs.Inner.{whole, none-such, RecordsOf}
 use Rattle.file_table.specs.Inner.{Local, Taking, fit, unfit, TakeOf}
 
 -- what a reader said

@@ -1,10 +1,10 @@
 -- Each way out of `read_table`: the records are read into an empty local table, and the walk from the last part tells whether they stand in placing order.
 -- Then the local book is the last family's own book, by the law of that walk.
-use Prim.Native.Nat.{ℕ, suc, _+_, _*_, _-_, _≤_, _<_}
+use Prim.Native.Nat.{ℕ, suc, _+_, _*_, _-_, _≤_}
 use mathlib.Core.Path.{_≡_, refl, sym, ap, _∙_}
 use mathlib.Core.Bool.{Bool, true, false, cond}
 use mathlib.Core.List.{List}
-use mathlib.Core.Option.{Option, none, some}
+use mathlib.Core.Option.{none, some}
 use native.Mathlib.Omega.{arith}
 use native.Mathlib.Numerals.{add-one}
 use lib.Dec.{eqb}
@@ -15,8 +15,8 @@ use Rattle.words.specs.Words.{zeroed}
 use Rattle.words.proofs.Cases.{by-eq}
 use Rattle.words.proofs.Zeroed.{zeros-length, zero-getD, zeroed-length, zeroed-inside, zeroed-after}
 use Rattle.family.specs.Family.{Family}
-use Rattle.family.specs.Book.{start, at, place, Held}
-use Rattle.family.specs.File.{andThen, order, readRecords, lastOf}
+use Rattle.family.specs.Book.{start, at, place}
+use Rattle.family.specs.File.{order, readRecords, lastOf}
 use Rattle.family.proofs.Books.{book-start}
 use Rattle.family.proofs.Orders.{grown-all, order-sound}
 use Rattle.table.specs.Entered.{entered}
@@ -27,7 +27,7 @@ use Rattle.file_read.specs.declared.order.Order.{Order}
 use Rattle.file_read.specs.declared.order.Order.the-variants.{Upto, Broken}
 use Rattle.file_read.specs.Inner.{Reading, whole, none-such, RecordsOf, OrderOf}
 use Rattle.file_table.specs.Inner.{slots, Local, Nodes}
-use Rattle.file_read.specs.Inner.{Table, own, no-records, no-order, TableOf}
+use Rattle.file_read.specs.Inner.{own, no-records, no-order, TableOf}
 use Rattle.file_table.proofs.Slots.{slots-length, slots-read}
 use Rattle.file_read.proofs.Walks.{went-of, broken-of, local-nodes}
 

@@ -2,22 +2,20 @@
 -- A handle's number in the book is the handle, so the tests on handles are the definition's tests on numbers.
 use Prim.Native.Nat.{ℕ, suc, _+_, _*_, _-_, _≤_, _<_}
 use mathlib.Core.Path.{_≡_, refl, sym, ap, _∙_}
-use mathlib.Core.Bool.{true, false, cond}
 use mathlib.Core.List.{List}
-use mathlib.Core.Option.{Option, none, some}
+use mathlib.Core.Option.{none, some}
 use native.Mathlib.Omega.{arith}
-use lib.Dec.{eqb}
-use lib.ListN.{length, getD}
+use lib.ListN.{getD}
 use borrow.Author.Tests.{lt-ltb, le-ltb, eq-eqb, ne-eqb}
 use Rattle.family.specs.Family.{Family, empty, base, node}
 use Rattle.family.specs.Book.{at, number}
-use Rattle.family.specs.File.{andThen, order}
+use Rattle.family.specs.File.{order}
 use Rattle.store.specs.Inner.{Holds}
-use Rattle.store.proofs.Held.{handle-of, at-node, entry, within}
+use Rattle.store.proofs.Held.{handle-of, at-node, within}
 use Rattle.file_read.specs.declared.order.Order.{Order}
 use Rattle.file_read.specs.declared.order.Order.the-variants.{Upto, Broken}
 use Rattle.file_read.specs.Inner.{Walking, went, broken, OrderOf}
-use Rattle.file_table.specs.Inner.{NodeAt, Nodes}
+use Rattle.file_table.specs.Inner.{Nodes}
 
 -- a family that is placed already
 order-placed : (B : List Family) (F : Family) (n : ℕ) → number B F < n → order B F n ≡ some n

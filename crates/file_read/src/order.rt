@@ -1,5 +1,4 @@
 // The placing order of the local parts: from the last one down, each part not yet placed must have the next number.
-ghost use mathlib.Core.Path.{_≡_};
 ghost use Prim.Native.Nat.{_+_, _*_, _<_, _≤_};
 ghost use lib.ListN.{length};
 ghost use Rattle.file_read.specs.Inner.{OrderOf};

@@ -1,5 +1,4 @@
 // Reading the records of a file into the local table.
-ghost use mathlib.Core.Path.{_≡_};
 ghost use Prim.Native.Nat.{_+_, _*_, _<_, _≤_};
 ghost use lib.ListN.{length};
 ghost use Rattle.family.specs.Book.{start};

@@ -2,14 +2,14 @@
 -- Each way out is one branch of the definition; a part of the bytes lent from a place on is what is left after dropping so many.
 use Prim.Native.Nat.{ℕ, zero, suc, _+_, _*_, _-_, _≤_, _<_}
 use mathlib.Core.Path.{_≡_, refl, sym, ap, _∙_}
-use mathlib.Core.Bool.{Bool, true, false, not}
+use mathlib.Core.Bool.{Bool, true, false}
 use mathlib.Core.List.{List, [], _∷_}
-use mathlib.Core.Option.{Option, none, some}
+use mathlib.Core.Option.{none, some}
 use native.Mathlib.Omega.{arith}
 use lib.ListN.{length, getD, take, drop, length-drop}
 use lib.Seq.{take-all, drop-drop}
 use borrow.Author.Tests.{eq-eqb, ne-eqb, lt-ltb, le-ltb}
-use Rattle.family.specs.Record.{Front, front, Triple, triple, readNumber, readField, bit1, bit2, bit4, readFields, readRecord}
+use Rattle.family.specs.Record.{front, triple, readNumber, readField, bit1, bit2, bit4, readFields, readRecord}
 use Rattle.file_record.specs.declared.field.Last.{Last}
 use Rattle.file_record.specs.declared.field.Part.{Part}
 use Rattle.file_record.specs.declared.read.Field.{Field}

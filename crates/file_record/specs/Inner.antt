@@ -1,9 +1,9 @@
 -- What the readers answer, by the definitions of the file. The bytes that a reader took are left out of those that come after.
-use Prim.Native.Nat.{ℕ, _+_, _≤_}
+use Prim.Native.Nat.{ℕ, _≤_}
 use mathlib.Core.Path.{_≡_}
 use mathlib.Core.Bool.{Bool}
 use mathlib.Core.List.{List}
-use mathlib.Core.Option.{Option, none, some}
+use mathlib.Core.Option.{none, some}
 use lib.ListN.{length, drop}
 use Rattle.family.specs.Record.{front, triple, readField, bit1, bit2, bit4, readFields, readRecord}
 use Rattle.file_record.specs.declared.field.Last.{Last}

@@ -1,16 +1,16 @@
 -- Each way out of Save keeps the promise: the trail's parts are those of the family in placing order, its length is the file's, and the file written is the definition's.
 -- On words that hold a book nothing on the way is broken.
-use Prim.Native.Nat.{ℕ, zero, suc, _+_, _*_, _-_, _≤_, _<_}
+use Prim.Native.Nat.{ℕ, _+_, _-_, _≤_, _<_}
 use mathlib.Core.Path.{_≡_, refl, sym, ap, _∙_}
 use mathlib.Core.Bool.{Bool, true, false, cond}
 use mathlib.Core.List.{List, [], _∷_, _++_}
 use native.Mathlib.Omega.{arith}
-use lib.Dec.{eqb, ltb}
-use lib.ListN.{length, getD, set, take, drop, length-set}
-use lib.Seq.{sets, sets-eq}
-use borrow.Author.Tests.{eq-eqb, ne-eqb, lt-ltb, le-ltb}
-use Rattle.family.specs.Family.{Family, empty, base, node, top}
-use Rattle.family.specs.Book.{start, at, number, place}
+use lib.Dec.{eqb}
+use lib.ListN.{length, getD, set, drop}
+use lib.Seq.{sets}
+use borrow.Author.Tests.{ne-eqb}
+use Rattle.family.specs.Family.{Family, empty, base, node}
+use Rattle.family.specs.Book.{start, at, place}
 use Rattle.family.specs.Record.{bytesOf}
 use Rattle.family.specs.File.{triplesOf, recordsBytes, fileOfBook, fileOf}
 use Rattle.words.specs.Words.{zeroed}
@@ -33,7 +33,7 @@ use Rattle.file_trail.specs.declared.walk.Walked.the-variants.{Went, Broken as 
 use Rattle.file_save.specs.declared.SaveAnswer.the-variants.{Length, Refused}
 use Rattle.file_save.specs.declared.Saved.{Saved}
 use Rattle.file_save.specs.Promise.{saveGivenBy, saveRefusal, saveAnswer, saveOutput, SaveCall}
-use Rattle.file_trail.specs.Inner.{TrailFits, Trailed, WalkOf}
+use Rattle.file_trail.specs.Inner.{Trailed, WalkOf}
 use Rattle.file_write.specs.Inner.{Writing, startAt, WritesOf}
 use Rattle.file_save.specs.Inner.{LeafOf, FileOf, PartsOf}
 use Rattle.file_trail.proofs.Trails.{trail-start}

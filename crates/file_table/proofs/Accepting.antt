@@ -1,12 +1,11 @@
 -- Each way out of `is_next` and `take_part`: a part is taken exactly where it fits the local book as its next node.
 -- The tests read tops and numbers off the words, which say what the book says; whether the node is held is the table's answer.
-use Prim.Native.Nat.{ℕ, _+_, _*_, _≤_, _<_}
-use mathlib.Core.Path.{_≡_, refl, sym, ap, _∙_}
+use Prim.Native.Nat.{ℕ, _+_, _≤_, _<_}
+use mathlib.Core.Path.{_≡_, refl}
 use mathlib.Core.Bool.{Bool, true, false}
 use mathlib.Core.List.{List}
 use native.Mathlib.Omega.{arith}
 use lib.Dec.{ltb, leb}
-use lib.ListN.{length, getD}
 use borrow.Author.Tests.{lt-ltb, le-ltb, le-leb, lt-leb, ltb-true, leb-true}
 use Rattle.family.specs.Family.{Family, node, top, Within}
 use Rattle.family.specs.Book.{at}
@@ -15,7 +14,7 @@ use Rattle.family.specs.File.{fits}
 use Rattle.family.proofs.Reading.{Next, fits-next, next-fits}
 use Rattle.words.proofs.Cases.{by-test, clash, and-inv}
 use Rattle.store.specs.Words.{itemLimit, topAt}
-use Rattle.store.proofs.Held.{top-at, within, positive-one, inside}
+use Rattle.store.proofs.Held.{top-at, within, positive-one}
 use Rattle.file_record.specs.declared.field.Part.{Part}
 use Rattle.file_table.specs.Inner.{Local, follows, Entering, new, old, EnterOf, Taking, fit, unfit, TakeOf}
 

@@ -9,7 +9,7 @@ use native.Mathlib.Omega.{arith}
 use lib.ListN.{length, getD, set, take, drop, length-set}
 use lib.Seq.{length-take-le, getD-take, getD-set-other}
 use Rattle.family.specs.Family.{Family, node, Within}
-use Rattle.family.specs.Book.{at, Held}
+use Rattle.family.specs.Book.{at}
 use Rattle.table.specs.Probe.{probeOf}
 use Rattle.store.specs.Words.{itemLimit}
 use Rattle.store.specs.Inner.{Holds, putNode}
@@ -18,7 +18,7 @@ use Rattle.store.proofs.Put.{put-length, put-above}
 use Rattle.store.proofs.Extending.{holds-kept}
 use Rattle.store.proofs.Probing.{Present, Absent, probe-cases}
 use Rattle.store_node.proofs.Nodes.{new-handed}
-use Rattle.file_table.specs.Inner.{slots, Local, Entering, new, old, EnterOf}
+use Rattle.file_table.specs.Inner.{slots, Local, new, old, EnterOf}
 use Rattle.file_table.proofs.Slots.{slots-length, slots-read, slots-in, slots-node, take-node}
 
 -- the two parts of the scratch that the probe is lent

@@ -1,15 +1,15 @@
 -- Links: what reading and setting one says of the words.
 -- A link stands at its handle less 2, so that different handles have different words.
 use Prim.Native.Nat.{ℕ, _+_, _-_, _≤_, _<_}
-use mathlib.Core.Path.{_≡_, refl, sym, ap, _∙_}
-use mathlib.Core.Bool.{Bool, true, false, not}
+use mathlib.Core.Path.{_≡_, sym, ap, _∙_}
+use mathlib.Core.Bool.{true, not}
 use mathlib.Core.List.{List}
 use native.Mathlib.Omega.{arith}
 use lib.Dec.{eqb}
 use lib.ListN.{length, getD, set, length-set}
 use lib.Seq.{getD-set-same, getD-set-other}
 use borrow.Author.Tests.{eq-eqb, ne-eqb, lt-ltb, le-ltb}
-use Rattle.words.proofs.Cases.{by-lt, by-eq, clash}
+use Rattle.words.proofs.Cases.{by-lt}
 use Rattle.file_trail.specs.declared.trail.Trail.{Trail}
 use Rattle.file_trail.specs.Inner.{metIn, linked, firstOf}
 

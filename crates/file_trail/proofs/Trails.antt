@@ -1,30 +1,29 @@
 -- The trail over a local book: a handle is met exactly when its family stands in the book, and putting a new part behind the last one adds its family.
 -- The handles of the book's families are their numbers in the store's book, different for different families.
-use Prim.Native.Nat.{ℕ, zero, suc, _+_, _*_, _-_, _≤_, _<_}
+use Prim.Native.Nat.{ℕ, zero, suc, _+_, _-_, _≤_, _<_}
 use mathlib.Core.Path.{_≡_, refl, sym, ap, _∙_}
-use mathlib.Core.Bool.{Bool, true, false, not}
+use mathlib.Core.Bool.{true, false, not}
 use mathlib.Core.List.{List, [], _∷_, _++_}
 use native.Mathlib.Omega.{arith}
 use native.Mathlib.Numerals.{add-one}
-use lib.Dec.{eqb}
-use lib.ListN.{length, getD, drop, length-append, List·getD-append}
+use lib.ListN.{length, getD, drop, length-append}
 use lib.Seq.{getD-at}
-use borrow.Author.Tests.{eq-eqb, ne-eqb, eqb-false, not-true}
-use Rattle.family.specs.Family.{Family, empty, base, node, top, withoutSide, withSide}
-use Rattle.family.specs.Book.{start, at, number, Held, add, Grown, Book}
+use borrow.Author.Tests.{eq-eqb, ne-eqb}
+use Rattle.family.specs.Family.{Family, empty, base, node, top}
+use Rattle.family.specs.Book.{start, at, number, Held, Grown, Book}
 use Rattle.family.specs.Record.{stands, triple, recordBytes}
 use Rattle.family.specs.File.{triplesOf, recordsBytes}
 use Rattle.family.proofs.Books.{number-at, number-inj, held-at, held-empty, held-base, number-empty, number-base, two-long, is-node, add-new, book-add, book-start, grown-at, grown-held}
 use Rattle.family.proofs.Different.{no-longer}
 use Rattle.family.proofs.Lengths.{book-snoc}
-use Rattle.words.proofs.Cases.{by-lt, by-eq, by-test, clash}
+use Rattle.words.proofs.Cases.{by-lt, by-eq, clash}
 use Rattle.store.specs.Words.{itemLimit}
 use Rattle.store.specs.Inner.{Holds}
 use Rattle.store.proofs.Held.{at-0, at-1, handle-of, held, within, node-handle}
 use Rattle.file_record.specs.Widths.{widths}
 use Rattle.file_record.proofs.Laying.{widths-length}
 use Rattle.file_trail.specs.declared.trail.Trail.{Trail}
-use Rattle.file_trail.specs.Inner.{metIn, linked, firstOf, Visited, Trailed}
+use Rattle.file_trail.specs.Inner.{metIn, linked, Visited, Trailed}
 use Rattle.file_trail.proofs.Links.{met-leaf, met-word, behind-here, behind-last, behind-other, first-new, first-old}
 
 -- the handles of the families of a local book

@@ -1,9 +1,9 @@
 -- Each way out of `walk`: a part met already changes nothing, else its sides are walked and it is put behind them, which places it in the local book.
 -- A side has a smaller top than the part, so that walking it cannot meet the part; on words that hold a book nothing is broken.
-use Prim.Native.Nat.{ℕ, _+_, _*_, _-_, _≤_, _<_}
+use Prim.Native.Nat.{ℕ, _+_, _-_, _≤_, _<_}
 use mathlib.Core.Path.{_≡_, refl, sym, ap, _∙_}
 use mathlib.Core.Bool.{Bool, true, false}
-use mathlib.Core.List.{List, [], _∷_, _++_}
+use mathlib.Core.List.{List}
 use native.Mathlib.Omega.{arith}
 use lib.ListN.{length, getD}
 use borrow.Author.Tests.{eq-eqb}
@@ -17,11 +17,11 @@ use Rattle.store.specs.declared.node.Sides.{Sides}
 use Rattle.store.specs.declared.node.Sides.the-variants.{Two, Broken}
 use Rattle.store.specs.Words.{itemLimit, topAt}
 use Rattle.store.specs.Inner.{Holds, TwoSides, SidesOf, two as two-sides, broken as no-sides}
-use Rattle.store.proofs.Held.{top-at, top-leaf, top-node, within, held, at-node}
+use Rattle.store.proofs.Held.{top-at, top-node, within, held, at-node}
 use Rattle.file_trail.specs.declared.trail.Trail.{Trail}
 use Rattle.file_trail.specs.declared.walk.Walked.{Walked}
 use Rattle.file_trail.specs.declared.walk.Walked.the-variants.{Went, Broken as NoWay}
-use Rattle.file_trail.specs.Inner.{metIn, linked, Visited, SplitOf, two, broken, TrailFits, Trailed, Came, came, WalkOf}
+use Rattle.file_trail.specs.Inner.{metIn, Visited, SplitOf, two, broken, TrailFits, Trailed, Came, came, WalkOf}
 use Rattle.file_trail.proofs.Links.{behind-long, behind-other}
 use Rattle.file_trail.proofs.Trails.{met-held, unmet-two, unmet-not, few-parts, trail-visit}
 

@@ -3,7 +3,6 @@ ghost use mathlib.Core.Path.{_≡_};
 ghost use Prim.Native.Nat.{_+_, _*_, _<_, _≤_};
 ghost use lib.ListN.{length};
 ghost use Rattle.store.specs.Words.{itemLimit, topAt};
-ghost use Rattle.store.specs.Inner.{SidesOf};
 ghost use Rattle.file_trail.specs.Inner.{SplitOf, TrailFits, WalkOf};
 use crate::trail::Trail;
 use crate::trail::is_met;

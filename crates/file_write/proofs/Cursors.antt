@@ -2,45 +2,28 @@
 -- The children of a part stand before it, so their local numbers are there already.
 use Prim.Native.Nat.{ℕ, zero, suc, _+_, _*_, _-_, _≤_, _<_}
 use mathlib.Core.Path.{_≡_, refl, sym, ap, _∙_}
-use mathlib.Core.Bool.{Bool, true, false}
-use mathlib.Core.List.{List, [], _∷_, _++_, append-assoc, append-nil}
+use mathlib.Core.List.{List, [], _++_, append-assoc, append-nil}
 use native.Mathlib.Omega.{arith}
 use native.Mathlib.Numerals.{add-one}
-use lib.ListN.{length, getD, set, take, drop, length-set, length-append, length-drop, List·getD-eq-default, take-append-drop, drop-of-length-le}
-use lib.Seq.{sets, sets-eq, take-all, drop-drop, drop-cons, getD-set-same, getD-set-other, take-add, drop-at, take-at, length-take-le, take-append-le, drop-append-add}
-use borrow.Author.Tests.{lt-ltb, le-ltb}
+use lib.ListN.{length, getD, set, take, drop, length-set, length-append, length-drop, take-append-drop, drop-of-length-le}
+use lib.Seq.{sets, sets-eq, take-all, drop-drop, drop-cons, getD-set-same, getD-set-other, take-add, drop-at, take-at, length-take-le}
 use borrow.Rule.Slice.PartMut.{putMid}
-use Rattle.family.specs.Family.{Family, empty, node, top, withoutSide, withSide}
-use Rattle.family.specs.Book.{at, number, Held, Book}
+use Rattle.family.specs.Family.{Family, empty, node}
+use Rattle.family.specs.Book.{at, number}
 use Rattle.family.specs.Record.{stands, triple, recordBytes}
 use Rattle.family.specs.File.{triplesOf, recordsBytes}
-use Rattle.family.proofs.Books.{number-at, number-empty, number-base, held-at}
-use Rattle.family.proofs.Lengths.{sides-held}
-use Rattle.words.proofs.Cases.{by-lt, by-eq}
-use Rattle.store.specs.Words.{itemLimit}
+use Rattle.family.proofs.Books.{number-at, number-empty, number-base}
+use Rattle.words.proofs.Cases.{by-eq}
+use Rattle.store.specs.Words.{itemLimit, wordOf}
 use Rattle.store.specs.Inner.{Holds}
 use Rattle.store.proofs.Held.{at-0, at-1, at-node, handle-of, within}
 use Rattle.file_record.specs.declared.field.Part.{Part}
 use Rattle.file_record.specs.Widths.{widths}
 use Rattle.file_record.proofs.Laying.{widths-length}
 use Rattle.file_write.specs.declared.Cursor.{Cursor}
-use Rattle.file_write.specs.declared.Turn.{Turn}
 use Rattle.file_write.specs.declared.Turn.the-variants.{Next, Broken}
-use Rattle.file_write.specs.Inner.{localIn, CursorFits, Writing, Turned, turned, TurnOf}
+use Rattle.file_write.specs.Inner.{CursorFits, Writing, turned, TurnOf}
 use Rattle.file_trail.proofs.Trails.{handle-in, handle-at, handle-apart, handle-two, local-two}
-
--- the ways out of `local`
-module _ (links : List ℕ) (h : ℕ) where
-  pub local-leaf : h < 2 → h ≡ localIn links h
-  unfolding localIn
-  local-leaf l = rw (lt-ltb h 2 l)
-
-  pub local-word : 2 ≤ h → getD links (h - 2) 0 ≡ localIn links h
-  unfolding localIn
-  local-word l = rw (le-ltb h 2 l)
-
-  pub local-none : 2 ≤ h → length links ≤ h - 2 → 0 ≡ localIn links h
-  local-none l m = sym (List·getD-eq-default links 0 m) ∙ local-word l
 
 -- bytes at the front, later bytes untouched
 pub sets-front : (vs l : List ℕ) → length vs ≤ length l → sets l 0 vs ≡ vs ++ drop (length vs) l
@@ -94,13 +77,13 @@ module _ {B D : List Family} {n k : ℕ} {nodes lookup : List ℕ} {c : Cursor} 
   item-low = (rw (at-means ∙ is-node) at (within H (c .at) at-in)) .low
 
   -- a side stands in the local book before the part
-  local-is : (h : ℕ) → h < n + 2 → number D (at B h) < k → localIn links h ≡ number D (at B h)
-  local-is zero l m = sym (local-leaf links 0 (omega arith)) ∙ sym (ap (λ F. number D F) (at-0 H) ∙ number-empty D (W .book))
-  local-is (suc zero) l m = sym (local-leaf links 1 (omega arith)) ∙ sym (ap (λ F. number D F) (at-1 H) ∙ number-base D (W .book))
+  local-is : (h : ℕ) → h < n + 2 → number D (at B h) < k → wordOf links h ≡ number D (at B h)
+  local-is zero l m = sym (word-leaf links 0 (omega arith)) ∙ sym (ap (λ F. number D F) (at-0 H) ∙ number-empty D (W .book))
+  local-is (suc zero) l m = sym (word-leaf links 1 (omega arith)) ∙ sym (ap (λ F. number D F) (at-1 H) ∙ number-base D (W .book))
   local-is (suc (suc h)) l m =
       let p = suc (suc h) in
       let here : number B (at D (number D (at B p))) ≡ p = ap (λ F. number B F) (number-at D (at B p) (omega arith)) ∙ handle-of H p l in
-      sym (local-word links p (omega arith)) ∙ ap (λ x. getD links (x - 2) 0) (sym here)
+      sym (word-node links p (omega arith)) ∙ ap (λ x. getD links (x - 2) 0) (sym here)
       ∙ W .numbered (number D (at B p)) (local-two H (W .book) (W .inside) p (omega arith) l (omega arith)) m (omega arith)
 
   sides : (number D (at B (zeroAt nodes (c .at))) < k) × (number D (at B (oneAt nodes (c .at))) < k)
@@ -109,10 +92,10 @@ module _ {B D : List Family} {n k : ℕ} {nodes lookup : List ℕ} {c : Cursor} 
       let b = W .book .below (itemAt nodes (c .at)) (at B (zeroAt nodes (c .at))) (at B (oneAt nodes (c .at))) (omega arith) in
       (omega (arith, b .0), omega (arith, b .1))
 
-  zero-local : localIn links (zeroAt nodes (c .at)) ≡ number D (at B (zeroAt nodes (c .at)))
+  zero-local : wordOf links (zeroAt nodes (c .at)) ≡ number D (at B (zeroAt nodes (c .at)))
   zero-local = local-is (zeroAt nodes (c .at)) (omega (arith, H .each (c .at - 2) (omega (arith, at-in, at-two)) .zero-before, at-in)) (sides .0)
 
-  one-local : localIn links (oneAt nodes (c .at)) ≡ number D (at B (oneAt nodes (c .at)))
+  one-local : wordOf links (oneAt nodes (c .at)) ≡ number D (at B (oneAt nodes (c .at)))
   one-local = local-is (oneAt nodes (c .at)) (omega (arith, H .each (c .at - 2) (omega (arith, at-in, at-two)) .one-before, at-in)) (sides .1)
 
   long-before : length out ≡ length before
@@ -120,7 +103,7 @@ module _ {B D : List Family} {n k : ℕ} {nodes lookup : List ℕ} {c : Cursor} 
       ap length (W .out-is)
       ∙ omega (arith, length-append (take (c .place) whole) (drop (c .place) before), length-take-le (c .place) whole (W .place-low), length-drop (c .place) before, W .place-low, W .room)
 
-  module _ (part : Part) (is-part : (part .item ≡ itemAt nodes (c .at)) × (part .zero ≡ localIn links (zeroAt nodes (c .at))) × (part .one ≡ localIn links (oneAt nodes (c .at)))) where
+  module _ (part : Part) (is-part : (part .item ≡ itemAt nodes (c .at)) × (part .zero ≡ wordOf links (zeroAt nodes (c .at))) × (part .one ≡ wordOf links (oneAt nodes (c .at)))) where
     -- what is still to be written begins with the part's record
     todo : drop (c .place) whole
         ≡ recordBytes (c .last .item) (c .last .number) (triple (part .item) (part .zero) (part .one)) ++ recordsBytes (part .item) (suc (c .last .number)) (triplesOf D (drop (suc k) D))
@@ -197,7 +180,7 @@ module _ (c : Cursor) (nodes : List ℕ) (n : ℕ) (links out : List ℕ) where
   pub turn-high : n + 1 < c .at → TurnOf c nodes n links out Broken links out
   turn-high l = turn-broken (λ B D k lookup whole before H kl W. omega (arith, at-in H kl W))
 
-  module _ (part : Part) (is-part : (part .item ≡ itemAt nodes (c .at)) × (part .zero ≡ localIn links (zeroAt nodes (c .at))) × (part .one ≡ localIn links (oneAt nodes (c .at)))) where
+  module _ (part : Part) (is-part : (part .item ≡ itemAt nodes (c .at)) × (part .zero ≡ wordOf links (zeroAt nodes (c .at))) × (part .one ≡ wordOf links (oneAt nodes (c .at)))) where
     pub turn-item : itemLimit < part .item → TurnOf c nodes n links out Broken links out
     turn-item l = turn-broken (λ B D k lookup whole before H kl W. omega (arith, item-low H kl W, is-part .0))
 

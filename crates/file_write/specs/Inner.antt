@@ -1,9 +1,8 @@
 -- What writing the records promises. A reader of the promise can pass this page over.
 use Prim.Native.Nat.{ℕ, _+_, _*_, _-_, _≤_, _<_}
 use mathlib.Core.Path.{_≡_}
-use mathlib.Core.Bool.{Bool, true, cond}
+use mathlib.Core.Bool.{Bool, true}
 use mathlib.Core.List.{List, _++_}
-use lib.Dec.{ltb}
 use lib.ListN.{length, getD, take, drop}
 use Rattle.family.specs.Family.{Family}
 use Rattle.family.specs.Book.{at, number, Held, place, Book}
@@ -14,10 +13,6 @@ use Rattle.file_write.specs.declared.Cursor.{Cursor}
 use Rattle.file_write.specs.declared.Turn.{Turn}
 use Rattle.file_write.specs.declared.Turn.the-variants.{Next}
 use Rattle.file_trail.specs.Inner.{two}
-
--- the local number of a handle
-unfoldable pub localIn : List ℕ → ℕ → ℕ
-localIn links h = cond (ltb h 2) h (getD links (h - 2) 0)
 
 -- what a cursor keeps on any words
 pub record CursorFits (c : Cursor) (out : List ℕ) : Type 0 where

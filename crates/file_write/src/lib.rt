@@ -2,7 +2,8 @@
 ghost use mathlib.Core.Path.{_≡_};
 ghost use Prim.Native.Nat.{_+_, _*_, _<_, _≤_};
 ghost use lib.ListN.{length, getD};
-ghost use Rattle.file_write.specs.Inner.{localIn, CursorFits, TurnOf, WritesOf};
+ghost use Rattle.store.specs.Words.{wordOf};
+ghost use Rattle.file_write.specs.Inner.{CursorFits, TurnOf, WritesOf};
 use file_record::field::Last;
 use file_record::field::Part;
 use file_record::write::length_of;
@@ -23,7 +24,7 @@ pub enum Turn {
 
 // The local number of a handle whose part is written.
 fn local(links: &[u32], handle: u32) -> u32
-    ensures { λ r. ⌜ r ≡ localIn (now (links .entry)) handle ⌝ }
+    ensures { λ r. ⌜ r ≡ wordOf (now (links .entry)) handle ⌝ }
 {
     if handle < 2 {
         return handle;
@@ -38,7 +39,7 @@ fn local(links: &[u32], handle: u32) -> u32
 // The part whose node words start at `base`, its children by local numbers.
 fn part_at(nodes: &[u32], base: usize, links: &[u32]) -> Part
     requires { ⌜ base + 3 ≤ length (now nodes) ⌝ }
-    ensures { λ r. ⌜ (r .item ≡ getD (now (nodes .entry)) base 0) × (r .zero ≡ localIn (now (links .entry)) (getD (now (nodes .entry)) (base + 1) 0)) × (r .one ≡ localIn (now (links .entry)) (getD (now (nodes .entry)) (base + 2) 0)) ⌝ }
+    ensures { λ r. ⌜ (r .item ≡ getD (now (nodes .entry)) base 0) × (r .zero ≡ wordOf (now (links .entry)) (getD (now (nodes .entry)) (base + 1) 0)) × (r .one ≡ wordOf (now (links .entry)) (getD (now (nodes .entry)) (base + 2) 0)) ⌝ }
 {
     Part {
         item: nodes[base],

@@ -1,4 +1,2 @@
 -- The laws of the cache, lowest first.
-pub mod Naming
 pub mod Remembering
-pub mod Plain

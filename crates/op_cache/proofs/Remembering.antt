@@ -1,37 +1,20 @@
 -- The cache: remembering a call changes its group alone, so a cache that is true of a book stays true of it and of every book that it grows to.
 -- A group after remembering is a group of before, or the call's with its result.
 use Prim.Native.Nat.{ℕ, _+_, _*_, _/_, _≤_, _<_}
-use mathlib.Core.Path.{_≡_, refl, sym, ap, _∙_}
+use mathlib.Core.Path.{_≡_, refl, sym, _∙_}
 use mathlib.Core.List.{List}
 use mathlib.Core.Logic.{_⊎_, inl, inr, ⊎-elim}
 use native.Mathlib.Omega.{arith}
 use lib.ListN.{length, getD, set, length-set}
 use lib.Seq.{getD-set-same, getD-set-other}
 use Rattle.family.specs.Family.{Family}
-use Rattle.family.specs.Book.{at, Grown}
-use Rattle.family.proofs.Books.{grown-at, grown-length}
+use Rattle.family.specs.Book.{at}
 use Rattle.words.proofs.Cases.{by-eq}
-use Rattle.store.specs.Cache.{named, Group, Takes, Truth, True}
+use Rattle.store.specs.Cache.{Group, Truth, True}
 use Rattle.op_cache.specs.declared.Call.{Call}
 use Rattle.op_cache.specs.declared.Recalled.{Recalled}
 use Rattle.op_cache.specs.declared.Recalled.the-variants.{Hit}
 use Rattle.op_cache.specs.Inner.{RecallOf, hit, Remembered}
-use Rattle.op_cache.proofs.Naming.{named-grown}
-
--- a true cache, in a book that grew
-pub truth-grown : {B C : List Family} {op p q h : ℕ} → Grown B C → Truth B op p q h → Truth C op p q h
-truth-grown {B} {C} {op} {p} {q} {h} g t =
-    let l = grown-length g in
-    record {
-      operation = t .operation;
-      first = omega (arith, t .first);
-      second = (λ m. t .second .0 m, λ m. omega (arith, t .second .1 m));
-      result = omega (arith, t .result);
-      means = grown-at g h (t .result) ∙ t .means ∙ sym (named-grown g op p q (t .first) (t .second .1));
-    }
-
-pub true-grown : {B C : List Family} {cache : List ℕ} → Grown B C → True B cache → True C cache
-true-grown g t = record { each = λ r op p q h G. ⊎-elim (λ z. inl z) (λ u. inr (truth-grown g u)) (t .each r op p q h G) }
 
 -- a recalled result is true
 recalled-group : {cache : List ℕ} {n : ℕ} {call : Call} {h : ℕ} → RecallOf cache n call (Hit h) → (g : ℕ) × Group cache g (call .op) (call .p) (call .q) h

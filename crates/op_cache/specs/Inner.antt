@@ -4,13 +4,7 @@ use mathlib.Core.Path.{_≡_}
 use mathlib.Core.List.{List}
 use mathlib.Core.Logic.{_⊎_}
 use lib.ListN.{length, getD}
-use Rattle.family.specs.Family.{Family}
-use Rattle.family.specs.Book.{place}
-use Rattle.store.specs.declared.record.Store.{Store}
-use Rattle.store.specs.declared.record.PlaceAnswer.the-variants.{Handle}
-use Rattle.store.specs.declared.record.Placed.{Placed}
 use Rattle.store.specs.Cache.{Group}
-use Rattle.store.specs.Inner.{Holds, Answer, Kept}
 use Rattle.op_cache.specs.declared.Call.{Call}
 use Rattle.op_cache.specs.declared.Recalled.{Recalled}
 use Rattle.op_cache.specs.declared.Recalled.the-variants.{Hit, Miss}
@@ -25,9 +19,3 @@ pub record Remembered (cache : List ℕ) (call : Call) (h : ℕ) (cache′ : Lis
   pub long : length cache′ ≡ length cache
   pub rest : (k : ℕ) → length cache / 4 * 4 ≤ k → getD cache′ k 0 ≡ getD cache k 0
   pub each : (g op p q r : ℕ) → Group cache′ g op p q r → Group cache g op p q r ⊎ ((op ≡ call .op) × (p ≡ call .p) × (q ≡ call .q) × (r ≡ h))
-
--- a call that places the family F B with no use of the cache
-pub record RanPlain (F : List Family → Family) (s : Store) (nodes lookup : List ℕ) (r : Placed) (nodes′ lookup′ : List ℕ) : Type 0 where
-  pub kept : Kept s nodes lookup (r .store) nodes′ lookup′
-  pub handle : (h : ℕ) → r .answer ≡ Handle h → h ≤ r .store .count + 1
-  pub sound : (B : List Family) → Holds B (s .count) nodes lookup → Answer (place B (F B)) (F B) (s .capacity) (r .store .count) nodes′ lookup′ (r .answer)

@@ -1,20 +1,18 @@
 -- The ways out of `fork_at`: both operands split at their larger top, or words that hold no book.
 -- Two different operands that are no {} cannot both lack items, so the level is an item.
-use Prim.Native.Nat.{ℕ, zero, suc, _+_, _*_, _≤_, _<_, max}
-use mathlib.Core.Path.{_≡_, refl, sym, ap, _∙_}
+use Prim.Native.Nat.{ℕ, zero, suc, _+_, _≤_, _<_, max}
+use mathlib.Core.Path.{_≡_}
 use mathlib.Core.List.{List}
 use native.Mathlib.Omega.{arith}
-use lib.ListN.{getD}
 use Rattle.family.specs.Family.{Family, top}
 use Rattle.family.specs.Book.{at}
 use Rattle.store.specs.Words.{topAt}
 use Rattle.store.specs.Inner.{Holds}
-use Rattle.store.proofs.Held.{top-at, within, at-node, top-node}
+use Rattle.store.proofs.Held.{within, at-node, top-node}
 use Rattle.op_cache.specs.declared.Call.{Call}
 use Rattle.op_families.specs.declared.recursion.Fork.{Fork}
 use Rattle.op_families.specs.declared.recursion.Fork.the-variants.{Two, Broken}
-use Rattle.op_families.specs.Inner.{ForkOf, two, broken}
-use Rattle.op_step.specs.Inner.{Proper, Forked}
+use Rattle.op_families.specs.Inner.{ForkOf, two, broken, Proper, Forked}
 
 -- what a fork says, by the answer that was given
 pub fork-two : {nodes : List ℕ} {n : ℕ} {call : Call} {level p₀ q₀ top₀ p₁ q₁ top₁ : ℕ} {x : Fork} → x ≡ Two p₀ q₀ top₀ p₁ q₁ top₁ → ForkOf nodes n call level x → Forked nodes n call level p₀ q₀ top₀ p₁ q₁ top₁

@@ -1,3 +1,5 @@
--- The laws of the terminal cases and of the two sides of both operands.
-pub mod Forks
+-- The laws of the terminal cases, of the two sides of both operands, and of the step.
 pub mod Orders
+pub mod Shortcuts
+pub mod Forks
+pub mod Splits

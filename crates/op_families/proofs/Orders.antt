@@ -1,17 +1,15 @@
 -- The order of operands and the terminal cases: what `ordered` and `shortcut` answer names the same family.
 -- Each case is one law of the operations on families.
-use Prim.Native.Nat.{ℕ, _≤_}
+use Prim.Native.Nat.{_≤_}
 use mathlib.Core.Path.{_≡_, refl, sym, ap, _∙_}
-use mathlib.Core.List.{List}
 use mathlib.Core.Logic.{inl, inr}
 use native.Mathlib.Omega.{arith}
-use Rattle.family.specs.Family.{Family, empty, Ordered}
 use Rattle.family.specs.Operation.{combine}
 use Rattle.family.specs.Book.{at}
-use Rattle.store.specs.Cache.{rule, named}
+use Rattle.store.specs.Cache.{rule}
 use Rattle.op_cache.specs.declared.Call.{Call}
-use Rattle.op_step.specs.Inner.{OrderedAs, Shortcut}
-use Rattle.op_cache.proofs.Naming.{named-families, families-swap, both-same, both-none, first-union, first-none, second-none, second-same}
+use Rattle.op_families.specs.Inner.{OrderedAs, Shortcut}
+use Rattle.store.proofs.Naming.{named-families, families-swap, both-same, both-none, first-union, first-none, second-none, second-same}
 
 module _ (call : Call) (l : 4 ≤ call .op) (m : call .op ≤ 6) where
   pub as-asked : OrderedAs call call

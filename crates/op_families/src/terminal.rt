@@ -1,6 +1,6 @@
 // Union (4), Intsec (5) and Diff (6): the order of the operands, and the cases that need no recursion.
 ghost use Prim.Native.Nat.{_≤_};
-ghost use Rattle.op_step.specs.Inner.{OrderedAs, ShortcutOf};
+ghost use Rattle.op_families.specs.Inner.{OrderedAs, ShortcutOf};
 use op_cache::Call;
 use op_cache::Recalled;
 

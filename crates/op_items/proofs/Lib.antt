@@ -1,2 +1,3 @@
--- The laws of the terminal cases.
+-- The laws of the terminal cases and of the step.
 pub mod Restricting
+pub mod Splits

@@ -1,22 +1,23 @@
 -- Subset1, Subset0 and Change where the item is not below the top: the result is at hand, or one node of handles at hand.
 -- Each is the operation's equation at that place, read through the book that the words hold.
 use Prim.Native.Nat.{ℕ, _+_, _≤_, _<_}
-use mathlib.Core.Path.{_≡_, refl, sym, ap, _∙_}
+use mathlib.Core.Path.{_≡_, sym, ap, _∙_}
 use mathlib.Core.List.{List}
 use native.Mathlib.Omega.{arith}
-use Rattle.family.specs.Family.{Family, empty, top, mk}
+use Rattle.family.specs.Family.{Family, top, mk}
 use Rattle.family.specs.Book.{at}
 use Rattle.store.specs.declared.record.Store.{Store}
 use Rattle.store.specs.declared.record.PlaceAnswer.the-variants.{Handle}
 use Rattle.store.specs.declared.record.Placed.{Placed}
-use Rattle.store.specs.Words.{itemLimit, topAt}
+use Rattle.store.specs.Words.{topAt}
 use Rattle.store.specs.Cache.{restrict, named}
-use Rattle.store.specs.Inner.{Roomy, Holds, TwoSides, NodeIt}
+use Rattle.store_node.specs.Inner.{NodeIt}
+use Rattle.store.specs.Inner.{Roomy, Holds, TwoSides, RanPlain}
 use Rattle.store.proofs.Held.{at-0, top-at}
 use Rattle.op_cache.specs.declared.Call.{Call}
-use Rattle.op_cache.specs.Inner.{RanPlain}
-use Rattle.op_cache.proofs.Naming.{named-item, above-subset1, above-subset0, above-change, at-subset1, at-subset0, at-change}
-use Rattle.op_cache.proofs.Plain.{plain-handle, plain-node}
+use Rattle.store.proofs.Naming.{named-item, above-subset1, above-subset0, above-change, at-subset1, at-subset0, at-change}
+use Rattle.store_node.proofs.OneNode.{plain-node}
+use Rattle.store.proofs.Plain.{plain-handle}
 
 module _ (call : Call) (s : Store) (nodes lookup : List ℕ) (R : Roomy s nodes lookup) (l : 1 ≤ call .op) (m : call .op ≤ 3) (lp : call .p ≤ s .count + 1) (v : 1 ≤ call .q) where
   abbrev F : List Family → Family

@@ -5,12 +5,9 @@ use mathlib.Core.Path.{_≡_, refl, sym, ap, _∙_}
 use mathlib.Core.Bool.{Bool, true, false, cond}
 use mathlib.Core.List.{List}
 use native.Mathlib.Omega.{arith}
-use lib.Dec.{leb, ltb}
 use lib.ListN.{length}
 use borrow.Author.Tests.{lt-ltb, le-ltb, le-leb, lt-leb}
 use Rattle.words.proofs.Cases.{by-test, by-lt}
-use Rattle.family.specs.Family.{Family}
-use Rattle.family.specs.Book.{at}
 use Rattle.store.specs.declared.record.Store.{Store}
 use Rattle.store.specs.declared.record.Refusal.{Refusal}
 use Rattle.store.specs.declared.record.Refusal.the-variants.{Damaged}
@@ -18,14 +15,15 @@ use Rattle.store.specs.declared.record.PlaceAnswer.the-variants.{Refused}
 use Rattle.store.specs.declared.record.Placed.{Placed}
 use Rattle.store.specs.Capacity.{fitting}
 use Rattle.store.specs.Refusals.{refusalNumber}
-use Rattle.store.specs.Words.{itemLimit, topAt, bookOf}
+use Rattle.store.specs.Words.{itemLimit, topAt}
 use Rattle.store.specs.Cache.{named}
 use Rattle.store.specs.Sound.{Sound}
-use Rattle.store.specs.Inner.{Roomy, Ran, Finished}
+use Rattle.store_undo.specs.Inner.{Finished}
+use Rattle.store.specs.Inner.{Roomy, Ran}
 use Rattle.store.proofs.Held.{top-at, within}
 use Rattle.store.proofs.Decoding.{sound-holds}
-use Rattle.store.proofs.Calls.{fits-roomy, call-misfit, call-unsound, call-refused, call-done}
-use Rattle.op_cache.specs.declared.Call.{Call}
+use Rattle.store_undo.proofs.Done.{call-done}
+use Rattle.store.proofs.Calls.{fits-roomy, call-misfit, call-unsound, call-refused}
 use Rattle.op_promise.specs.declared.Test.{Test}
 use Rattle.op_promise.specs.declared.Test.the-variants.{Clear, Refuses}
 use Rattle.op_promise.specs.Promise.{isItem, operationRefusal, OperationCall}

@@ -1,16 +1,15 @@
 -- The end of a recursive step: what is remembered of an answer, and the two ways out of `join`.
 -- An answer is a handle or a refusal, never both.
 use Prim.Native.Nat.{ℕ}
-use mathlib.Core.Path.{_≡_, refl, sym, ap, _∙_}
+use mathlib.Core.Path.{_≡_, refl, sym, _∙_}
 use mathlib.Core.List.{List}
 use native.Mathlib.Omega.{arith}
 use Rattle.store.specs.declared.record.Refusal.{Refusal}
 use Rattle.store.specs.declared.record.PlaceAnswer.{PlaceAnswer}
 use Rattle.store.specs.declared.record.PlaceAnswer.the-variants.{Handle, Refused}
 use Rattle.store.specs.declared.record.Placed.{Placed}
-use Rattle.store.specs.Inner.{NodeIt}
-use Rattle.store_node.proofs.Getting.{handle-is}
-use Rattle.store.proofs.Endings.{not-both}
+use Rattle.store_node.specs.Inner.{NodeIt}
+use Rattle.store.proofs.Answers.{handle-is, not-both}
 use Rattle.op_cache.specs.declared.Call.{Call}
 use Rattle.op_cache.specs.Inner.{Remembered}
 use Rattle.op_step.specs.Inner.{RememberedAnswer, Joined}

@@ -1,5 +1,4 @@
 -- The laws of the recursions, lowest first.
 pub mod Joining
 pub mod Steps
-pub mod Splitting
 pub mod Outcomes

@@ -15,16 +15,17 @@ use Rattle.store.specs.declared.record.PlaceAnswer.{PlaceAnswer}
 use Rattle.store.specs.declared.record.PlaceAnswer.the-variants.{Handle, Refused}
 use Rattle.store.specs.declared.record.Placed.{Placed}
 use Rattle.store.specs.Words.{itemLimit}
-use Rattle.store.specs.Cache.{named, Takes, Truth, True}
-use Rattle.store.specs.Inner.{Holds, Handed, Answer, Kept, NodeIt, Ran}
+use Rattle.store.specs.Cache.{named, Truth, True}
+use Rattle.store_node.specs.Inner.{NodeIt}
+use Rattle.store.specs.Inner.{Holds, Handed, Answer, Kept, Ran}
 use Rattle.store.proofs.Held.{inside}
 use Rattle.store.proofs.Growing.{kept-trans}
-use Rattle.store.proofs.Endings.{not-both, handed-of, refused-on}
-use Rattle.store.proofs.Calls.{by-answer}
+use Rattle.store.proofs.Answers.{not-both, handed-of, refused-on, by-answer}
 use Rattle.op_cache.specs.declared.Call.{Call}
 use Rattle.op_step.specs.Inner.{RememberedAnswer, Joined}
-use Rattle.op_cache.proofs.Naming.{named-grown}
-use Rattle.op_cache.proofs.Remembering.{true-grown, true-remembered}
+use Rattle.store.proofs.Naming.{named-grown}
+use Rattle.store.proofs.Cached.{true-grown}
+use Rattle.op_cache.proofs.Remembering.{true-remembered}
 
 -- the family that a call names in a book
 abbrev pub of : Call → List Family → Family

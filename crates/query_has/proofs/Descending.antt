@@ -5,15 +5,14 @@ use mathlib.Core.Path.{_≡_, refl, sym, ap, _∙_}
 use mathlib.Core.Bool.{Bool, true, false}
 use mathlib.Core.List.{List, [], _∷_}
 use native.Mathlib.Omega.{arith}
-use lib.ListN.{length, getD}
-use borrow.Author.Tests.{eq-eqb, ne-eqb}
-use Rattle.family.specs.Family.{Family, empty, base, node, top, has, Ordered}
+use lib.ListN.{getD}
+use Rattle.family.specs.Family.{Family, base, node, top, has, Ordered}
 use Rattle.family.specs.Combination.{largest, Falling, holds, remove, isNone}
 use Rattle.family.specs.Book.{at}
 use Rattle.family.proofs.Falling.{holds-high}
 use Rattle.family.proofs.Laws.{top-bounds}
 use Rattle.words.proofs.Cases.{by-test, by-eq, by-lt, clash}
-use Rattle.store.specs.Inner.{Entry, Holds}
+use Rattle.store.specs.Inner.{Holds}
 use Rattle.store.proofs.Held.{at-0, at-1, at-node, within}
 use Rattle.query_has.specs.Inner.{Stepped, Memberly}
 

@@ -5,27 +5,25 @@ use mathlib.Core.Path.{_≡_, refl, sym, ap, _∙_}
 use mathlib.Core.Bool.{Bool, true, false}
 use mathlib.Core.List.{List, []}
 use native.Mathlib.Omega.{arith}
-use lib.Dec.{ltb}
 use lib.ListN.{length}
-use borrow.Author.Tests.{lt-ltb, le-ltb, ltb-true, ltb-false}
+use borrow.Author.Tests.{le-ltb, ltb-false}
 use Rattle.family.specs.Family.{Family, size}
 use Rattle.family.specs.Book.{at}
-use Rattle.words.proofs.Cases.{by-lt, clash}
+use Rattle.words.proofs.Cases.{clash}
 use Rattle.store.specs.declared.record.Store.{Store}
 use Rattle.store.specs.declared.record.Refusal.the-variants.{Handle, Large, Scratch, Damaged}
 use Rattle.store.specs.Capacity.{fitting}
 use Rattle.store.specs.Scratch.{scratchTests}
-use Rattle.store.specs.Words.{bookOf}
+use Rattle.store.specs.Words.{bookOf, wordOf}
 use Rattle.store.specs.Sound.{Sound}
-use Rattle.store.specs.Inner.{Holds}
 use Rattle.store.proofs.Decoding.{sound-holds}
 use Rattle.store.proofs.Calls.{sound-fits}
 use Rattle.store.proofs.Tested.{tests-handle, tests-scratch, tests-passed}
 use Rattle.query_size.specs.declared.SizeAnswer.the-variants.{Members, Refused}
 use Rattle.query_size.specs.declared.Measured.{Measured}
-use Rattle.query_sizes.specs.NodeSizes.{most, sizesOf}
+use Rattle.query_sizes.specs.NodeSizes.{most}
 use Rattle.query_size.specs.Promise.{sizeGivenBy, sizeRefusal, sizeAnswer, sizeScratch, SizeCall}
-use Rattle.query_sizes.specs.Inner.{sizeAt, Filled, Exceeding}
+use Rattle.query_sizes.specs.Inner.{Filled, Exceeding}
 use Rattle.query_sizes.proofs.Summing.{size-known, filled-is}
 
 module _ (s : Store) (nodes lookup : List ℕ) (p : ℕ) where
@@ -76,11 +74,11 @@ module _ (s : Store) (nodes lookup : List ℕ) (p : ℕ) where
           unfolding sizeScratch
           filled S = rw (tested l S) (filled-is (sound-holds S) l F)
 
-          word-is : Sound s nodes lookup [] → sizeAt scratch′ p ≡ min (size (at B p)) most
+          word-is : Sound s nodes lookup [] → wordOf scratch′ p ≡ min (size (at B p)) most
           word-is S = size-known (sound-holds S) scratch′ (s .count) (F .each B lookup (sound-holds S)) p (omega arith)
 
           -- the size is above the largest number
-          pub size-large : (m : ℕ) → m ≡ sizeAt scratch′ p → m ≡ most → {x : Bool} → Exceeding nodes scratch′ (s .count) p x → x ≡ true → r .answer ≡ Refused Large
+          pub size-large : (m : ℕ) → m ≡ wordOf scratch′ p → m ≡ most → {x : Bool} → Exceeding nodes scratch′ (s .count) p x → x ≡ true → r .answer ≡ Refused Large
               → SizeCall s nodes lookup p scratch r scratch′
           unfolding sizeAnswer sizeRefusal
           size-large m em most-is X ex ea =
@@ -94,7 +92,7 @@ module _ (s : Store) (nodes lookup : List ℕ) (p : ℕ) where
               }
 
           -- it is not: the word has it
-          size-told : (m : ℕ) → m ≡ sizeAt scratch′ p → (Sound s nodes lookup [] → size (at B p) ≤ most) → r .answer ≡ Members m → SizeCall s nodes lookup p scratch r scratch′
+          size-told : (m : ℕ) → m ≡ wordOf scratch′ p → (Sound s nodes lookup [] → size (at B p) ≤ most) → r .answer ≡ Members m → SizeCall s nodes lookup p scratch r scratch′
           unfolding sizeAnswer sizeRefusal
           size-told m em few ea =
               record {
@@ -107,11 +105,11 @@ module _ (s : Store) (nodes lookup : List ℕ) (p : ℕ) where
                 long = F .long;
               }
 
-          pub size-brim : (m : ℕ) → m ≡ sizeAt scratch′ p → m ≡ most → {x : Bool} → Exceeding nodes scratch′ (s .count) p x → x ≡ false → r .answer ≡ Members m
+          pub size-brim : (m : ℕ) → m ≡ wordOf scratch′ p → m ≡ most → {x : Bool} → Exceeding nodes scratch′ (s .count) p x → x ≡ false → r .answer ≡ Members m
               → SizeCall s nodes lookup p scratch r scratch′
           size-brim m em most-is X ex ea =
               size-told m em
               (λ S. ltb-false most (size (at B p)) (sym (X .is B lookup (sound-holds S) (F .each B lookup (sound-holds S)) (omega (arith, word-is S))) ∙ ex)) ea
 
-          pub size-below : (m : ℕ) → m ≡ sizeAt scratch′ p → (m ≡ most → ⊥) → r .answer ≡ Members m → SizeCall s nodes lookup p scratch r scratch′
+          pub size-below : (m : ℕ) → m ≡ wordOf scratch′ p → (m ≡ most → ⊥) → r .answer ≡ Members m → SizeCall s nodes lookup p scratch r scratch′
           size-below m em n ea = size-told m em (λ S. omega (arith, word-is S)) ea

@@ -2,20 +2,20 @@
 -- The tops fall, so the way ends within the limit.
 use Prim.Native.Nat.{ℕ, zero, suc, _+_, _*_, _-_, _≤_, _<_, min}
 use mathlib.Core.Path.{_≡_, refl, sym, ap, _∙_}
-use mathlib.Core.Bool.{Bool, true, false}
+use mathlib.Core.Bool.{true, false}
 use mathlib.Core.List.{List}
 use native.Mathlib.Omega.{arith}
 use lib.Dec.{T, ltb}
-use lib.ListN.{length, getD}
+use lib.ListN.{getD}
 use borrow.Author.Tests.{lt-ltb, le-ltb}
 use Rattle.family.specs.Family.{Family, empty, base, node, top, inhabited, size, Ordered}
 use Rattle.family.specs.Book.{at}
 use Rattle.words.proofs.Cases.{by-lt}
-use Rattle.store.specs.Words.{itemLimit}
+use Rattle.store.specs.Words.{wordOf}
 use Rattle.store.specs.Inner.{Entry, Holds}
 use Rattle.store.proofs.Held.{at-0, at-1, at-node, within}
 use Rattle.query_sizes.specs.NodeSizes.{most}
-use Rattle.query_sizes.specs.Inner.{sizeAt, Exceeding}
+use Rattle.query_sizes.specs.Inner.{Exceeding}
 use Rattle.query_sizes.proofs.Summing.{size-known}
 
 -- a family with a member has a size
@@ -70,17 +70,17 @@ module _ (nodes sizes : List ℕ) (n p : ℕ) where
         one-some = some-size (at B o) (falls .4) (falls .2)
 
         module _ (K : Known sizes B n) where
-          zero-is : sizeAt sizes z ≡ min (size (at B z)) most
+          zero-is : wordOf sizes z ≡ min (size (at B z)) most
           zero-is = size-known H sizes n K z (omega (arith, here .zero-before, D .inside))
 
-          one-is : sizeAt sizes o ≡ min (size (at B o)) most
+          one-is : wordOf sizes o ≡ min (size (at B o)) most
           one-is = size-known H sizes n K o (omega (arith, here .one-before, D .inside))
 
       pub down-none : left ≡ 0 → Exceeding nodes sizes n p false
       down-none e = record { is = λ B lookup H K m. absurd (let f = falls H in omega (arith, D .same B lookup H K m .1, ap top (is-node H), f .0)) }
 
       -- the one side is no more than its word says
-      pub down-small : (zero′ one : ℕ) → zero′ ≡ sizeAt sizes z → one ≡ sizeAt sizes o → one < most → Exceeding nodes sizes n p (ltb (most - one) zero′)
+      pub down-small : (zero′ one : ℕ) → zero′ ≡ wordOf sizes z → one ≡ wordOf sizes o → one < most → Exceeding nodes sizes n p (ltb (most - one) zero′)
       down-small zero′ one ez eo l =
           record {
             is = λ B lookup H K m.
@@ -95,7 +95,7 @@ module _ (nodes sizes : List ℕ) (n p : ℕ) where
           }
 
       -- the one side alone fills the word, and the zero side has a member
-      pub down-some : (zero′ one : ℕ) → zero′ ≡ sizeAt sizes z → one ≡ sizeAt sizes o → most ≤ one → (zero′ ≡ 0 → ⊥) → Exceeding nodes sizes n p true
+      pub down-some : (zero′ one : ℕ) → zero′ ≡ wordOf sizes z → one ≡ wordOf sizes o → most ≤ one → (zero′ ≡ 0 → ⊥) → Exceeding nodes sizes n p true
       down-some zero′ one ez eo l some =
           record {
             is = λ B lookup H K m.
@@ -110,7 +110,7 @@ module _ (nodes sizes : List ℕ) (n p : ℕ) where
       down-outside l = record { is = λ B lookup H K m. absurd (omega (arith, here H .one-before, D .inside)) }
 
       -- the zero side is {}: the one side's size decides
-      pub down-step : (zero′ : ℕ) → zero′ ≡ sizeAt sizes z → zero′ ≡ 0 → o ≤ n + 1 → Down nodes sizes n p o (left - 1)
+      pub down-step : (zero′ : ℕ) → zero′ ≡ wordOf sizes z → zero′ ≡ 0 → o ≤ n + 1 → Down nodes sizes n p o (left - 1)
       down-step zero′ ez e l =
           record {
             inside = l;

@@ -4,37 +4,24 @@ use Prim.Native.Nat.{ℕ, zero, suc, _+_, _*_, _-_, _≤_, _<_, min}
 use mathlib.Core.Path.{_≡_, refl, sym, ap, _∙_, subst}
 use mathlib.Core.List.{List, [], _∷_, _++_, map}
 use native.Mathlib.Omega.{arith}
-use lib.ListN.{length, getD, set, drop, length-set, length-map, length-append, length-drop, List·getD-append, List·getD-eq-default}
+use lib.ListN.{length, getD, set, drop, length-set, length-map, length-append, length-drop, List·getD-append}
 use lib.Seq.{getD-set-same, getD-set-other, getD-append-add, getD-drop, ext-getD}
-use borrow.Author.Tests.{lt-ltb, le-ltb}
-use Rattle.family.specs.Family.{Family, empty, base, node, size}
+use Rattle.family.specs.Family.{Family, empty, node, size}
 use Rattle.family.specs.Book.{at}
 use Rattle.words.proofs.Cases.{by-lt, by-eq}
-use Rattle.store.specs.Inner.{Entry, Holds}
+use Rattle.store.specs.Inner.{Holds}
 use Rattle.store.proofs.Held.{at-0, at-1}
 use Rattle.query_sizes.specs.NodeSizes.{most, sizesOf}
-use Rattle.query_sizes.specs.Inner.{sizeAt, SizesTo, Filled}
-
--- the three ways out of `size_at`
-module _ (sizes : List ℕ) (h : ℕ) where
-  pub at-leaf : h < 2 → h ≡ sizeAt sizes h
-  unfolding sizeAt
-  at-leaf l = rw (lt-ltb h 2 l)
-
-  pub at-word : 2 ≤ h → getD sizes (h - 2) 0 ≡ sizeAt sizes h
-  unfolding sizeAt
-  at-word l = rw (le-ltb h 2 l)
-
-  pub at-none : 2 ≤ h → length sizes ≤ h - 2 → 0 ≡ sizeAt sizes h
-  at-none l m = sym (List·getD-eq-default sizes 0 m) ∙ at-word l
+use Rattle.store.specs.Words.{wordOf}
+use Rattle.query_sizes.specs.Inner.{Filled}
 
 -- words that hold the sizes below j give the size of every handle below j + 2
 pub size-known : {B : List Family} {n : ℕ} {nodes lookup : List ℕ} → Holds B n nodes lookup → (sizes : List ℕ) (j : ℕ) → ((k : ℕ) → k < j → getD sizes k 0 ≡ min (size (at B (k + 2))) most)
-    → (h : ℕ) → h < j + 2 → sizeAt sizes h ≡ min (size (at B h)) most
-size-known H sizes j e zero l = sym (at-leaf sizes 0 (omega arith)) ∙ rw (at-0 H) (omega arith)
-size-known H sizes j e (suc zero) l = sym (at-leaf sizes 1 (omega arith)) ∙ rw (at-1 H) (omega arith)
+    → (h : ℕ) → h < j + 2 → wordOf sizes h ≡ min (size (at B h)) most
+size-known H sizes j e zero l = sym (word-leaf sizes 0 (omega arith)) ∙ rw (at-0 H) (omega arith)
+size-known H sizes j e (suc zero) l = sym (word-leaf sizes 1 (omega arith)) ∙ rw (at-1 H) (omega arith)
 size-known {B} H sizes j e (suc (suc h)) l =
-    sym (at-word sizes (suc (suc h)) (omega arith)) ∙ e (suc (suc h) - 2) (omega arith) ∙ ap (λ k. min (size (at B k)) most) (omega arith)
+    sym (word-node sizes (suc (suc h)) (omega arith)) ∙ e (suc (suc h) - 2) (omega arith) ∙ ap (λ k. min (size (at B k)) most) (omega arith)
 
 capped : (x y : ℕ) → min (min x most + min y most) most ≡ min (x + y) most
 capped x y = omega arith
@@ -48,7 +35,7 @@ pub filled-none : (nodes : List ℕ) (n : ℕ) (sizes : List ℕ) → Filled nod
 filled-none nodes n sizes = record { long = refl; rest = λ k l. refl; each = λ B lookup H k l. absurd (omega arith) }
 
 pub filled-step : {nodes : List ℕ} {n j : ℕ} {sizes sizes₁ : List ℕ} (a b v : ℕ) → j < n → j < length sizes
-    → a ≡ sizeAt sizes₁ (getD nodes (3 * j + 1) 0) → b ≡ sizeAt sizes₁ (getD nodes (3 * j + 2) 0) → v ≡ min (a + b) most → Filled nodes n j sizes sizes₁ → Filled nodes n (j + 1) sizes (set sizes₁ j v)
+    → a ≡ wordOf sizes₁ (getD nodes (3 * j + 1) 0) → b ≡ wordOf sizes₁ (getD nodes (3 * j + 2) 0) → v ≡ min (a + b) most → Filled nodes n j sizes sizes₁ → Filled nodes n (j + 1) sizes (set sizes₁ j v)
 filled-step {nodes} {n} {j} {sizes} {sizes₁} a b v l m ea eb e F =
     record {
       long = length-set sizes₁ j v ∙ F .long;

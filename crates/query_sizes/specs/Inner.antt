@@ -1,7 +1,7 @@
 -- What the functions below Size promise each other. A reader of the promise can pass this page over.
 use Prim.Native.Nat.{ℕ, _+_, _-_, _≤_, _<_, min}
 use mathlib.Core.Path.{_≡_}
-use mathlib.Core.Bool.{Bool, cond}
+use mathlib.Core.Bool.{Bool}
 use mathlib.Core.List.{List}
 use lib.Dec.{ltb}
 use lib.ListN.{length, getD}
@@ -9,10 +9,6 @@ use Rattle.family.specs.Family.{Family, size}
 use Rattle.family.specs.Book.{at}
 use Rattle.store.specs.Inner.{Holds}
 use Rattle.query_sizes.specs.NodeSizes.{most}
-
--- the size of a handle by its word
-unfoldable pub sizeAt : List ℕ → ℕ → ℕ
-sizeAt sizes h = cond (ltb h 2) h (getD sizes (h - 2) 0)
 
 -- the words of the first j of n nodes are their sizes
 abbrev pub SizesTo : List ℕ → ℕ → ℕ → List ℕ → Type 0

@@ -3,11 +3,12 @@ ghost use mathlib.Core.Path.{_≡_};
 ghost use Prim.Native.Nat.{_+_, _*_, _≤_, min};
 ghost use lib.ListN.{length};
 ghost use Rattle.query_sizes.specs.NodeSizes.{most};
-ghost use Rattle.query_sizes.specs.Inner.{sizeAt, Filled, Exceeding};
+ghost use Rattle.store.specs.Words.{wordOf};
+ghost use Rattle.query_sizes.specs.Inner.{Filled, Exceeding};
 
 // The size of a handle, from the words of the nodes before; 0 where no word has it.
 pub fn size_at(sizes: &[u64], handle: u32) -> u64
-    ensures { λ r. ⌜ r ≡ sizeAt (now (sizes .entry)) handle ⌝ }
+    ensures { λ r. ⌜ r ≡ wordOf (now (sizes .entry)) handle ⌝ }
 {
     if handle < 2 {
         return handle as u64;

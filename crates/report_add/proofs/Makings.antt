@@ -1,26 +1,25 @@
 -- A combination made by Change from handle 1 in rising items, and united with a family: the loop's steps and its ends.
 -- After each call the handle that it gave means the family placed last, and families held before keep their numbers.
-use Prim.Native.Nat.{ℕ, zero, suc, _+_, _-_, _≤_, _<_}
+use Prim.Native.Nat.{ℕ, suc, _+_, _-_, _≤_, _<_}
 use mathlib.Core.Path.{_≡_, refl, sym, ap, subst, _∙_}
-use mathlib.Core.Bool.{Bool, true, false, cond, not, _||_}
+use mathlib.Core.Bool.{Bool, true, false, not}
 use mathlib.Core.List.{List, [], _∷_}
 use native.Mathlib.Omega.{arith}
 use lib.ListN.{length}
 use borrow.Author.Tests.{not-true, not-false}
-use Rattle.words.proofs.Cases.{by-test, clash}
-use Rattle.family.specs.Family.{Family, base}
-use Rattle.family.specs.Operation.{change, union, combine}
-use Rattle.family.specs.Book.{at, number, place, Held, Grown}
+use Rattle.words.proofs.Cases.{by-test}
+use Rattle.family.specs.Family.{Family}
+use Rattle.family.specs.Operation.{change, union}
+use Rattle.family.specs.Book.{at, number, Grown}
 use Rattle.family.specs.Combination.{holds, bitAt, itemsTo, itemsOf}
 use Rattle.family.proofs.Books.{number-at, number-base, held-base, grown-self, grown-trans, grown-at, grown-length}
 use Rattle.family.proofs.Placing.{place-grown}
 use Rattle.family.proofs.Words.{holds-items}
 use Rattle.store.specs.declared.record.Store.{Store}
 use Rattle.store.specs.declared.record.Refusal.{Refusal}
-use Rattle.store.specs.declared.record.PlaceAnswer.{PlaceAnswer}
 use Rattle.store.specs.declared.record.PlaceAnswer.the-variants.{Handle, Refused}
 use Rattle.store.specs.declared.record.Placed.{Placed}
-use Rattle.store.specs.Refusals.{Given, givenBy, refusalNumber}
+use Rattle.store.specs.Refusals.{givenBy}
 use Rattle.store.specs.Words.{bookOf}
 use Rattle.store.specs.Cache.{rule}
 use Rattle.store.specs.Sound.{Sound}
@@ -28,7 +27,7 @@ use Rattle.store.specs.Placing.{tooLarge}
 use Rattle.store.proofs.Decoding.{sound-holds}
 use Rattle.store.proofs.Calls.{refusal-some}
 use Rattle.op_promise.specs.Promise.{OperationCall}
-use Rattle.report_add.specs.Promise.{Added, placed, next, made, added, answerOf, After, AddCall}
+use Rattle.report_add.specs.Promise.{Added, placed, next, made, answerOf, After, AddCall}
 use Rattle.report_add.specs.Inner.{changedBy, ChangeIt, MakeIt}
 use Rattle.report_add.proofs.Placings.{handle-inside, change-after, combine-after}
 

@@ -1,33 +1,31 @@
 -- A call that places, on a sound store: it leaves what the definition `placed` says of the book that the words hold.
 -- Its promise has two ways here, no room and placed; the words of the placed book mean that book.
-use Prim.Native.Nat.{ℕ, zero, suc, _+_, _-_, _≤_, _<_}
-use mathlib.Core.Path.{_≡_, refl, sym, ap, _∙_}
-use mathlib.Core.Bool.{Bool, true, false, cond, _&&_}
-use mathlib.Core.List.{List, [], _∷_}
+use Prim.Native.Nat.{ℕ, _+_, _-_, _≤_, _<_}
+use mathlib.Core.Path.{_≡_, refl, ap, _∙_}
+use mathlib.Core.Bool.{true, false}
+use mathlib.Core.List.{List}
 use native.Mathlib.Omega.{arith}
-use lib.Dec.{eqb, ltb, leb}
 use lib.ListN.{length}
 use borrow.Author.Tests.{lt-ltb, le-ltb, le-leb}
 use Rattle.words.proofs.Cases.{by-test, clash}
 use Rattle.family.specs.Family.{Family, Within}
 use Rattle.family.specs.Operation.{change, combine}
-use Rattle.family.specs.Book.{at, number, place, Held, Book}
+use Rattle.family.specs.Book.{at, number, place, Book}
 use Rattle.family.proofs.Books.{held-at}
 use Rattle.family.proofs.Placing.{book-place}
 use Rattle.family.proofs.Restrict.{within-change}
 use Rattle.family.proofs.Combine.{within-combine}
 use Rattle.store.specs.declared.record.Store.{Store}
 use Rattle.store.specs.declared.record.Placed.{Placed}
-use Rattle.store.specs.Refusals.{givenBy}
 use Rattle.store.specs.Words.{itemLimit, bookOf, nodesWith, lookupOf}
 use Rattle.store.specs.Cache.{restrict, rule, named}
 use Rattle.store.specs.Sound.{Sound}
 use Rattle.store.specs.Placing.{tooLarge, placeAnswer, placeBook}
-use Rattle.store.specs.Promise.{Left, leaves, placing, PlaceCall}
+use Rattle.store.specs.Promise.{leaves, placing, PlaceCall}
 use Rattle.store.proofs.Decoding.{sound-holds}
 use Rattle.store.proofs.Recovering.{book-of-words}
 use Rattle.op_promise.specs.Promise.{isItem, operationRefusal, OperationCall}
-use Rattle.report_add.specs.Promise.{Added, placed, answerOf, After}
+use Rattle.report_add.specs.Promise.{placed, After}
 
 -- the two ways that a call has which nothing refuses before it places
 module _ (F : Family) (s : Store) (nodes lookup : List ℕ) where

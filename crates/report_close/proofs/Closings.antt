@@ -1,26 +1,24 @@
 -- The end of a report: the sizes of the two families and of what is in both and only in the returned one, or the line that ended the log.
 -- The two calls leave the families' handles as they are, and Size tells the size of each family that the store holds.
-use Prim.Native.Nat.{ℕ, zero, suc, _+_, _-_, _*_, _/_, _≤_, _<_, min}
-use mathlib.Core.Path.{_≡_, refl, sym, ap, subst, _∙_}
-use mathlib.Core.Bool.{Bool, true, false, cond}
-use mathlib.Core.List.{List, [], _∷_, _++_}
+use Prim.Native.Nat.{ℕ, suc, _+_, _-_, _≤_, _<_}
+use mathlib.Core.Path.{_≡_, refl, sym, ap, _∙_}
+use mathlib.Core.Bool.{true, false}
+use mathlib.Core.List.{List, [], _∷_}
 use native.Mathlib.Omega.{arith}
-use lib.Dec.{eqb, ltb}
 use lib.ListN.{length, take}
 use types.Run.{OneOf, miss}
 use denote.Enum.Declared.{tagOf}
 use borrow.Author.Tests.{lt-ltb, le-ltb}
 use Rattle.words.proofs.Cases.{by-test, by-lt}
 use Rattle.family.specs.Family.{Family, size}
-use Rattle.family.specs.Operation.{intsec, diff, combine}
-use Rattle.family.specs.Book.{at, Grown}
+use Rattle.family.specs.Operation.{intsec, diff}
+use Rattle.family.specs.Book.{at}
 use Rattle.store.specs.declared.record.Store.{Store}
 use Rattle.store.specs.declared.record.Refusal.{Refusal}
 use Rattle.store.specs.declared.record.PlaceAnswer.the-variants.{Handle, Refused as NoHandle}
 use Rattle.store.specs.declared.record.Placed.{Placed}
-use Rattle.store.specs.Refusals.{refusalNumber}
 use Rattle.store.specs.Words.{bookOf}
-use Rattle.store.specs.Cache.{rule, True}
+use Rattle.store.specs.Cache.{rule}
 use Rattle.store.specs.Sound.{Sound}
 use Rattle.store.specs.Scratch.{scratchTests}
 use Rattle.store.specs.Placing.{tooLarge}
@@ -31,7 +29,7 @@ use Rattle.op_promise.specs.Promise.{OperationCall}
 use Rattle.query_size.specs.declared.SizeAnswer.the-variants.{Members, Refused as NoSize}
 use Rattle.query_size.specs.declared.Measured.{Measured}
 use Rattle.query_sizes.specs.NodeSizes.{most}
-use Rattle.query_size.specs.Promise.{SizeGiven, sizeGivenBy, sizeRefusal, sizeAnswer, SizeCall}
+use Rattle.query_size.specs.Promise.{sizeGivenBy, sizeRefusal, sizeAnswer, SizeCall}
 use Rattle.family.specs.Combination.{itemsOf}
 use Rattle.report_line.specs.declared.Side.{Side}
 use Rattle.report_line.specs.declared.Stage.{Stage}
@@ -43,9 +41,9 @@ use Rattle.report_log.proofs.tally.Ending.{the-type as the-ending}
 use Rattle.report_log.specs.declared.tally.Tally.{Tally}
 use Rattle.report_line.specs.Line.{progressOf}
 use Rattle.report_add.specs.Promise.{Added, placed, After}
-use Rattle.report_text.specs.Text.{refusedWord, reportFull, lineText, sumsText, Wrote}
-use Rattle.report_log.specs.Log.{Lot, Log, capped, closing, lastOf, endOf, outputOf, Keeps, CloseCall}
-use Rattle.report_close.specs.Inner.{SizeIt, AllHeld, SizesIt, SumsIt, endText, EndIs}
+use Rattle.report_text.specs.Text.{reportFull, lineText, sumsText, Wrote}
+use Rattle.report_log.specs.Log.{Log, capped, closing, lastOf, endOf, outputOf, Keeps, CloseCall}
+use Rattle.report_close.specs.Inner.{SizeIt, SizesIt, SumsIt, endText, EndIs}
 use Rattle.report_add.proofs.Placings.{combine-after}
 use Rattle.report_add.proofs.Makings.{gives, refused-full, placed-grown}
 use Rattle.report_log.proofs.Logs.{Stays, stays}

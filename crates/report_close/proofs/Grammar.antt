@@ -1,19 +1,19 @@
 -- The grammar, against the text that a line is written as: a line is read as a side and items exactly where it is the letter, each item in decimal after one space, and a newline.
 -- Both ways by induction: on the items that are written, and on the bytes that are read.
 use Prim.Native.Nat.{ℕ, zero, suc, _+_, _-_, _*_, _/_, _%_, _≤_, _<_}
-use mathlib.Core.Path.{_≡_, refl, sym, ap, subst, _∙_}
+use mathlib.Core.Path.{_≡_, refl, sym, ap, _∙_}
 use mathlib.Core.Bool.{Bool, true, false, cond, _&&_}
 use mathlib.Core.Logic.{_⊎_, inl, inr, ⊎-elim}
 use mathlib.Core.List.{List, [], _∷_, _++_, foldl, foldl-append, append-assoc, append-nil}
 use native.Mathlib.Omega.{arith}
 use lib.Dec.{eqb, ltb, leb}
 use lib.ListN.{length, length-append}
-use borrow.Author.Tests.{eq-eqb, ne-eqb, leb-true, leb-false, le-leb, lt-leb}
+use borrow.Author.Tests.{ne-eqb, leb-true}
 use Rattle.words.proofs.Cases.{by-test, by-eq, by-lt, clash}
 use Rattle.family.specs.Combination.{insert, isFree}
 use Rattle.report_line.specs.declared.Side.{Side}
 use Rattle.report_line.specs.declared.Side.the-variants.{Passed, Returned}
-use Rattle.report_line.specs.Line.{Progress, blank, letter, space, number, whole, malformed, first, gap, opened, isDigit, grown, closed, advance, State, begin, step, lineOf}
+use Rattle.report_line.specs.Line.{Progress, letter, space, number, whole, malformed, first, gap, opened, grown, closed, advance, State, begin, step, lineOf}
 use Rattle.report_text.specs.Text.{decimalOf}
 use Rattle.report_line.proofs.States.{first-passed, first-returned, first-other, opened-digit, opened-low, opened-high, number-digit, number-low, number-high, grown-low, grown-high, closed-not, gap-space, gap-newline, gap-other}
 use Rattle.report_text.proofs.Writings.{decimal-small, decimal-more}

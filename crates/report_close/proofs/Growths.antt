@@ -1,27 +1,26 @@
 -- The families of a log: each is in canonical form, and has no more members than lines were taken. So of at most 2^64 - 1 lines every number printed is exact.
 -- A line adds one combination, which is a falling list of items from 1 to 512.
-use Prim.Native.Nat.{ℕ, zero, suc, _+_, _-_, _*_, _≤_, _<_, max, min}
-use mathlib.Core.Path.{_≡_, refl, sym, ap, subst, _∙_}
+use Prim.Native.Nat.{ℕ, suc, _+_, _-_, _*_, _≤_, max}
+use mathlib.Core.Path.{_≡_, refl, sym, subst}
 use mathlib.Core.Bool.{Bool, true, false, cond, not, _&&_}
 use mathlib.Core.List.{List, [], _∷_, foldl}
 use native.Mathlib.Omega.{arith}
 use lib.Dec.{eqb, ltb, leb}
 use borrow.Author.Tests.{ltb-true, leb-true}
-use Rattle.words.proofs.Cases.{by-test, and-inv, clash}
-use Rattle.family.specs.Family.{Family, empty, top, Ordered, Within, size}
-use Rattle.family.specs.Operation.{union, intsec, diff}
-use Rattle.family.specs.Combination.{largest, Falling, Combined, holds, insert, isFree}
+use Rattle.words.proofs.Cases.{by-test, and-inv}
+use Rattle.family.specs.Family.{Family, empty, top, Ordered, size}
+use Rattle.family.specs.Operation.{intsec, diff}
+use Rattle.family.specs.Combination.{Combined, holds, insert, isFree}
 use Rattle.family.proofs.Falling.{insert-falling}
-use Rattle.family.proofs.Diagrams.{within-self}
 use Rattle.family.proofs.Laws.{union-within}
 use Rattle.query_sizes.specs.NodeSizes.{most}
 use Rattle.report_line.specs.declared.Side.{Side}
 use Rattle.report_line.specs.declared.Side.the-variants.{Passed, Returned}
 use Rattle.report_log.specs.declared.tally.Ending.{Ending}
 use Rattle.report_log.specs.declared.tally.Ending.the-variants.{Going, Refused, Full}
-use Rattle.report_line.specs.Line.{Progress, blank, letter, space, number, whole, malformed, first, gap, opened, isDigit, grown, closed, advance, State, begin, step, lineOf}
+use Rattle.report_line.specs.Line.{Progress, blank, letter, space, number, whole, malformed, gap, isDigit, closed, advance, State, begin, step, lineOf}
 use Rattle.report_add.specs.Promise.{Added, added}
-use Rattle.report_log.specs.Log.{Lot, Taken, withPassed, withReturned, takeLine, Log, opening, counted, readOn, whileGoing, logByte, feed, capped}
+use Rattle.report_log.specs.Log.{withPassed, withReturned, takeLine, Log, opening, counted, readOn, whileGoing, logByte, feed, capped}
 use Rattle.report_close.proofs.Meanings.{single, single-falls, single-size, added-single, union-size, intsec-size, diff-size}
 
 -- the items taken of a line are a combination

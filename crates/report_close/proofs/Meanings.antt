@@ -2,18 +2,18 @@
 -- Change in rising items from {{}} puts each item on top, so the family made has one member; a union has no more members than its two families.
 use Prim.Native.Nat.{ℕ, zero, suc, _+_, _≤_, _<_, max}
 use mathlib.Core.Path.{_≡_, refl, sym, ap, _∙_}
-use mathlib.Core.Bool.{Bool, true, false, cond, not, _&&_, _||_}
+use mathlib.Core.Bool.{Bool, true, false, not, _&&_, _||_}
 use mathlib.Core.List.{List, [], _∷_}
 use native.Mathlib.Omega.{arith}
-use lib.Dec.{T, eqb, ltb}
-use borrow.Author.Tests.{eq-eqb, lt-ltb, eqb-true}
+use lib.Dec.{T}
+use borrow.Author.Tests.{eq-eqb, lt-ltb}
 use Rattle.words.proofs.Cases.{by-test, by-eq, clash}
 use Rattle.family.specs.Family.{Family, empty, base, node, top, Ordered, Within, inhabited, has, size, mk}
 use Rattle.family.specs.Operation.{change, lacking, holding, isBase, leaf, apply, combine, minus, union, intsec, diff}
 use Rattle.family.specs.Combination.{largest, Falling}
 use Rattle.family.proofs.Diagrams.{within-lacking, within-holding, rebuild, is-leaf}
 use Rattle.family.proofs.Laws.{union-law}
-use Rattle.report_add.specs.Promise.{Added, placed, next, made, added}
+use Rattle.report_add.specs.Promise.{Added, next, made, added}
 use Rattle.report_close.proofs.Closings.{placed-family}
 
 -- the family of one combination

@@ -1,20 +1,20 @@
 -- A log taken byte by byte prints what its lines say: the report on the whole input.
 -- By induction on the bytes: a newline makes a line whole or malformed, any other byte leaves it open or spoils it, and a spoiled line stays so.
-use Prim.Native.Nat.{ℕ, zero, suc, _+_, _-_, _*_, _≤_, _<_}
-use mathlib.Core.Path.{_≡_, refl, sym, ap, subst, _∙_}
+use Prim.Native.Nat.{ℕ, suc, _+_, _-_, _*_}
+use mathlib.Core.Path.{_≡_, refl, sym, ap, _∙_}
 use mathlib.Core.Bool.{Bool, true, false, cond, _&&_}
 use mathlib.Core.List.{List, [], _∷_, foldl}
 use native.Mathlib.Omega.{arith}
 use lib.Dec.{eqb, leb}
-use borrow.Author.Tests.{eq-eqb, ne-eqb}
+use borrow.Author.Tests.{ne-eqb}
 use Rattle.words.proofs.Cases.{by-test, by-eq}
 use Rattle.family.specs.Combination.{insert, isFree}
 use Rattle.report_line.specs.declared.Side.{Side}
 use Rattle.report_log.specs.declared.tally.Ending.{Ending}
 use Rattle.report_log.specs.declared.tally.Ending.the-variants.{Going, Refused, Full}
-use Rattle.report_line.specs.Line.{Progress, blank, letter, space, number, whole, malformed, first, gap, opened, isDigit, grown, closed, advance, State, begin, step, lineOf}
-use Rattle.report_text.specs.Text.{lineText, refusedWord, fullWord}
-use Rattle.report_log.specs.Log.{Lot, Taken, takeLine, Log, opening, counted, readOn, whileGoing, logByte, feed, capped, closing, lastOf, endOf, outputOf}
+use Rattle.report_line.specs.Line.{Progress, blank, letter, space, number, whole, malformed, gap, isDigit, advance, State, begin, step, lineOf}
+use Rattle.report_text.specs.Text.{lineText, refusedWord}
+use Rattle.report_log.specs.Log.{Taken, takeLine, Log, opening, counted, readOn, whileGoing, logByte, feed, capped, lastOf, endOf, outputOf}
 use Rattle.report_close.specs.Report.{onto, linesOf, nextLine, onLine, reportFrom, reportOf}
 
 -- a newline ends a line

@@ -1,21 +1,20 @@
 -- Reading a line: the progress that each test of the code leads to is the one that the grammar names.
 -- Each law is one test, or two, of the grammar's definition decided by what the code tested.
 use Prim.Native.Nat.{ℕ, _+_, _-_, _*_, _≤_, _<_}
-use mathlib.Core.Path.{_≡_, refl, sym, ap, _∙_}
-use mathlib.Core.Bool.{Bool, true, false, cond, _&&_}
-use mathlib.Core.List.{List, [], _∷_}
+use mathlib.Core.Path.{_≡_, sym, ap, _∙_}
+use mathlib.Core.Bool.{true, false}
+use mathlib.Core.List.{List, []}
 use native.Mathlib.Omega.{arith}
-use lib.Dec.{eqb, ltb, leb}
 use lib.ListN.{replicate}
 use borrow.Author.Tests.{eq-eqb, ne-eqb, le-leb, lt-leb}
-use Rattle.family.specs.Combination.{insert, isFree, including, holds, itemsOf}
-use Rattle.family.proofs.Words.{one-record, is-including, free-zero, free-high, free-held, free-item}
+use Rattle.family.specs.Combination.{isFree, including, itemsOf}
+use Rattle.family.proofs.Words.{one-record, is-including}
 use Rattle.combination.specs.declared.Combination.{Combination}
 use Rattle.report_line.specs.declared.Side.{Side}
 use Rattle.report_line.specs.declared.Side.the-variants.{Passed, Returned}
 use Rattle.report_line.specs.declared.Stage.{Stage}
 use Rattle.report_line.specs.declared.Reading.{Reading}
-use Rattle.report_line.specs.Line.{Progress, letter, space, number, whole, malformed, first, gap, opened, isDigit, grown, closed, advance, State, step, progressOf, stateOf}
+use Rattle.report_line.specs.Line.{Progress, letter, space, number, whole, malformed, first, gap, opened, grown, closed, advance, State, step, progressOf, stateOf}
 
 -- the state of a reading, by its fields
 pub state-is : {r : Reading} {st : Stage} {sd : Side} {c : Combination} {n l : ℕ} → r .stage ≡ st → r .side ≡ sd → r .items ≡ c → r .item ≡ n → r .left ≡ l

@@ -1,8 +1,8 @@
 -- The grammar of one line of a log: document 01, 'Report program'.
 use Prim.Native.Nat.{ℕ, _+_, _-_, _*_}
 use mathlib.Core.Bool.{Bool, cond, _&&_}
-use mathlib.Core.List.{List, [], _∷_, foldl}
-use lib.Dec.{eqb, ltb, leb}
+use mathlib.Core.List.{List, [], foldl}
+use lib.Dec.{eqb, leb}
 use Rattle.family.specs.Combination.{insert, isFree, itemsOf}
 use Rattle.report_line.specs.declared.Side.{Side}
 use Rattle.report_line.specs.declared.Side.the-variants.{Passed, Returned}

@@ -1,17 +1,16 @@
 -- A log taken byte by byte: what each function leaves keeps the log that the definitions name.
 -- Families held before a call keep their handles, so the other family's handle stays; the rest is by the tally's fields.
-use Prim.Native.Nat.{ℕ, zero, suc, _+_, _-_, _*_, _/_, _≤_, _<_, min}
+use Prim.Native.Nat.{ℕ, suc, _+_, _-_, _*_, _/_, _≤_, _<_}
 use mathlib.Core.Path.{_≡_, refl, sym, ap, subst, _∙_}
-use mathlib.Core.Bool.{Bool, true, false, cond}
-use mathlib.Core.List.{List, [], _∷_, _++_, foldl, foldl-append}
+use mathlib.Core.Bool.{true, false}
+use mathlib.Core.List.{List, [], _∷_, foldl-append}
 use native.Mathlib.Omega.{arith}
-use lib.Dec.{ltb, leb}
 use lib.ListN.{length, getD, take}
 use lib.Seq.{take-suc, take-all}
 use types.Run.{OneOf, miss}
 use denote.Enum.Declared.{tagOf}
 use borrow.Author.Tests.{le-ltb, lt-leb}
-use Rattle.family.specs.Family.{Family, empty}
+use Rattle.family.specs.Family.{Family}
 use Rattle.family.specs.Operation.{union}
 use Rattle.family.specs.Combination.{itemsOf}
 use Rattle.family.specs.Book.{start, at, Grown}
@@ -25,10 +24,9 @@ use Rattle.store_fresh.specs.declared.Freshened.{Freshened}
 use Rattle.store.specs.Capacity.{capacityOf}
 use Rattle.store.specs.Words.{bookOf}
 use Rattle.store.specs.Sound.{Sound}
-use Rattle.store_fresh.specs.Promise.{FreshCall, FreshLeft, freshLeaves, freshOf}
+use Rattle.store_fresh.specs.Promise.{FreshCall, freshOf}
 use Rattle.store.proofs.Decoding.{sound-holds}
 use Rattle.store.proofs.Sounds.{fresh-sound}
-use Rattle.query_sizes.specs.NodeSizes.{most}
 use Rattle.report_line.specs.declared.Side.{Side}
 use Rattle.report_line.specs.declared.Side.the-variants.{Passed, Returned}
 use Rattle.report_line.specs.declared.Stage.{Stage}
@@ -38,11 +36,11 @@ use Rattle.report_log.specs.declared.tally.Ending.{Ending}
 use Rattle.report_log.specs.declared.tally.Ending.the-variants.{Going, Refused, Full}
 use Rattle.report_log.specs.declared.tally.Tally.{Tally}
 use Rattle.report_log.proofs.tally.Ending.{the-type as the-ending}
-use Rattle.report_line.specs.Line.{Progress, State, begin, step, progressOf, stateOf}
+use Rattle.report_line.specs.Line.{State, begin, step, progressOf, stateOf}
 use Rattle.report_add.specs.Promise.{Added, next, made, added, After, AddCall}
-use Rattle.report_log.specs.Log.{Lot, Taken, withPassed, withReturned, takeLine, Log, opening, counted, readOn, whileGoing, logByte, feed, capped, Keeps, OpenCall, TakeCall}
+use Rattle.report_log.specs.Log.{withPassed, withReturned, Log, opening, counted, readOn, whileGoing, logByte, feed, capped, Keeps, OpenCall, TakeCall}
 use Rattle.report_log.specs.Inner.{TallyIs, familyOf, LineEnd, LineIt}
-use Rattle.report_add.proofs.Makings.{Gives, gives, refused-full, next-grown, made-grown}
+use Rattle.report_add.proofs.Makings.{gives, refused-full, next-grown, made-grown}
 
 -- opening
 freshly : (nodes lookup cache : List ℕ) → 3 ≤ length nodes → capacityOf (length nodes) + 1 ≤ length lookup

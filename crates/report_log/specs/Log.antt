@@ -1,8 +1,8 @@
 -- A log taken byte by byte, and what the program prints at its end: document 01, 'Report program'.
 use Prim.Native.Nat.{ℕ, suc, _+_, _≤_, min}
 use mathlib.Core.Path.{_≡_}
-use mathlib.Core.Bool.{Bool, true, false, cond}
-use mathlib.Core.List.{List, [], _∷_, foldl}
+use mathlib.Core.Bool.{Bool, cond}
+use mathlib.Core.List.{List, foldl}
 use lib.ListN.{length, take}
 use Rattle.family.specs.Family.{Family, empty, size}
 use Rattle.family.specs.Operation.{intsec, diff}
@@ -18,7 +18,7 @@ use Rattle.report_log.specs.declared.tally.Ending.the-variants.{Going, R
 use Rattle.report_log.specs.declared.tally.Tally.{Tally}
 use Rattle.report_line.specs.Line.{Progress, blank, letter, space, number, whole, malformed, State, begin, step, stateOf}
 use Rattle.report_add.specs.Promise.{Added, placed, added}
-use Rattle.report_text.specs.Text.{lineText, refusedWord, fullWord, reportFull, sumsText, Wrote}
+use Rattle.report_text.specs.Text.{lineText, refusedWord, fullWord, reportFull, sumsText}
 
 -- the book of the store, and "the passed family P, the returned R"
 pub record Lot : Type 0 where

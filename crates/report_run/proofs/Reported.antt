@@ -1,17 +1,16 @@
 -- The report of what was read is the report on some input, on a store of 500 nodes.
 -- Fresh words keep the log of no byte, and what follows it keeps the log of the bytes read.
-use Prim.Native.Nat.{ℕ, _≤_}
+use Prim.Native.Nat.{ℕ}
 use mathlib.Core.Path.{_≡_, ap, subst, _∙_}
 use mathlib.Core.Bool.{true, false}
 use mathlib.Core.List.{List}
 use native.Mathlib.Omega.{arith}
-use lib.ListN.{length, take}
+use lib.ListN.{length}
 use Rattle.store.specs.Capacity.{capacityOf}
 use Rattle.report_log.specs.declared.tally.Tally.{Tally}
 use Rattle.report_log.specs.Log.{opening, feed, Keeps, OpenCall, CloseCall}
 use Rattle.report_close.proofs.Reports.{log-report}
 use Rattle.report_run.specs.Inner.{Follows}
-use Rattle.report_run.specs.declared.report.Report.{Report}
 use Rattle.report_run.specs.Promise.{Reported}
 
 pub none-reported : (out : List ℕ) → Reported (record { made = false; length = 0 }) out

@@ -2,13 +2,10 @@
 -- What is written behind a place leaves what stands before it; a number's last digit stands behind those of its tenth.
 use Prim.Native.Nat.{ℕ, zero, suc, _+_, _-_, _*_, _/_, _%_, _^_, _≤_, _<_}
 use mathlib.Core.Path.{_≡_, refl, sym, ap, _∙_}
-use mathlib.Core.Bool.{true, false, cond}
 use mathlib.Core.List.{List, [], _∷_, _++_, append-assoc, append-nil}
 use native.Mathlib.Omega.{arith}
-use native.Mathlib.Numerals.{add-one}
-use lib.Dec.{ltb}
 use lib.ListN.{length, getD, take, set, length-set, length-append}
-use lib.Seq.{take-suc, take-all, take-suc-set, length-take-le}
+use lib.Seq.{take-suc, take-all, take-suc-set}
 use borrow.Author.Tests.{lt-ltb, le-ltb}
 use Rattle.words.proofs.Cases.{by-lt}
 use Rattle.report_text.specs.Text.{digitsFrom, decimalOf, sumText, Wrote}

@@ -1,5 +1,4 @@
 // The record handed in, and how much of the words is lent.
-ghost use Prim.Native.Nat.{_≤_};
 use crate::draw::at_most;
 use crate::draw::size_below;
 use store::record::Store;

@@ -1,47 +1,29 @@
--- A call that places keeps its promise: refused before it places, it leaves all as it came; else it leaves the words of the book with the family placed, or, where that has no room, everything as before and an empty cache.
--- What ran holds the placed book exactly when that fits the capacity, and the words of a book are one only.
-use Prim.Native.Nat.{ℕ, zero, suc, _+_, _*_, _-_, _/_, _≤_, _<_}
+-- A call that places keeps its promise where it is refused before it places: it leaves all as it came.
+-- The tests decide the promise's own number, and words that do not fit the record are no sound store's.
+use Prim.Native.Nat.{ℕ, _+_, _-_, _≤_, _<_}
 use mathlib.Core.Path.{_≡_, refl, sym, ap, _∙_}
-use mathlib.Core.Bool.{Bool, true, false, cond}
-use mathlib.Core.List.{List, [], _∷_}
+use mathlib.Core.Bool.{true, false}
+use mathlib.Core.List.{List}
 use native.Mathlib.Omega.{arith}
-use lib.Dec.{eqb, ltb}
-use lib.ListN.{length, getD, drop}
-use lib.Seq.{ext-getD}
-use borrow.Author.Tests.{eq-eqb, ne-eqb, lt-ltb, le-ltb}
+use lib.ListN.{length}
+use borrow.Author.Tests.{ne-eqb, lt-ltb, le-ltb}
 use Rattle.family.specs.Family.{Family, parts}
-use Rattle.family.specs.Book.{at, number, place, distinct, absent}
+use Rattle.family.specs.Book.{number, place, distinct, absent}
 use Rattle.family.proofs.Different.{place-length}
-use Rattle.words.specs.Words.{zeroed}
-use Rattle.words.proofs.Cases.{by-lt, clash}
-use Rattle.words.proofs.Zeroed.{rest-drop, zeroed-length, zeroed-inside, zeroed-after, zeroed-drop}
-use Rattle.table.proofs.OwnSlots.{cleared-length}
+use Rattle.words.proofs.Cases.{clash}
 use Rattle.store.specs.declared.record.Store.{Store}
 use Rattle.store.specs.declared.record.Refusal.{Refusal}
 use Rattle.store.specs.declared.record.Refusal.the-variants.{Full, Damaged}
 use Rattle.store.specs.declared.record.PlaceAnswer.{PlaceAnswer}
 use Rattle.store.specs.declared.record.PlaceAnswer.the-variants.{Handle, Refused}
 use Rattle.store.specs.declared.record.Placed.{Placed}
-use Rattle.store.specs.Capacity.{capacityOf, fitting}
+use Rattle.store.specs.Capacity.{fitting}
 use Rattle.store.specs.Refusals.{refusalNumber, Given, givenBy}
-use Rattle.store.specs.Words.{bookOf, nodesWith, lookupOf}
-use Rattle.store.specs.Cache.{True}
 use Rattle.store.specs.Sound.{Sound}
-use Rattle.store.specs.Placing.{costOf, tooLarge, placeAnswer, placeBook}
-use Rattle.store.specs.Promise.{Left, leaves, placing, cacheRefused, Placed-sound, PlaceCall}
-use Rattle.store.specs.Inner.{Roomy, Holds, Handed, Answer, gave, full, Kept, RolledBack, Ran, Finished}
-use Rattle.store.proofs.Fitting.{store-is, Fits, fits-true, true-fits}
-use Rattle.store.proofs.Held.{handle-of}
-use Rattle.store.proofs.Decoding.{sound-holds}
-use Rattle.store.proofs.Encoding.{looked-up, laid-out}
-use Rattle.store.proofs.Sounds.{holds-sound, zeroed-true}
-use Rattle.store.proofs.Endings.{handed-of}
-use Rattle.store.proofs.Undoing.{undone-nodes, undone-lookup}
-
--- an answer is a handle or a refusal
-pub by-answer {ℓ} : {A : Type ℓ} (a : PlaceAnswer) → ((h : ℕ) → a ≡ Handle h → A) → ((x : Refusal) → a ≡ Refused x → A) → A
-by-answer (Handle h) f g = f h refl
-by-answer (Refused x) f g = g x refl
+use Rattle.store.specs.Placing.{costOf, tooLarge, placeAnswer}
+use Rattle.store.specs.Promise.{Left, leaves, placing, cacheRefused, PlaceCall}
+use Rattle.store.specs.Inner.{Roomy}
+use Rattle.store.proofs.Fitting.{fits-true, true-fits}
 
 pub placed-is : {r : Placed} {s : Store} {a : PlaceAnswer} → r .store ≡ s → r .answer ≡ a → r ≡ record { store = s; answer = a }
 placed-is p q = λ i. record { store = p i; answer = q i }
@@ -126,150 +108,3 @@ module _ (s : Store) (nodes lookup cache : List ℕ) where
         capacity = ap (λ x. x .capacity) es;
         refused = λ d. es;
       }
-
-  module _ (F : List Family → Family) (e : fitting (s .capacity) (s .count) (length nodes) (length lookup) ≡ true) {m : Placed} {nodes₁ lookup₁ cache₁ : List ℕ} (R : Ran F s nodes lookup cache m nodes₁ lookup₁ cache₁)
-      {r : Placed} {nodes₂ lookup₂ cache₂ : List ℕ} (E : Finished m (s .count) nodes₁ lookup₁ cache₁ r nodes₂ lookup₂ cache₂) where
-    K : Kept s nodes lookup (m .store) nodes₁ lookup₁
-    K = R .kept
-
-    roomy : Roomy s nodes lookup
-    roomy = fits-roomy s nodes lookup e
-
-    -- words past the whole groups stay
-    rest-kept : drop (length cache / 4 * 4) cache₁ ≡ drop (length cache / 4 * 4) cache
-    rest-kept = rest-drop (length cache / 4 * 4) cache cache₁ (R .long-cache) (R .rest)
-
-    module _ (h : ℕ) (eh : m .answer ≡ Handle h) where
-      module _ (S : Sound s nodes lookup cache) where
-        given : Handed (place (bookOf nodes (s .count)) (F (bookOf nodes (s .count)))) (F (bookOf nodes (s .count))) h (m .store .count) nodes₁ lookup₁
-        given = handed-of eh (R .sound (bookOf nodes (s .count)) (sound-holds S) (S .cached))
-
-        fits : tooLarge (s .capacity) (bookOf nodes (s .count)) (F (bookOf nodes (s .count))) ≡ false
-        fits = not-large (s .capacity) (bookOf nodes (s .count)) (F (bookOf nodes (s .count))) (s .count) (sound-holds S .size) (S .within) (omega (arith, given .holds .size, K .fits))
-
-        past : drop (3 * s .capacity) nodes₁ ≡ drop (3 * s .capacity) nodes
-        past = rest-drop (3 * s .capacity) nodes nodes₁ (K .long) (λ k l. K .above k (omega (arith, K .fits)))
-
-        blank : (k : ℕ) → 3 * m .store .count ≤ k → k < 3 * s .capacity → getD nodes₁ k 0 ≡ 0
-        blank k l g = K .above k l ∙ S .blank k (omega (arith, K .grows)) g
-
-        words : 3 * m .store .count ≤ length nodes₁
-        words = omega (arith, K .fits, K .long, roomy .words)
-
-        left : leaves m nodes₁ lookup₁ ≡ placing 0 (F (bookOf nodes (s .count))) s nodes lookup
-        unfolding placing placeAnswer placeBook
-        left =
-            rw fits (left-is
-            (ap givenBy eh ∙ ap (λ k. record { refusal = 0; handle = k }) (sym (ap (λ X. number (place (bookOf nodes (s .count)) (F (bookOf nodes (s .count)))) X) (sym (given .means)) ∙ handle-of (given .holds) h (given .within))))
-            (store-is (K .same-capacity) (omega (arith, given .holds .size)))
-            (sym (laid-out (given .holds) words (s .capacity) nodes (K .fits) (omega (arith, K .long, roomy .words)) blank past))
-            (sym (ap (λ k. lookupOf k (place (bookOf nodes (s .count)) (F (bookOf nodes (s .count))))) (sym (K .long-lookup)) ∙ looked-up (given .holds) words)))
-
-        sound : Sound (m .store) nodes₁ lookup₁ cache₁
-        sound =
-            holds-sound (m .store) (given .holds) (K .same-capacity ∙ S .capacity-is ∙ ap capacityOf (sym (K .long))) (omega (arith, K .same-capacity, K .long-lookup, S .longer)) (omega (arith, K .fits, K .same-capacity))
-            (λ k l g. blank k l (omega (arith, K .same-capacity))) (R .cached (bookOf nodes (s .count)) (sound-holds S) (S .cached) h eh)
-
-      gave-call : PlaceCall 0 (F (bookOf nodes (s .count))) s nodes lookup cache r nodes₂ lookup₂ cache₂
-      gave-call =
-          let q = E .gave h eh in
-          rw (q .0, q .1, q .2, q .3) record {
-            misfit = λ d. clash e d;
-            on-sound = λ S. record {
-              leaves-is = left S;
-              refused-cache = λ n en dn. absurd (dn (sym en ∙ ap (λ a. givenBy a .refusal) eh));
-              sound = sound S;
-              rest = rest-kept;
-            };
-            lengths = (K .long, K .long-lookup, R .long-cache);
-            capacity = K .same-capacity;
-            refused = λ d. absurd (d (ap (λ a. givenBy a .refusal) eh));
-          }
-
-    module _ (x : Refusal) (ex : m .answer ≡ Refused x) where
-      U : RolledBack (m .store) nodes₁ lookup₁ (s .count) (r .store) nodes₂ lookup₂
-      U = E .undone x ex .0
-
-      ea : r .answer ≡ Refused x
-      ea = E .undone x ex .1
-
-      as-came : r .store ≡ s
-      as-came = store-is (U .capacity ∙ K .same-capacity) (U .count)
-
-      -- the cache: its whole groups are zero, and the rest is as it came
-      zero-cache : cache₂ ≡ zeroed 0 (length cache / 4 * 4) cache
-      zero-cache =
-          E .undone x ex .2
-          ∙ ext-getD 0 (zeroed 0 (length cache₁ / 4 * 4) cache₁) (zeroed 0 (length cache / 4 * 4) cache)
-          (zeroed-length 0 (length cache₁ / 4 * 4) cache₁ (omega arith) (omega arith) ∙ R .long-cache ∙ sym (zeroed-length 0 (length cache / 4 * 4) cache (omega arith) (omega arith)))
-          (λ k l. rw (R .long-cache) (by-lt k (length cache / 4 * 4)
-          (λ h d. zeroed-inside 0 (length cache / 4 * 4) cache₁ (omega arith) (omega (arith, R .long-cache)) k (omega arith) h ∙ sym (zeroed-inside 0 (length cache / 4 * 4) cache (omega arith) (omega arith) k (omega arith) h))
-          (λ h d. zeroed-after 0 (length cache / 4 * 4) cache₁ (omega arith) (omega (arith, R .long-cache)) k h ∙ R .rest k h ∙ sym (zeroed-after 0 (length cache / 4 * 4) cache (omega arith) (omega arith) k h))))
-
-      module _ (S : Sound s nodes lookup cache) where
-        record Over : Type 0 where
-          is : x ≡ Full
-          D : List Family
-          holds : Holds D (m .store .count) nodes₁ lookup₁
-          big : s .capacity + 2 < length (place (bookOf nodes (s .count)) (F (bookOf nodes (s .count))))
-
-        over : Over
-        over = out (m .answer) ex (R .sound (bookOf nodes (s .count)) (sound-holds S) (S .cached))
-          where
-            out : (a : PlaceAnswer) → a ≡ Refused x
-                → Answer (place (bookOf nodes (s .count)) (F (bookOf nodes (s .count)))) (F (bookOf nodes (s .count))) (s .capacity) (m .store .count) nodes₁ lookup₁ a → Over
-            out a q (gave G) = absurd (let z : _≡_ {A = ℕ} 0 1 = cc in omega arith)
-            out a q (full D H l) = record { is = cc; D = D; holds = H; big = l }
-
-        full-number : refusalNumber x ≡ 5
-        full-number = ap refusalNumber (over .is)
-
-        same-nodes : nodes₂ ≡ nodes
-        same-nodes = undone-nodes roomy K U (S .blank)
-
-        same-lookup : lookup₂ ≡ lookup
-        same-lookup = undone-lookup roomy K U (sound-holds S) (over .holds)
-
-        too-large : tooLarge (s .capacity) (bookOf nodes (s .count)) (F (bookOf nodes (s .count))) ≡ true
-        too-large = large (s .capacity) (bookOf nodes (s .count)) (F (bookOf nodes (s .count))) (s .count) (sound-holds S .size) (S .within) (over .big)
-
-        full-left : leaves r nodes₂ lookup₂ ≡ placing 0 (F (bookOf nodes (s .count))) s nodes lookup
-        unfolding placing placeAnswer placeBook
-        full-left = rw too-large (left-is (ap givenBy ea ∙ ap (λ k. record { refusal = k; handle = 0 }) full-number) as-came same-nodes same-lookup)
-
-        full-sound : Sound (r .store) nodes₂ lookup₂ cache₂
-        full-sound =
-            rw (as-came, same-nodes, same-lookup, zero-cache) record {
-              capacity-is = S .capacity-is;
-              longer = S .longer;
-              within = S .within;
-              each = S .each;
-              apart = S .apart;
-              blank = S .blank;
-              lookup-is = S .lookup-is;
-              cached = zeroed-true (bookOf nodes (s .count)) cache;
-            }
-
-      full-call : PlaceCall 0 (F (bookOf nodes (s .count))) s nodes lookup cache r nodes₂ lookup₂ cache₂
-      unfolding cacheRefused
-      full-call =
-          record {
-            misfit = λ d. clash e d;
-            on-sound = λ S. record {
-              leaves-is = full-left S;
-              refused-cache = λ n en dn. let five : n ≡ 5 = sym en ∙ ap (λ a. givenBy a .refusal) ea ∙ full-number S in rw five zero-cache;
-              sound = full-sound S;
-              rest = ap (λ X. drop (length cache / 4 * 4) X) zero-cache ∙ zeroed-drop 0 (length cache / 4 * 4) cache (omega arith) (omega arith);
-            };
-            lengths = (
-              ap length (U .nodes-are) ∙ zeroed-length (3 * s .count) (3 * m .store .count) nodes₁ (omega (arith, K .grows)) (omega (arith, K .fits, K .long, roomy .words)) ∙ K .long,
-              ap length (U .lookup-is) ∙ cleared-length nodes₁ lookup₁ (s .count) (m .store .count - s .count) ∙ K .long-lookup,
-              ap length zero-cache ∙ zeroed-length 0 (length cache / 4 * 4) cache (omega arith) (omega arith),
-            );
-            capacity = U .capacity ∙ K .same-capacity;
-            refused = λ d. as-came;
-          }
-
-    -- a call that came through to `finish`
-    pub call-done : PlaceCall 0 (F (bookOf nodes (s .count))) s nodes lookup cache r nodes₂ lookup₂ cache₂
-    call-done = by-answer (m .answer) gave-call full-call

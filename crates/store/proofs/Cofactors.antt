@@ -6,7 +6,7 @@ use mathlib.Core.List.{List}
 use native.Mathlib.Omega.{arith}
 use lib.ListN.{getD}
 use borrow.Author.Tests.{eq-eqb}
-use Rattle.family.specs.Family.{Family, empty, node, top, Within}
+use Rattle.family.specs.Family.{Family, node, top, Within}
 use Rattle.family.specs.Operation.{lacking, holding}
 use Rattle.family.specs.Book.{at}
 use Rattle.family.proofs.Diagrams.{lacking-above, holding-above}

@@ -2,23 +2,22 @@
 -- By induction on the nodes; in a sound store each node's words extend the book of those before.
 use Prim.Native.Nat.{ℕ, zero, suc, _+_, _*_, _-_, _≤_, _<_}
 use mathlib.Core.Path.{_≡_, refl, sym, ap, _∙_}
-use mathlib.Core.List.{List, [], _∷_, _++_}
+use mathlib.Core.List.{List}
 use native.Mathlib.Omega.{arith}
 use native.Mathlib.Numerals.{add-one}
-use lib.ListN.{length, getD, take, length-append}
+use lib.ListN.{length, getD, take}
 use lib.Seq.{take-suc, take-all, getD-take}
-use Rattle.family.specs.Family.{Family, empty, base, node, top, Within}
-use Rattle.family.specs.Book.{start, at, number}
+use Rattle.family.specs.Family.{Family, empty, node, Within}
+use Rattle.family.specs.Book.{at, number}
 use Rattle.family.proofs.Books.{number-at, book-start}
 use Rattle.words.proofs.Cases.{by-lt}
 use Rattle.table.specs.Entered.{entered, startAt}
-use Rattle.table.proofs.Stops.{Has}
 use Rattle.table.proofs.Filled.{length-entered}
 use Rattle.store.specs.declared.record.Store.{Store}
-use Rattle.store.specs.Words.{itemLimit, topAt, bookOf}
+use Rattle.store.specs.Words.{itemLimit, bookOf}
 use Rattle.store.specs.Sound.{Node, Sound}
 use Rattle.store.specs.Inner.{Holds}
-use Rattle.store.proofs.Held.{at-0, at-1, top-at, within, positive-one, node-handle, node-has}
+use Rattle.store.proofs.Held.{top-at, within, positive-one, node-handle, node-has}
 use Rattle.store.proofs.Extending.{extended}
 
 module _ {B : List Family} {n : ℕ} {nodes lookup : List ℕ} (H : Holds B n nodes lookup) where

@@ -5,13 +5,12 @@ use mathlib.Core.Path.{_≡_, refl, sym, ap, _∙_}
 use mathlib.Core.List.{List, [], _∷_, _++_}
 use native.Mathlib.Omega.{arith}
 use lib.ListN.{length, getD, take, drop, replicate, length-drop, take-append-drop, drop-of-length-le}
-use lib.Seq.{drop-cons, take-add, take-all, ext-getD, getD-drop, getD-take, length-take-le, drop-drop}
-use Rattle.family.specs.Family.{Family, empty, node, top, withoutSide, withSide}
+use lib.Seq.{drop-cons, take-add, ext-getD, getD-drop, getD-take, length-take-le, drop-drop}
+use Rattle.family.specs.Family.{Family, empty, node}
 use Rattle.family.specs.Book.{at, number}
 use Rattle.family.specs.Record.{Triple, triple}
 use Rattle.family.specs.File.{triplesOf}
 use Rattle.words.proofs.Zeroed.{zeros-length, zero-getD}
-use Rattle.table.specs.Entered.{entered, startAt}
 use Rattle.store.specs.Words.{flat, wordsOf, nodesWith, lookupOf}
 use Rattle.store.specs.Inner.{Holds}
 use Rattle.store.proofs.Held.{handle-of}

@@ -1,7 +1,7 @@
 -- A record as its two numbers; and when it fits words of some lengths and holds a handle: the tests part by part, and what they say where they pass.
 -- Each is one branch of the definition.
-use Prim.Native.Nat.{ℕ, _+_, _-_, _*_, _≤_, _<_}
-use mathlib.Core.Path.{_≡_, refl, sym, _∙_}
+use Prim.Native.Nat.{ℕ, _+_, _-_, _≤_, _<_}
+use mathlib.Core.Path.{_≡_, sym, _∙_}
 use mathlib.Core.Bool.{Bool, true, false, not, and-false}
 use native.Mathlib.Omega.{arith}
 use lib.Dec.{eqb, ltb, leb}

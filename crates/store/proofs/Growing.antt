@@ -1,10 +1,9 @@
 -- What any words keep through a call: it chains, it keeps the room for the next call, and it keeps the tops of the handles held before.
 -- All of it is read off the kept words below the old count and above the new one.
-use Prim.Native.Nat.{ℕ, _+_, _*_, _-_, _≤_, _<_}
-use mathlib.Core.Path.{_≡_, refl, sym, ap, _∙_}
+use Prim.Native.Nat.{ℕ, _+_, _*_, _-_, _≤_}
+use mathlib.Core.Path.{_≡_, refl, sym, _∙_}
 use mathlib.Core.List.{List}
 use native.Mathlib.Omega.{arith}
-use lib.ListN.{length, getD}
 use Rattle.words.proofs.Cases.{by-lt}
 use Rattle.store.specs.declared.record.Store.{Store}
 use Rattle.store.specs.Words.{topAt}

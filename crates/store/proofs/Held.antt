@@ -9,8 +9,7 @@ use lib.ListN.{length, getD}
 use borrow.Author.Tests.{lt-ltb, le-ltb}
 use Rattle.family.specs.Family.{Family, empty, base, node, top, inhabited, Within}
 use Rattle.family.specs.Book.{at, number, Held}
-use Rattle.family.proofs.Books.{held-at, number-at}
-use Rattle.words.proofs.Cases.{by-lt}
+use Rattle.family.proofs.Books.{held-at}
 use Rattle.table.proofs.Stops.{Has}
 use Rattle.table.proofs.OwnSlots.{Distinct, Items}
 use Rattle.store.specs.Words.{itemLimit, topAt}
@@ -109,3 +108,7 @@ module _ {B : List Family} {n : ℕ} {nodes lookup : List ℕ} (H : Holds B n no
 
   pub words-items : Items nodes n
   words-items = record { low = λ k l. let w = node-within k l in omega (arith, w .ordered .0); high = λ k l. node-within k l .low }
+
+-- a handle whose top is at most t
+pub low-at : {B : List Family} {n : ℕ} {nodes lookup : List ℕ} → Holds B n nodes lookup → (h t : ℕ) → h ≤ n + 1 → topAt nodes h ≤ t → Within t (at B h)
+low-at H h t l m = record { ordered = within H h (omega arith) .ordered; low = omega (arith, top-at H h (omega arith)) }

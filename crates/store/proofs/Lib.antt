@@ -1,17 +1,20 @@
 -- The laws of the store, lowest first.
 pub mod Fitting
 pub mod Held
+pub mod Handles
 pub mod Put
 pub mod Extending
 pub mod Probing
 pub mod Growing
+pub mod Naming
+pub mod Cached
 pub mod Cofactors
 pub mod Sides
 pub mod Decoding
 pub mod Encoding
 pub mod Sounds
-pub mod Undoing
-pub mod Endings
+pub mod Answers
+pub mod Plain
 pub mod Calls
 pub mod Tested
 pub mod Recovering

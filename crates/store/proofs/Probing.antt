@@ -7,7 +7,7 @@ use mathlib.Core.Logic.{_⊎_, inl, inr}
 use native.Mathlib.Omega.{arith}
 use lib.ListN.{length, getD}
 use Rattle.family.specs.Family.{Family, node}
-use Rattle.family.specs.Book.{at, number, Held}
+use Rattle.family.specs.Book.{at, number}
 use Rattle.family.proofs.Books.{number-at}
 use Rattle.words.proofs.Cases.{by-lt}
 use Rattle.table.specs.Start.{startOf}

@@ -1,21 +1,21 @@
 -- A sound store from a book that its words hold, and that what Fresh leaves is sound.
 -- Each rule of a sound store is read off the book's laws; a lookup and a cache of zeros are those of no node.
-use Prim.Native.Nat.{ℕ, zero, suc, _+_, _*_, _-_, _/_, _≤_, _<_}
+use Prim.Native.Nat.{ℕ, _+_, _*_, _-_, _/_, _≤_, _<_}
 use mathlib.Core.Path.{_≡_, refl, sym, ap, _∙_}
-use mathlib.Core.List.{List, [], _∷_}
+use mathlib.Core.List.{List}
 use mathlib.Core.Logic.{inl}
 use native.Mathlib.Omega.{arith}
-use lib.ListN.{length, getD, replicate, drop, drop-of-length-le}
+use lib.ListN.{length, getD, replicate}
 use lib.Seq.{ext-getD}
-use Rattle.family.specs.Family.{Family, node, top, Within}
+use Rattle.family.specs.Family.{Family, node, Within}
 use Rattle.family.specs.Book.{start, at}
 use Rattle.family.proofs.Books.{book-start}
 use Rattle.words.specs.Words.{zeroed}
 use Rattle.words.proofs.Zeroed.{zeroed-length, zeroed-inside, zeros-length, zero-getD}
-use Rattle.table.specs.Entered.{entered, startAt}
+use Rattle.table.specs.Entered.{entered}
 use Rattle.store.specs.declared.record.Store.{Store}
 use Rattle.store.specs.Capacity.{capacityOf}
-use Rattle.store.specs.Words.{itemLimit, topAt, bookOf}
+use Rattle.store.specs.Words.{itemLimit}
 use Rattle.store.specs.Cache.{Group, True}
 use Rattle.store.specs.Sound.{Node, Sound}
 use Rattle.store.specs.Inner.{Holds}

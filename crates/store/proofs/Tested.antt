@@ -1,7 +1,7 @@
 -- The tests of Size and Save on words that hold a book: each branch of the definition under its own condition.
 -- The book's length is the count and two more.
 use Prim.Native.Nat.{ℕ, _+_, _-_, _≤_, _<_}
-use mathlib.Core.Path.{_≡_, refl}
+use mathlib.Core.Path.{_≡_}
 use mathlib.Core.List.{List}
 use native.Mathlib.Omega.{arith}
 use lib.ListN.{length}

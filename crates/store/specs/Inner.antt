@@ -3,14 +3,11 @@ use Prim.Native.Nat.{ℕ, _+_, _*_, _-_, _/_, _≤_, _<_}
 use mathlib.Core.Path.{_≡_}
 use mathlib.Core.List.{List}
 use lib.ListN.{length, getD, set}
-use Rattle.family.specs.Family.{Family, node, top, mk}
+use Rattle.family.specs.Family.{Family, node}
 use Rattle.family.specs.Operation.{lacking, holding}
-use Rattle.family.specs.Book.{at, place, made, Book}
-use Rattle.words.specs.Words.{zeroed}
+use Rattle.family.specs.Book.{at, place, Book}
 use Rattle.table.specs.Entered.{entered, startAt}
-use Rattle.table.specs.Own.{cleared}
 use Rattle.store.specs.declared.record.Store.{Store}
-use Rattle.store.specs.declared.record.Refusal.{Refusal}
 use Rattle.store.specs.declared.record.Refusal.the-variants.{Full}
 use Rattle.store.specs.declared.record.PlaceAnswer.{PlaceAnswer}
 use Rattle.store.specs.declared.record.PlaceAnswer.the-variants.{Handle, Refused}
@@ -80,20 +77,6 @@ pub data SidesOf (nodes : List ℕ) (n p level : ℕ) : Sides → Type 0 where
 unfoldable pub putNode : List ℕ → ℕ → ℕ → ℕ → ℕ → List ℕ
 putNode nodes count item z o = set (set (set nodes (3 * count) item) (3 * count + 1) z) (3 * count + 2) o
 
--- Getnode: the family of an item and two sides that the book holds
-pub record NodeIt (s : Store) (nodes lookup : List ℕ) (i z o : ℕ) (r : Placed) (nodes′ lookup′ : List ℕ) : Type 0 where
-  pub kept : Kept s nodes lookup (r .store) nodes′ lookup′
-  pub handle : (h : ℕ) → r .answer ≡ Handle h → h ≤ r .store .count + 1
-  pub sound : (B : List Family) → Holds B (s .count) nodes lookup → top (at B z) < i → top (at B o) < i
-      → Answer (made B i (at B z) (at B o)) (mk i (at B z) (at B o)) (s .capacity) (r .store .count) nodes′ lookup′ (r .answer)
-
--- the newest nodes taken back until `keep` are left
-pub record RolledBack (s : Store) (nodes lookup : List ℕ) (keep : ℕ) (s′ : Store) (nodes′ lookup′ : List ℕ) : Type 0 where
-  pub capacity : s′ .capacity ≡ s .capacity
-  pub count : s′ .count ≡ keep
-  pub nodes-are : nodes′ ≡ zeroed (3 * keep) (3 * s .count) nodes
-  pub lookup-is : lookup′ ≡ cleared nodes lookup keep (s .count - keep)
-
 -- A call that places the family F B of the book B that the words hold, with a true cache before and after. On any words it keeps what must be kept.
 pub record Ran (F : List Family → Family) (s : Store) (nodes lookup cache : List ℕ) (r : Placed) (nodes′ lookup′ cache′ : List ℕ) : Type 0 where
   pub kept : Kept s nodes lookup (r .store) nodes′ lookup′
@@ -103,8 +86,8 @@ pub record Ran (F : List Family → Family) (s : Store) (nodes lookup cache : Li
   pub sound : (B : List Family) → Holds B (s .count) nodes lookup → True B cache → Answer (place B (F B)) (F B) (s .capacity) (r .store .count) nodes′ lookup′ (r .answer)
   pub cached : (B : List Family) → Holds B (s .count) nodes lookup → True B cache → (h : ℕ) → r .answer ≡ Handle h → True (place B (F B)) cache′
 
--- How a call ends: with its handle as it is; or, refused, with the newest nodes taken back until `keep` are left and the whole cache groups zeroed.
-pub record Finished (placed : Placed) (keep : ℕ) (nodes lookup cache : List ℕ) (r : Placed) (nodes′ lookup′ cache′ : List ℕ) : Type 0 where
-  pub gave : (h : ℕ) → placed .answer ≡ Handle h → (r ≡ placed) × (nodes′ ≡ nodes) × (lookup′ ≡ lookup) × (cache′ ≡ cache)
-  pub undone : (x : Refusal) → placed .answer ≡ Refused x
-      → RolledBack (placed .store) nodes lookup keep (r .store) nodes′ lookup′ × (r .answer ≡ Refused x) × (cache′ ≡ zeroed 0 (length cache / 4 * 4) cache)
+-- a call that places the family F B with no use of the cache
+pub record RanPlain (F : List Family → Family) (s : Store) (nodes lookup : List ℕ) (r : Placed) (nodes′ lookup′ : List ℕ) : Type 0 where
+  pub kept : Kept s nodes lookup (r .store) nodes′ lookup′
+  pub handle : (h : ℕ) → r .answer ≡ Handle h → h ≤ r .store .count + 1
+  pub sound : (B : List Family) → Holds B (s .count) nodes lookup → Answer (place B (F B)) (F B) (s .capacity) (r .store .count) nodes′ lookup′ (r .answer)

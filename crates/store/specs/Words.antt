@@ -40,3 +40,7 @@ nodesWith capacity B nodes = wordsOf B ++ (replicate (3 * capacity - length (wor
 -- "the lookup is what entering the nodes in rising number gives": the lookup of len slots of a book
 unfoldable pub lookupOf : ℕ → List Family → List ℕ
 lookupOf len B = entered (startAt (wordsOf B) len) len (length B - 2)
+
+-- what a word per node says of a handle: the handles 0 and 1 stand for themselves, and handle h from 2 on has word h − 2
+unfoldable pub wordOf : List ℕ → ℕ → ℕ
+wordOf words h = cond (ltb h 2) h (getD words (h - 2) 0)

@@ -1,7 +1,7 @@
 // The store record, the refusals and the answers of a call that places.
 ghost use mathlib.Core.Path.{_≡_};
 ghost use mathlib.Core.Bool.{true, false};
-ghost use Prim.Native.Nat.{_+_, _<_, _≤_};
+ghost use Prim.Native.Nat.{_+_, _<_};
 ghost use lib.Dec.{leb};
 ghost use Rattle.store.specs.Capacity.{capacityOf, fitting};
 

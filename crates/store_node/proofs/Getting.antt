@@ -1,15 +1,14 @@
 -- Each way out of `get_node`: the zero side itself where the one side is {}, else what `make` gave.
 -- Adding the node to the book is what placing the family of the item and the two sides does, once both sides are held.
 use Prim.Native.Nat.{ℕ, _+_, _≤_, _<_}
-use mathlib.Core.Path.{_≡_, refl, sym, ap, _∙_}
-use mathlib.Core.Bool.{true}
+use mathlib.Core.Path.{_≡_, refl, sym, _∙_}
 use mathlib.Core.List.{List, [], _∷_, _++_}
 use native.Mathlib.Omega.{arith}
 use lib.Dec.{T}
 use lib.ListN.{length, length-append}
 use Rattle.family.specs.Family.{Family, empty, node, top, inhabited, mk, Within}
-use Rattle.family.specs.Book.{at, number, Held, add, made}
-use Rattle.family.proofs.Books.{add-same, add-new, held-at}
+use Rattle.family.specs.Book.{at, number, add, made}
+use Rattle.family.proofs.Books.{add-same, add-new}
 use Rattle.family.proofs.Diagrams.{mk-node}
 use Rattle.store.specs.declared.record.Store.{Store}
 use Rattle.store.specs.declared.record.Refusal.the-variants.{Full, Damaged}
@@ -20,19 +19,11 @@ use Rattle.store_node.specs.declared.unique.Made.{Made}
 use Rattle.store_node.specs.declared.unique.Made.the-variants.{Found, New, Full as NoRoom, Damaged as Bad}
 use Rattle.store_node.specs.declared.unique.Making.{Making}
 use Rattle.store.specs.Words.{itemLimit}
-use Rattle.store.specs.Inner.{Roomy, Holds, Handed, Answer, gave, full, Kept, NodeIt}
-use Rattle.store_node.specs.Inner.{MadeOf, found, new, MadeIt}
-use Rattle.store.proofs.Held.{at-0, within, positive-one, inside, held}
+use Rattle.store.specs.Inner.{Roomy, Holds, Handed, Answer, gave, full, Kept}
+use Rattle.store_node.specs.Inner.{MadeOf, found, new, MadeIt, NodeIt}
+use Rattle.store.proofs.Held.{at-0, within, positive-one, held}
 use Rattle.store.proofs.Growing.{kept-self}
-
-pub handle-is : {g h : ℕ} → Handle g ≡ Handle h → g ≡ h
-handle-is e = cc
-
-pub refused-not {ℓ} : {A : Type ℓ} {a : PlaceAnswer} (h : ℕ) → a ≡ Refused Full → a ≡ Handle h → A
-refused-not h e d = absurd (let z : _≡_ {A = ℕ} 0 1 = cc in omega arith)
-
-pub damaged-not {ℓ} : {A : Type ℓ} {a : PlaceAnswer} (h : ℕ) → a ≡ Refused Damaged → a ≡ Handle h → A
-damaged-not h e d = absurd (let z : _≡_ {A = ℕ} 0 1 = cc in omega arith)
+use Rattle.store.proofs.Answers.{handle-is, refused-not, damaged-not}
 
 pub made-inhabited : (B : List Family) (i : ℕ) (a b : Family) → T (inhabited b) → made B i a b ≡ add B (node i a b)
 made-inhabited B i a empty t = absurd t

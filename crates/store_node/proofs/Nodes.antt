@@ -1,7 +1,7 @@
 -- Each way out of `make`: where the words hold a book the probe's slot tells whether the book holds the node, so it is found, new at the book's end, or has no room, and never damaged.
 -- A new node's words and slot give the words of the book with that node.
 use Prim.Native.Nat.{ℕ, suc, _+_, _*_, _-_, _≤_, _<_}
-use mathlib.Core.Path.{_≡_, refl, sym, ap, _∙_}
+use mathlib.Core.Path.{_≡_, ap, _∙_}
 use mathlib.Core.List.{List, [], _∷_, _++_}
 use mathlib.Core.Logic.{⊎-elim}
 use native.Mathlib.Omega.{arith}
@@ -11,12 +11,10 @@ use Rattle.family.specs.Book.{at}
 use Rattle.table.specs.Probe.{probeOf}
 use Rattle.table.specs.Entered.{entered, startAt}
 use Rattle.store.specs.declared.record.Store.{Store}
-use Rattle.store_node.specs.declared.unique.Made.{Made}
 use Rattle.store_node.specs.declared.unique.Made.the-variants.{Found, New, Full, Damaged}
-use Rattle.store_node.specs.declared.unique.Making.{Making}
 use Rattle.store.specs.Words.{itemLimit}
 use Rattle.store.specs.Inner.{Roomy, Holds, Handed, Kept, putNode}
-use Rattle.store_node.specs.Inner.{MadeOf, found, new, full, MadeIt}
+use Rattle.store_node.specs.Inner.{found, new, full, MadeIt}
 use Rattle.store.proofs.Extending.{holds-kept, next-is, extended}
 use Rattle.store.proofs.Put.{put-length, put-below, put-above, put-has, put-entered}
 use Rattle.store.proofs.Probing.{Present, Absent, probe-cases}

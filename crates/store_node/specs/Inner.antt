@@ -1,16 +1,18 @@
 -- What making a node promises: on any words that fit, and where the words hold a book. A reader of the promises can pass this page over.
-use Prim.Native.Nat.{ℕ, _+_, _≤_}
+use Rattle.store.specs.declared.record.PlaceAnswer.the-variants.{Handle}
+use Rattle.store.specs.declared.record.Placed.{Placed}
+use Prim.Native.Nat.{ℕ, _+_, _≤_, _-_, _<_}
 use mathlib.Core.Path.{_≡_}
 use mathlib.Core.List.{List, [], _∷_, _++_}
 use lib.ListN.{length}
-use Rattle.family.specs.Family.{Family, node, Within}
-use Rattle.family.specs.Book.{at, number}
+use Rattle.family.specs.Family.{Family, node, Within, top, mk}
+use Rattle.family.specs.Book.{at, number, made}
 use Rattle.store.specs.declared.record.Store.{Store}
 use Rattle.store_node.specs.declared.unique.Made.{Made}
 use Rattle.store_node.specs.declared.unique.Made.the-variants.{Found, New, Full as NoRoom}
 use Rattle.store_node.specs.declared.unique.Making.{Making}
 use Rattle.store.specs.Words.{itemLimit}
-use Rattle.store.specs.Inner.{Holds, Handed, Kept}
+use Rattle.store.specs.Inner.{Holds, Handed, Kept, Answer}
 
 -- making the node F in a book: found there, new at its end, or no room for it
 pub data MadeOf (B : List Family) (F : Family) (capacity n : ℕ) (nodes lookup : List ℕ) : Made → Type 0 where
@@ -24,3 +26,10 @@ pub record MadeIt (s : Store) (nodes lookup : List ℕ) (i z o : ℕ) (r : Makin
   pub new-within : (h : ℕ) → r .made ≡ New h → h ≤ r .store .count + 1
   pub sound : (B : List Family) → Holds B (s .count) nodes lookup → Within itemLimit (node i (at B z) (at B o))
       → MadeOf B (node i (at B z) (at B o)) (s .capacity) (r .store .count) nodes′ lookup′ (r .made)
+
+-- Getnode: the family of an item and two sides that the book holds
+pub record NodeIt (s : Store) (nodes lookup : List ℕ) (i z o : ℕ) (r : Placed) (nodes′ lookup′ : List ℕ) : Type 0 where
+  pub kept : Kept s nodes lookup (r .store) nodes′ lookup′
+  pub handle : (h : ℕ) → r .answer ≡ Handle h → h ≤ r .store .count + 1
+  pub sound : (B : List Family) → Holds B (s .count) nodes lookup → top (at B z) < i → top (at B o) < i
+      → Answer (made B i (at B z) (at B o)) (mk i (at B z) (at B o)) (s .capacity) (r .store .count) nodes′ lookup′ (r .answer)

@@ -1,7 +1,8 @@
 // Getnode of document 001: the family of an item and two sides.
 ghost use Prim.Native.Nat.{_+_, _≤_};
 ghost use Rattle.store.specs.Words.{itemLimit};
-ghost use Rattle.store.specs.Inner.{Roomy, NodeIt};
+ghost use Rattle.store_node.specs.Inner.{NodeIt};
+ghost use Rattle.store.specs.Inner.{Roomy};
 use store::record::Placed;
 use store::record::Refusal;
 use store::record::Store;

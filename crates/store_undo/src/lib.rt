@@ -1,6 +1,7 @@
 // Taking back the newest nodes.
 ghost use Prim.Native.Nat.{_≤_};
-ghost use Rattle.store.specs.Inner.{Roomy, RolledBack, Finished};
+ghost use Rattle.store_undo.specs.Inner.{RolledBack, Finished};
+ghost use Rattle.store.specs.Inner.{Roomy};
 use table::own_slots::clear_newest;
 use store::record::PlaceAnswer;
 use store::record::Placed;

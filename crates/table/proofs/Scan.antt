@@ -1,11 +1,10 @@
 -- A scan finds a slot at which its test holds wherever there is one, and what it finds hangs on the slots up to there.
 -- Each law is an induction on the steps; around the end a slot is reached after at most as many steps as there are slots.
-use Prim.Native.Nat.{ℕ, zero, suc, _+_, _-_, _≤_, _<_}
-use mathlib.Core.Path.{_≡_, refl, sym, ap, _∙_}
-use mathlib.Core.Bool.{Bool, true, false, cond}
+use Prim.Native.Nat.{ℕ, zero, suc, _+_, _-_, _<_}
+use mathlib.Core.Path.{_≡_, refl, ap, _∙_}
+use mathlib.Core.Bool.{Bool, true, false}
 use mathlib.Core.Logic.{_⊎_, inl, inr, ⊎-elim}
 use native.Mathlib.Omega.{arith}
-use lib.Dec.{eqb}
 use borrow.Author.Tests.{eq-eqb, ne-eqb}
 use Rattle.words.proofs.Cases.{by-test, by-eq, by-lt, clash}
 use Rattle.table.specs.Probe.{after, scan}

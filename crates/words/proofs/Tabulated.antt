@@ -1,7 +1,7 @@
 -- A table that is a rule's values one after another has the rule's value at each place.
 -- That a constant table is such a list is one equation over the whole table, which the checker computes.
 use Prim.Native.Nat.{ℕ, zero, suc, _+_, _<_}
-use mathlib.Core.Path.{_≡_, refl, ap, _∙_}
+use mathlib.Core.Path.{_≡_, ap, _∙_}
 use mathlib.Core.List.{List, [], _∷_}
 use native.Mathlib.Omega.{arith}
 use lib.ListN.{getD}

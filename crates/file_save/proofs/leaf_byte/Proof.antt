@@ -1,7 +1,6 @@
 -- `leaf_byte` is 00 for {} and 02 for {{}}.
 -- The test decides the definition's own.
-use mathlib.Core.Path.{_≡_, refl, sym, ap}
-use mathlib.Core.Bool.{cond}
+use mathlib.Core.Path.{refl}
 use borrow.Author.Tests.{eq-eqb, ne-eqb}
 use Rattle.file_save.proofs.leaf_byte.Statement.{statement}
 use Rattle.file_save.proofs.leaf_byte.Tie as tie

@@ -1,7 +1,7 @@
 -- `save_leaf` writes the one byte of {} or {{}}.
 -- What is refused and what is given hangs on the output's length.
 use borrow.Author.Needs.{needs}
-use mathlib.Core.Path.{_≡_, refl, ap}
+use mathlib.Core.Path.{refl, ap}
 use lib.ListN.{set, length-set}
 use Rattle.file_save.proofs.save_leaf.Statement.{statement}
 use Rattle.file_save.proofs.save_leaf.Tie as tie

@@ -1,9 +1,9 @@
 -- `save_parts` walks the parts, tests the room for their file, and writes it.
 -- Each way out is one law of saving.
 use borrow.Author.Needs.{needs}
-use mathlib.Core.Path.{_≡_, refl, _∙_}
+use mathlib.Core.Path.{refl}
 use native.Mathlib.Omega.{arith}
-use borrow.Author.Tests.{not-true, not-false}
+use borrow.Author.Tests.{not-true}
 use Rattle.file_save.proofs.Saves.{parts-damaged, parts-broken, parts-short, parts-unwritten, parts-done}
 use Rattle.file_save.proofs.save_parts.Statement.{statement}
 use Rattle.file_save.proofs.save_parts.Tie as tie

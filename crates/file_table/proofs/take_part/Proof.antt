@@ -4,7 +4,7 @@ use borrow.Author.Needs.{needs}
 use mathlib.Core.Path.{sym, _∙_}
 use native.Mathlib.Omega.{arith}
 use borrow.Author.Tests.{not-true, not-false}
-use Rattle.file_table.proofs.Accepting.{Follows, follows-is, take-unfit, take-entered}
+use Rattle.file_table.proofs.Accepting.{follows-is, take-unfit, take-entered}
 use borrow.Author.Needs.{needs}
 use Rattle.file_table.proofs.take_part.Statement.{statement}
 use Rattle.file_table.proofs.take_part.Tie as tie

@@ -2,12 +2,12 @@
 -- The definition's two cases, and a word that is not there.
 use borrow.Author.Needs.{needs}
 use native.Mathlib.Omega.{arith}
-use Rattle.file_write.proofs.Cursors.{local-leaf, local-word, local-none}
+use Rattle.store.proofs.Handles.{word-leaf, word-node, word-none}
 use Rattle.file_write.proofs.local.Statement.{statement}
 use Rattle.file_write.proofs.local.Tie as tie
 
 returns : tie.Need-returns
-returns c = local-leaf ((c .before) .args .links .now) ((c .before) .args .handle) (c .if1 .taken)
+returns c = word-leaf ((c .before) .args .links .now) ((c .before) .args .handle) (c .if1 .taken)
 
 cast-j : tie.Need-cast-j
 cast-j c = search needs
@@ -19,10 +19,10 @@ shared-slice-read-result : tie.Need-shared-slice-read-result
 shared-slice-read-result c = search needs
 
 returns-2 : tie.Need-returns-2
-returns-2 c = local-word ((c .before .before .before) .args .links .now) ((c .before .before .before) .args .handle) ((c .before .before) .if1 .left)
+returns-2 c = word-node ((c .before .before .before) .args .links .now) ((c .before .before .before) .args .handle) ((c .before .before) .if1 .left)
 
 returns-3 : tie.Need-returns-3
-returns-3 c = local-none ((c .before .before) .args .links .now) ((c .before .before) .args .handle) ((c .before) .if1 .left) (c .if2 .left)
+returns-3 c = word-none ((c .before .before) .args .links .now) ((c .before .before) .args .handle) ((c .before) .if1 .left) (c .if2 .left)
 
 pub local-spec : {M : Type 1} → statement M
 local-spec =

@@ -1,10 +1,7 @@
 -- `write_part` writes the record of the part at the cursor into what remains of the output.
 -- Each way out is one law of a turn.
 use borrow.Author.Needs.{needs}
-use mathlib.Core.Path.{_∙_}
 use native.Mathlib.Omega.{arith}
-use lib.ListN.{length, length-set}
-use Rattle.file_record.proofs.Laying.{widths-length}
 use Rattle.file_write.proofs.Cursors.{turn-low, turn-high, turn-item, length-is, turn-full, turn-done}
 use Rattle.file_write.proofs.write_part.Statement.{statement}
 use Rattle.file_write.proofs.write_part.Tie as tie

@@ -1,8 +1,8 @@
 -- `write_parts` writes record after record; so many parts are left.
 -- The measure is their number.
 use borrow.Author.Needs.{needs}
-use Prim.Native.Nat.{_-_, _≤_}
-use mathlib.Core.Path.{_∙_, sym}
+use Prim.Native.Nat.{_-_}
+use mathlib.Core.Path.{_∙_}
 use native.Mathlib.Omega.{arith}
 use Rattle.file_write.proofs.Writes.{Left, left-start, left-fits, left-broken, left-step, left-done}
 use Rattle.file_write.proofs.write_parts.Statement.{statement}

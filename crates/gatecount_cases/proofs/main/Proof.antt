@@ -2,7 +2,6 @@
 -- The number of the argument rises to their count.
 use borrow.Author.Needs.{needs}
 use Prim.Native.Nat.{_-_}
-use mathlib.Core.Path.{_≡_}
 use native.Mathlib.Omega.{arith}
 use Rattle.gatecount_cases.proofs.main.Statement.{statement}
 use Rattle.gatecount_cases.proofs.main.Tie as tie

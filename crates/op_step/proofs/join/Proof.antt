@@ -1,6 +1,5 @@
 -- `join` hands a refused second result on, else makes the node and remembers what it gave.
 -- Both ways out are laws of joining.
-use mathlib.Core.Path.{_∙_}
 use Rattle.op_step.proofs.Joining.{joined-passed, joined-made}
 use borrow.Author.Needs.{needs}
 use Rattle.op_step.proofs.join.Statement.{statement}

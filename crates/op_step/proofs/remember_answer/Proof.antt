@@ -1,6 +1,5 @@
 -- `remember_answer` remembers a handle, and nothing of a refusal.
 -- The answer is one or the other.
-use mathlib.Core.Path.{_≡_, refl, sym, _∙_}
 use Rattle.op_step.proofs.Joining.{remembered-gave, remembered-refused}
 use borrow.Author.Needs.{needs}
 use Rattle.op_step.proofs.remember_answer.Statement.{statement}

@@ -1,8 +1,7 @@
 -- `is_member` goes one way down; on that way the rest is a member exactly when the combination is one of p.
 -- The measure is what is left of 512 steps.
 use borrow.Author.Needs.{needs}
-use Prim.Native.Nat.{ℕ, _+_, _*_, _-_, _≤_, _<_}
-use mathlib.Core.Path.{_≡_, refl, sym, ap, _∙_}
+use Prim.Native.Nat.{_-_}
 use native.Mathlib.Omega.{arith}
 use Rattle.family.specs.Combination.{itemsOf}
 use Rattle.family.proofs.Words.{items-combined}

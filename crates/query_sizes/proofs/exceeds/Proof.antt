@@ -1,8 +1,7 @@
 -- `exceeds` goes down the one sides as long as the zero side is {}; the size stays the same on that way.
 -- The measure is what is left of 512 steps.
 use borrow.Author.Needs.{needs}
-use Prim.Native.Nat.{ℕ, _+_, _*_, _-_, _≤_, _<_}
-use mathlib.Core.Path.{_≡_, refl, sym, ap, _∙_}
+use Prim.Native.Nat.{_-_}
 use native.Mathlib.Omega.{arith}
 use Rattle.query_sizes.proofs.Brims.{Down, down-start, down-leaf, down-none, down-small, down-some, down-outside, down-step}
 use Rattle.query_sizes.proofs.exceeds.Statement.{statement}

@@ -1,7 +1,6 @@
 -- `fill_sizes` fills the words in rising number; the words below j are filled.
 -- The measure is the number of nodes left.
-use Prim.Native.Nat.{ℕ, _+_, _*_, _-_, _≤_, _<_}
-use mathlib.Core.Path.{_≡_, refl, sym, ap, _∙_}
+use Prim.Native.Nat.{_-_, _≤_}
 use native.Mathlib.Omega.{arith}
 use Rattle.query_sizes.specs.Inner.{Filled}
 use Rattle.query_sizes.proofs.Summing.{filled-none, filled-step, filled-end}

@@ -2,7 +2,6 @@
 -- Each is written behind the one before.
 use borrow.Author.Needs.{needs}
 use native.Mathlib.Omega.{arith}
-use mathlib.Core.Path.{_∙_}
 use Rattle.report_text.proofs.Writings.{wrote-then, short-64}
 use borrow.Author.Needs.{needs}
 use Rattle.report_text.proofs.put_sum.Statement.{statement}

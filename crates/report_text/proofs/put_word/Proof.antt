@@ -3,7 +3,7 @@
 use borrow.Author.Needs.{needs}
 use Prim.Native.Nat.{_-_}
 use mathlib.Core.Path.{refl}
-use lib.ListN.{length, length-set}
+use lib.ListN.{length}
 use native.Mathlib.Omega.{arith}
 use Rattle.report_text.proofs.Writings.{Copied, copied-none, copied-more, copied-all}
 use Rattle.report_text.proofs.put_word.Statement.{statement}

@@ -1,11 +1,9 @@
 -- `fresh` leaves what the definition says; each way out is one of its branches.
 -- What is zeroed is what `zero` and `zero_groups` ensure.
-use Prim.Native.Nat.{_*_, _≤_}
-use mathlib.Core.Path.{_≡_, ap, _∙_}
+use Prim.Native.Nat.{_*_}
+use mathlib.Core.Path.{ap, _∙_}
 use native.Mathlib.Omega.{arith}
-use lib.ListN.{length}
 use Rattle.words.specs.Words.{zeroed}
-use Rattle.store.specs.Capacity.{capacityOf}
 use Rattle.store_fresh.proofs.Freshly.{fresh-tiny, fresh-short, fresh-done}
 use borrow.Author.Needs.{needs}
 use Rattle.store_fresh.proofs.fresh.Statement.{statement}

@@ -1,7 +1,6 @@
 -- `finish` keeps a handle as it is, and undoes what a refused call made.
 -- What `rollback`, `zero_groups` and `refused` ensure is the definition's own.
-use mathlib.Core.Path.{_∙_}
-use Rattle.store.proofs.Endings.{finished-gave, finished-undone}
+use Rattle.store_undo.proofs.Finishing.{finished-gave, finished-undone}
 use borrow.Author.Needs.{needs}
 use Rattle.store_undo.proofs.finish.Statement.{statement}
 use Rattle.store_undo.proofs.finish.Tie as tie

@@ -5,7 +5,7 @@ use mathlib.Core.Path.{_≡_, sym, ap, _∙_}
 use native.Mathlib.Omega.{arith}
 use lib.ListN.{length, length-set}
 use Rattle.words.specs.Words.{zeroed}
-use Rattle.words.proofs.Zeroed.{zeroed-none, zeroed-more, zeroed-length}
+use Rattle.words.proofs.Zeroed.{zeroed-none, zeroed-more}
 use borrow.Author.Needs.{needs}
 use Rattle.words.proofs.zero.Statement.{statement}
 use Rattle.words.proofs.zero.Tie as tie

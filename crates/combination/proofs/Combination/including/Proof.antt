@@ -2,9 +2,8 @@
 -- What `contains` ensures says which; a bit that is 0 can be set within 32 bits.
 use borrow.Author.Needs.{needs}
 use native.Mathlib.Omega.{arith}
-use mathlib.Core.Path.{_≡_, sym}
-use mathlib.Core.Bool.{false}
-use Rattle.family.specs.Combination.{Words, holds, itemsOf}
+use mathlib.Core.Path.{sym}
+use Rattle.family.specs.Combination.{Words}
 use Rattle.family.proofs.Words.{free-zero, free-high, free-held, not-including, included, included-fits}
 use Rattle.combination.proofs.Given.{given-words}
 use borrow.Author.Needs.{needs}

@@ -1,8 +1,6 @@
 -- `without` takes the item out of the record's combination: where the item is held its bit is taken off, else nothing changes.
 -- What `contains` ensures says which, and that the item's bit stands.
-use mathlib.Core.Path.{_≡_, sym}
-use mathlib.Core.Bool.{true}
-use lib.ListN.{length}
+use mathlib.Core.Path.{sym}
 use native.Mathlib.Omega.{arith}
 use borrow.Author.Needs.{needs}
 use Rattle.family.specs.Combination.{Words}

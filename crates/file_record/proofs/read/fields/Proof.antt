@@ -1,6 +1,5 @@
 -- `fields` reads the three fields behind a bit map byte, each from the bytes after the one before.
 -- Each way out is one branch of the definition.
-use mathlib.Core.Path.{_∙_, sym, ap}
 use native.Mathlib.Omega.{arith}
 use native.Mathlib.Numerals.{add-one}
 use Rattle.file_record.proofs.Taking.{part-from, field-read, fields-no-item, fields-no-zero, fields-reach, fields-no-one, fields-taken}

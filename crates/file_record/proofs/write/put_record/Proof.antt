@@ -1,7 +1,7 @@
 -- `put_record` lays the bit map byte and the three fields, each behind the one before.
 -- Together they are the run of the record's bytes.
 use borrow.Author.Needs.{needs}
-use mathlib.Core.Path.{_∙_, sym, ap}
+use mathlib.Core.Path.{_∙_}
 use native.Mathlib.Omega.{arith}
 use lib.ListN.{length-set}
 use Rattle.file_record.proofs.Laying.{room-map, room-item, room-zero, room-one, record-place, record-laid}

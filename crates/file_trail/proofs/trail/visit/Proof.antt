@@ -1,7 +1,7 @@
 -- `visit` puts a part behind the last one and adds its record's length.
 -- What it calls says every field.
 use borrow.Author.Needs.{needs}
-use mathlib.Core.Path.{_≡_, refl, sym, ap, _∙_}
+use mathlib.Core.Path.{refl, ap, _∙_}
 use native.Mathlib.Omega.{arith}
 use Rattle.file_trail.specs.Inner.{linked}
 use Prim.Native.Nat.{_+_}

@@ -1,7 +1,6 @@
 -- `walk` meets the parts of p: the top falls from a part to its sides.
 -- Each way out is one law of walking.
 use borrow.Author.Needs.{needs}
-use mathlib.Core.Path.{_∙_}
 use Prim.Native.Nat.{ℕ, _<_}
 use native.Mathlib.Omega.{arith}
 use Rattle.file_trail.proofs.Walking.{split-two, walk-met, walk-no-children, walk-first-broken, walk-second-broken, walk-many, walk-done}

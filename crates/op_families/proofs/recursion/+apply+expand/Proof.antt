@@ -6,8 +6,9 @@ use native.Mathlib.Omega.{arith}
 use Rattle.store.proofs.Growing.{kept-top, kept-roomy, kept-trans}
 use Rattle.op_families.proofs.Forks.{fork-two, fork-broken}
 use Rattle.op_step.proofs.Steps.{step-first, step-joined}
-use Rattle.op_step.proofs.Splitting.{split-families}
-use Rattle.op_step.proofs.Outcomes.{shortcut-proper, ran-broken, ran-recalled, ran-shortcut, ordered-op, ordered-first, ordered-second, ordered-level, ran-ordered}
+use Rattle.op_families.proofs.Splits.{split-families}
+use Rattle.op_families.proofs.Shortcuts.{shortcut-proper, ran-shortcut, ordered-op, ordered-first, ordered-second, ordered-level, ran-ordered}
+use Rattle.op_step.proofs.Outcomes.{ran-broken, ran-recalled}
 use borrow.Author.Needs.{needs}
 use borrow.Fn.Kinds.{In}
 use borrow.Fn.PlainCycle.{Measures, is, falls, and}

@@ -1,6 +1,5 @@
 -- `fork_at` hands on the sides of both operands, with the larger tops.
 -- Where a split fails, the words hold no book.
-use mathlib.Core.Path.{_≡_, refl}
 use native.Mathlib.Omega.{arith}
 use Rattle.op_families.specs.Inner.{two, broken}
 use Rattle.store.proofs.Sides.{sides-two, sides-broken}

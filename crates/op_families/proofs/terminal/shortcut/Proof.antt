@@ -1,6 +1,6 @@
 -- `shortcut` answers document 001's terminal cases; each is a law of the operation.
 -- Where none applies it says nothing.
-use Rattle.op_step.specs.Inner.{known, unknown}
+use Rattle.op_families.specs.Inner.{known, unknown}
 use Rattle.op_families.proofs.Orders.{same-none, same-same, empty-second, empty-none, none-second, first-second}
 use Rattle.op_families.proofs.terminal.shortcut.Statement.{statement}
 use Rattle.op_families.proofs.terminal.shortcut.Tie as tie

@@ -5,9 +5,9 @@ use Prim.Native.Nat.{ℕ, _+_, _*_, _<_}
 use native.Mathlib.Omega.{arith}
 use Rattle.store.proofs.Growing.{kept-top, kept-roomy, kept-trans}
 use Rattle.store.proofs.Sides.{sides-two, sides-broken}
-use Rattle.op_cache.proofs.Plain.{plain-ran}
+use Rattle.store.proofs.Plain.{plain-ran}
 use Rattle.op_step.proofs.Steps.{of, step-first, step-joined}
-use Rattle.op_step.proofs.Splitting.{split-item}
+use Rattle.op_items.proofs.Splits.{split-item}
 use Rattle.op_step.proofs.Outcomes.{ran-broken, ran-recalled}
 use borrow.Author.Needs.{needs}
 use borrow.Fn.Kinds.{In}

@@ -1,7 +1,7 @@
 -- `at_top` gives what the operation is at the top item: a side, or the node of the sides swapped.
 -- Each way out is one law of restricting; where a split fails, the words hold no book.
 use Rattle.store.proofs.Sides.{sides-two, sides-broken}
-use Rattle.op_cache.proofs.Plain.{plain-broken}
+use Rattle.store.proofs.Plain.{plain-broken}
 use Rattle.op_items.proofs.Restricting.{at-one, at-zero, at-node}
 use borrow.Author.Needs.{needs}
 use Rattle.op_items.proofs.terminal.at_top.Statement.{statement}

@@ -1,6 +1,6 @@
 -- Behind the letter no item is taken yet: sixteen words of zeros hold none.
 -- The combination of such words is empty.
-use mathlib.Core.Path.{_≡_, ap}
+use mathlib.Core.Path.{ap}
 use Rattle.report_line.specs.Line.{letter}
 use Rattle.report_line.proofs.States.{no-items}
 use Rattle.report_line.proofs.Reading.begun.Statement.{statement}

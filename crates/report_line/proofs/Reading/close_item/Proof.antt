@@ -2,7 +2,7 @@
 -- The three tests of the code are the grammar's one.
 use borrow.Author.Needs.{needs}
 use native.Mathlib.Omega.{arith}
-use mathlib.Core.Path.{_≡_, sym, _∙_}
+use mathlib.Core.Path.{sym, _∙_}
 use Rattle.family.proofs.Words.{free-zero, free-high, free-held, free-item}
 use Rattle.report_line.proofs.States.{progress-is, closed-not, closed-free}
 use borrow.Author.Needs.{needs}

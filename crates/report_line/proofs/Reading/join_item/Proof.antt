@@ -1,7 +1,7 @@
 -- The item is put in, and the byte behind it is read as behind the letter.
 -- What `including` ensures is the grammar's combination.
 use borrow.Author.Needs.{needs}
-use mathlib.Core.Path.{_≡_, ap, _∙_}
+use mathlib.Core.Path.{ap, _∙_}
 use Rattle.report_line.specs.Line.{gap}
 use borrow.Author.Needs.{needs}
 use Rattle.report_line.proofs.Reading.join_item.Statement.{statement}

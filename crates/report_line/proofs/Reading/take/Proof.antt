@@ -1,7 +1,7 @@
 -- A byte is read where one is left, else the line is malformed.
 -- The count of bytes left falls by one.
 use borrow.Author.Needs.{needs}
-use mathlib.Core.Path.{_≡_, sym, _∙_}
+use mathlib.Core.Path.{sym, _∙_}
 use Rattle.report_line.specs.Line.{stateOf}
 use Rattle.report_line.proofs.States.{step-none, step-some}
 use borrow.Author.Needs.{needs}

@@ -1,7 +1,6 @@
 -- Pieces are read and taken until the input or the log ends.
 -- Before each turn all that was read is taken; the count of turns falls.
 use borrow.Author.Needs.{needs}
-use Prim.Native.Nat.{_<_}
 use mathlib.Core.Path.{_∙_}
 use native.Mathlib.Omega.{arith}
 use Rattle.report_run.proofs.Onward.{Onward, onward-start, onward-again}

@@ -1,7 +1,6 @@
 -- The report of the input that was read, on a store of 500 nodes.
 -- Fresh words keep the log of no byte, reading keeps the log of what was read, and closing writes what it prints.
 use borrow.Author.Needs.{needs}
-use mathlib.Core.Path.{refl}
 use Prim.Native.Nat.{ℕ}
 use lib.ListN.{length-replicate}
 use Rattle.report_run.proofs.Reported.{none-reported, reported}

@@ -1,7 +1,6 @@
 -- `sides_at` hands on the sides of p at the level, each child tested before; where a test fails, the words hold no book.
 -- Every way out is one law of the cofactors.
-use Prim.Native.Nat.{_+_, _*_, _-_, _≤_, _<_}
-use mathlib.Core.Path.{sym, _∙_}
+use Prim.Native.Nat.{_-_, _≤_}
 use native.Mathlib.Omega.{arith}
 use Rattle.store.specs.Words.{topAt}
 use Rattle.store.specs.Inner.{two, broken}

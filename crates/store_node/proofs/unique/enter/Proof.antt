@@ -1,6 +1,6 @@
 -- `enter` writes the three words of the node and its number: the definition's own stores.
 -- No store changes a length.
-use mathlib.Core.Path.{_≡_, refl}
+use mathlib.Core.Path.{refl}
 use native.Mathlib.Omega.{arith}
 use lib.ListN.{length-set}
 use Rattle.store.specs.Inner.{putNode}

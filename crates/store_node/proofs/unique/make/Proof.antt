@@ -1,7 +1,5 @@
 -- `make` finds the node or enters it at the slot that the probe found; each way out is one law of the nodes.
 -- Where the words hold a book no test fails, so it is never damaged.
-use mathlib.Core.Path.{_≡_, refl, sym, _∙_}
-use Rattle.store_node.specs.Inner.{MadeIt}
 use Rattle.store_node.proofs.Nodes.{made-damaged, not-past, not-one, not-above, made-full, made-found, made-new}
 use borrow.Author.Needs.{needs}
 use Rattle.store_node.proofs.unique.make.Statement.{statement}

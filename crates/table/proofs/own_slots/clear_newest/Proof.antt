@@ -1,12 +1,11 @@
 -- `clear_newest` empties the slots of the newest nodes: what is left to empty, from the lookup as it is, gives the whole.
 -- The measure is the number of nodes left.
 use borrow.Author.Needs.{needs}
-use Prim.Native.Nat.{ℕ, _-_, _≤_, _<_}
-use mathlib.Core.Path.{_≡_, refl, sym, ap, _∙_}
-use mathlib.Core.List.{List}
+use Prim.Native.Nat.{_-_, _≤_}
+use mathlib.Core.Path.{_≡_, sym, ap, _∙_}
 use native.Mathlib.Omega.{arith}
 use lib.ListN.{length, set, length-set}
-use Rattle.table.specs.Own.{ownOf, cleared}
+use Rattle.table.specs.Own.{cleared}
 use Rattle.table.proofs.OwnSlots.{cleared-step, cleared-skip, cleared-none}
 use Rattle.table.proofs.own_slots.clear_newest.Statement.{statement}
 use Rattle.table.proofs.own_slots.clear_newest.Tie as tie

@@ -1,9 +1,6 @@
 -- `start_slot` gives the start slot: each wrapped step is the definition's, and wrapping at each step is wrapping once.
 -- The remainder is taken of equal numbers.
 use Rattle.table.proofs.Starts.{start-steps, wrapped}
-use Prim.Native.Nat.{_%_}
-use mathlib.Core.Path.{ap}
-use Rattle.table.specs.Start.{mixOf, startOf}
 use borrow.Author.Needs.{needs}
 use Rattle.table.proofs.start.start_slot.Statement.{statement}
 use Rattle.table.proofs.start.start_slot.Tie as tie

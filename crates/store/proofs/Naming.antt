@@ -1,11 +1,10 @@
 -- The family that an operation names: it hangs on its operands alone, keeps to the limit, and follows the equations of the recursion.
 -- Operations 4 to 6 are one combination by a rule on memberships; 1 to 3 are the three restrictions by an item.
-use Prim.Native.Nat.{ℕ, suc, _+_, _-_, _≤_, _<_, max}
+use Prim.Native.Nat.{ℕ, suc, _-_, _≤_, _<_}
 use mathlib.Core.Path.{_≡_, refl, sym, ap, _∙_}
-use mathlib.Core.Bool.{Bool, true, false, cond, _&&_, _||_, or-comm, and-comm}
+use mathlib.Core.Bool.{Bool, false, _&&_, _||_, or-comm, and-comm}
 use mathlib.Core.List.{List}
 use native.Mathlib.Omega.{arith}
-use lib.Dec.{eqb, ltb}
 use lib.ListN.{length}
 use borrow.Author.Tests.{eq-eqb, ne-eqb, lt-ltb, le-ltb}
 use Rattle.family.specs.Family.{Family, empty, base, node, top, mk, Ordered, Within}
@@ -15,8 +14,7 @@ use Rattle.family.proofs.Books.{grown-at}
 use Rattle.family.proofs.Combine.{within-combine, combine-step, combine-swap, union-self, intsec-self, diff-self, union-empty, empty-union, intsec-empty, empty-intsec, diff-empty, empty-diff}
 use Rattle.family.proofs.Restrict.{within-subset1, within-subset0, within-change, subset1-low, subset0-low, change-low, subset1-at, subset0-at, change-at, subset1-high, subset0-high, change-high}
 use Rattle.words.proofs.Cases.{by-eq, by-lt}
-use Rattle.store.specs.Words.{itemLimit}
 use Rattle.store.specs.Cache.{restrict, rule, named}
 
 pub named-families : (op : ℕ) (B : List Family) (p q : ℕ) → 4 ≤ op → named op B p q ≡ combine (rule op) (at B p) (at B q)
 unfolding named

@@ -1,18 +1,17 @@
--- Answers, and the two ways out of `finish`: a handle stays as it is, a refusal is undone.
--- An answer is one or the other, never both.
-use Prim.Native.Nat.{ℕ, _*_, _/_, _≤_}
-use mathlib.Core.Path.{_≡_, refl, sym, ap, _∙_}
+-- Answers: a handle or a refusal, never both, and what each says of the book.
+-- The two constructors differ, so an equation with one rules the other out.
+use Prim.Native.Nat.{ℕ, _≤_, _-_}
+use mathlib.Core.Path.{_≡_, refl}
 use mathlib.Core.List.{List}
 use native.Mathlib.Omega.{arith}
 use lib.ListN.{length}
 use Rattle.family.specs.Family.{Family}
-use Rattle.words.specs.Words.{zeroed}
-use Rattle.store.specs.declared.record.Store.{Store}
 use Rattle.store.specs.declared.record.Refusal.{Refusal}
 use Rattle.store.specs.declared.record.PlaceAnswer.{PlaceAnswer}
 use Rattle.store.specs.declared.record.PlaceAnswer.the-variants.{Handle, Refused}
-use Rattle.store.specs.declared.record.Placed.{Placed}
-use Rattle.store.specs.Inner.{Handed, Answer, gave, full, RolledBack, Finished}
+use Rattle.store.specs.Inner.{Handed, Answer, gave, full}
+use Rattle.family.specs.Book.{at}
+use Rattle.store.specs.declared.record.Refusal.the-variants.{Full, Damaged}
 
 pub not-both {ℓ} : {A : Type ℓ} {a : PlaceAnswer} (h : ℕ) (x : Refusal) → a ≡ Handle h → a ≡ Refused x → A
 not-both h x e d = absurd (let z : _≡_ {A = ℕ} 0 1 = cc in omega arith)
@@ -32,14 +31,16 @@ pub refused-on : {C C′ : List Family} {F F′ : Family} {capacity n : ℕ} {no
 refused-on x e l (gave {h = h} G) = not-both h x refl e
 refused-on x e l (full D H m) = full D H (omega arith)
 
-pub finished-gave : (placed : Placed) (keep : ℕ) (nodes lookup cache : List ℕ) (h : ℕ) → placed .answer ≡ Handle h → Finished placed keep nodes lookup cache placed nodes lookup cache
-finished-gave placed keep nodes lookup cache h e = record { gave = λ g d. (refl, refl, refl, refl); undone = λ x d. not-both h x e d }
+-- an answer is a handle or a refusal
+pub by-answer {ℓ} : {A : Type ℓ} (a : PlaceAnswer) → ((h : ℕ) → a ≡ Handle h → A) → ((x : Refusal) → a ≡ Refused x → A) → A
+by-answer (Handle h) f g = f h refl
+by-answer (Refused x) f g = g x refl
 
-pub finished-undone : (placed : Placed) (keep : ℕ) (nodes lookup cache : List ℕ) (x : Refusal) (s : Store) (r : Placed) (nodes′ lookup′ cache′ : List ℕ) → placed .answer ≡ Refused x
-    → RolledBack (placed .store) nodes lookup keep s nodes′ lookup′ → r .store ≡ s → r .answer ≡ Refused x → cache′ ≡ zeroed 0 (length cache / 4 * 4) cache
-    → Finished placed keep nodes lookup cache r nodes′ lookup′ cache′
-finished-undone placed keep nodes lookup cache x s r nodes′ lookup′ cache′ e U es ea ec =
-    record {
-      gave = λ h d. not-both h x d e;
-      undone = λ y d. (rw es U, ea ∙ ap Refused (refused-same x y e d), ec);
-    }
+pub handle-is : {g h : ℕ} → Handle g ≡ Handle h → g ≡ h
+handle-is e = cc
+
+pub refused-not {ℓ} : {A : Type ℓ} {a : PlaceAnswer} (h : ℕ) → a ≡ Refused Full → a ≡ Handle h → A
+refused-not h e d = absurd (let z : _≡_ {A = ℕ} 0 1 = cc in omega arith)
+
+pub damaged-not {ℓ} : {A : Type ℓ} {a : PlaceAnswer} (h : ℕ) → a ≡ Refused Damaged → a ≡ Handle h → A
+damaged-not h e d = absurd (let z : _≡_ {A = ℕ} 0 1 = cc in omega arith)

@@ -1,7 +1,7 @@
 -- Taking back all nodes that a refused call made leaves the node and lookup words as they were before it.
 -- The nodes before keep their words, the words past them were blank, and emptying the newest slots gives the lookup of the nodes before.
 use Prim.Native.Nat.{ℕ, _+_, _*_, _-_, _≤_, _<_}
-use mathlib.Core.Path.{_≡_, refl, sym, ap, _∙_}
+use mathlib.Core.Path.{_≡_, sym, ap, _∙_}
 use mathlib.Core.List.{List}
 use native.Mathlib.Omega.{arith}
 use lib.ListN.{length, getD}
@@ -12,11 +12,12 @@ use Rattle.words.proofs.Cases.{by-lt}
 use Rattle.words.proofs.Zeroed.{zeroed-length, zeroed-before, zeroed-inside, zeroed-after}
 use Rattle.table.specs.Entered.{entered, startAt}
 use Rattle.table.specs.Own.{cleared}
-use Rattle.table.proofs.OwnSlots.{Distinct, Items, rolled-back}
+use Rattle.table.proofs.OwnSlots.{rolled-back}
 use Rattle.store.specs.declared.record.Store.{Store}
-use Rattle.store.specs.Inner.{Roomy, Holds, Kept, RolledBack}
+use Rattle.store_undo.specs.Inner.{RolledBack}
+use Rattle.store.specs.Inner.{Roomy, Holds, Kept}
 use Rattle.store.proofs.Held.{words-apart, words-items}
 use Rattle.store.proofs.Put.{entered-same}
 
 module _ {s s₁ s₂ : Store} {nodes lookup nodes₁ lookup₁ nodes₂ lookup₂ : List ℕ} (R : Roomy s nodes lookup) (K : Kept s nodes lookup s₁ nodes₁ lookup₁) (U : RolledBack s₁ nodes₁ lookup₁ (s .count) s₂ nodes₂ lookup₂) where
   pub undone-nodes : ((k : ℕ) → 3 * s .count ≤ k → k < 3 * s .capacity → getD nodes k 0 ≡ 0) → nodes₂ ≡ nodes

@@ -1,0 +1,50 @@
+-- Calls that need no new node: a handle that is in the book already, or words that hold no book; and calls that leave the cache alone.
+-- Placing what is held changes nothing, and a cache that is true of a book is true of every book that it grows to.
+use Prim.Native.Nat.{ℕ, _+_, _≤_, _<_}
+use mathlib.Core.Path.{_≡_, refl, sym, _∙_}
+use mathlib.Core.List.{List}
+use native.Mathlib.Omega.{arith}
+use Rattle.family.specs.Family.{Family}
+use Rattle.family.specs.Book.{at, place}
+use Rattle.family.proofs.Placing.{place-grown, place-held}
+use Rattle.store.specs.declared.record.Store.{Store}
+use Rattle.store.specs.declared.record.Refusal.the-variants.{Damaged}
+use Rattle.store.specs.declared.record.PlaceAnswer.the-variants.{Handle, Refused}
+use Rattle.store.specs.declared.record.Placed.{Placed}
+use Rattle.store.specs.Inner.{Roomy, Holds, gave, Ran, RanPlain}
+use Rattle.store.proofs.Held.{held}
+use Rattle.store.proofs.Answers.{handle-is, damaged-not}
+use Rattle.store.proofs.Growing.{kept-self}
+use Rattle.store.proofs.Cached.{true-grown}
+
+-- placing a held family
+pub place-at : {B : List Family} {n : ℕ} {nodes lookup : List ℕ} → Holds B n nodes lookup → (h : ℕ) → h < n + 2 → place B (at B h) ≡ B
+place-at {B} H h l = place-held B (at B h) (H .book) (held H h l)
+
+module _ (F : List Family → Family) (s : Store) (nodes lookup : List ℕ) where
+  -- a handle in the book already
+  pub plain-handle : Roomy s nodes lookup → (r : Placed) (h : ℕ) → r .store ≡ s → r .answer ≡ Handle h → h ≤ s .count + 1
+      → ((B : List Family) → Holds B (s .count) nodes lookup → at B h ≡ F B) → RanPlain F s nodes lookup r nodes lookup
+  plain-handle R r h es ea l means =
+      record {
+        kept = rw es (kept-self s nodes lookup (R .within));
+        handle = λ k e. rw es (omega (arith, handle-is (sym ea ∙ e)));
+        sound = λ B H. rw (ea, es, ← means B H, place-at H h (omega arith)) (gave {h = h} (record { holds = H; within = omega arith; means = refl }));
+      }
+
+  -- words that hold no book
+  pub plain-broken : Roomy s nodes lookup → (r : Placed) → r .store ≡ s → r .answer ≡ Refused Damaged → ((B : List Family) → Holds B (s .count) nodes lookup → ⊥) → RanPlain F s nodes lookup r nodes lookup
+  plain-broken R r es ea f =
+      record { kept = rw es (kept-self s nodes lookup (R .within)); handle = λ h e. damaged-not h ea e; sound = λ B H. absurd (f B H) }
+
+  -- a call that leaves the cache alone
+  pub plain-ran : {r : Placed} {nodes′ lookup′ : List ℕ} (cache : List ℕ) → RanPlain F s nodes lookup r nodes′ lookup′ → Ran F s nodes lookup cache r nodes′ lookup′ cache
+  plain-ran cache P =
+      record {
+        kept = P .kept;
+        handle = P .handle;
+        long-cache = refl;
+        rest = λ k l. refl;
+        sound = λ B H t. P .sound B H;
+        cached = λ B H t h e. true-grown (place-grown B (F B)) t;
+      }

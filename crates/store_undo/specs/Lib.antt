@@ -1,0 +1,2 @@
+-- What the contracts of `store_undo` cite.
+pub mod Inner
