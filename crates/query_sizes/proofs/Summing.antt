@@ -14,6 +14,7 @@ use Rattle.store.proofs.Held.{at-0, at-1}
 use Rattle.query_sizes.specs.NodeSizes.{most, sizesOf}
 use Rattle.store.specs.Words.{wordOf}
 use Rattle.query_sizes.specs.Inner.{Filled}
+use Rattle.store.proofs.Handles.{word-leaf, word-node}
 
 -- words that hold the sizes below j give the size of every handle below j + 2
 pub size-known : {B : List Family} {n : ℕ} {nodes lookup : List ℕ} → Holds B n nodes lookup → (sizes : List ℕ) (j : ℕ) → ((k : ℕ) → k < j → getD sizes k 0 ≡ min (size (at B (k + 2))) most)

@@ -7,6 +7,7 @@ use native.Mathlib.Omega.{arith}
 use lib.ListN.{length, getD, List·getD-eq-default}
 use borrow.Author.Tests.{lt-ltb, le-ltb}
 use Rattle.family.specs.Family.{node}
+use Rattle.store.specs.Words.{wordOf}
 
 module _ (words : List ℕ) (h : ℕ) where
   pub word-leaf : h < 2 → h ≡ wordOf words h
