@@ -11,9 +11,11 @@ use Rattle.words.proofs.Cases.{by-test, and-inv, clash}
 use Rattle.family.specs.Family.{Family, empty, top, Ordered, Within, size}
 use Rattle.family.specs.Operation.{union, intsec, diff}
 use Rattle.family.specs.Combination.{largest, Falling, Combined, holds, insert, isFree}
+use Rattle.family.specs.Finite.{single}
 use Rattle.family.proofs.Falling.{insert-falling}
 use Rattle.family.proofs.Diagrams.{within-self}
 use Rattle.family.proofs.Laws.{union-within}
+use Rattle.family.proofs.Finite.{single-falls, single-size}
 use Rattle.node_sizes.specs.NodeSizes.{most}
 use Rattle.line.specs.declared.Side.{Side}
 use Rattle.line.specs.declared.Side.the-variants.{Passed, Returned}
@@ -22,7 +24,7 @@ use Rattle.log.specs.declared.Ending.the-variants.{Going, Refused, Full}
 use Rattle.line.specs.Line.{Progress, blank, letter, space, number, whole, malformed, first, gap, opened, isDigit, grown, closed, advance, State, begin, step, lineOf}
 use Rattle.adding.specs.Adding.{Added, added}
 use Rattle.log.specs.Log.{Lot, Taken, withPassed, withReturned, takeLine, Log, opening, counted, readOn, whileGoing, logByte, feed, capped}
-use Rattle.report.proofs.Meanings.{single, single-falls, single-size, added-single, union-size, intsec-size, diff-size}
+use Rattle.report.proofs.Meanings.{added-single, union-size, intsec-size, diff-size}
 
 -- the items taken of a line are a combination
 pub data Good : Progress → Type 0 where
