@@ -1,5 +1,5 @@
 -- Families are the finite sets of combinations: each such set is that of one family, and each family is such a set.
--- The family of one combination has it alone, and a union has the members of both; that there is one only is canonicity.
+-- The family of one combination has it alone, and a union has the members of both; there is one only by `canonical`.
 use Prim.Native.Nat.{ℕ, _≤_, _<_}
 use mathlib.Core.Path.{_≡_, refl, sym, ap, _∙_}
 use mathlib.Core.Logic.{_↔_, ⊎-elim}
