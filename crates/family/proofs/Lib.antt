@@ -16,4 +16,5 @@ pub mod Bits
 pub mod Words
 pub mod Lengths
 pub mod Laws
+pub mod Finite
 pub mod Examples

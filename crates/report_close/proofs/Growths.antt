@@ -11,8 +11,10 @@ use Rattle.words.proofs.Cases.{by-test, and-inv}
 use Rattle.family.specs.Family.{Family, empty, top, Ordered, size}
 use Rattle.family.specs.Operation.{intsec, diff}
 use Rattle.family.specs.Combination.{Combined, holds, insert, isFree}
+use Rattle.family.specs.Finite.{single}
 use Rattle.family.proofs.Falling.{insert-falling}
 use Rattle.family.proofs.Laws.{union-within}
+use Rattle.family.proofs.Finite.{single-falls, single-size}
 use Rattle.query_sizes.specs.NodeSizes.{most}
 use Rattle.report_line.specs.declared.Side.{Side}
 use Rattle.report_line.specs.declared.Side.the-variants.{Passed, Returned}
@@ -21,7 +23,7 @@ use Rattle.report_log.specs.declared.tally.Ending.the-variants.{Going, Refused,
 use Rattle.report_line.specs.Line.{Progress, blank, letter, space, number, whole, malformed, gap, isDigit, closed, advance, State, begin, step, lineOf}
 use Rattle.report_add.specs.Promise.{Added, added}
 use Rattle.report_log.specs.Log.{withPassed, withReturned, takeLine, Log, opening, counted, readOn, whileGoing, logByte, feed, capped}
-use Rattle.report_close.proofs.Meanings.{single, single-falls, single-size, added-single, union-size, intsec-size, diff-size}
+use Rattle.report_close.proofs.Meanings.{added-single, union-size, intsec-size, diff-size}
 
 -- the items taken of a line are a combination
 pub data Good : Progress → Type 0 where

@@ -1,50 +1,20 @@
 -- What a line adds to its family: exactly the combination of its items; and how large families can grow.
 -- Change in rising items from {{}} puts each item on top, so the family made has one member; a union has no more members than its two families.
-use Prim.Native.Nat.{ℕ, zero, suc, _+_, _≤_, _<_, max}
+use Prim.Native.Nat.{ℕ, zero, suc, _+_, _≤_, max}
 use mathlib.Core.Path.{_≡_, refl, sym, ap, _∙_}
 use mathlib.Core.Bool.{Bool, true, false, not, _&&_, _||_}
 use mathlib.Core.List.{List, [], _∷_}
 use native.Mathlib.Omega.{arith}
-use lib.Dec.{T}
-use borrow.Author.Tests.{eq-eqb, lt-ltb}
-use Rattle.words.proofs.Cases.{by-test, by-eq, clash}
-use Rattle.family.specs.Family.{Family, empty, base, node, top, Ordered, Within, inhabited, has, size, mk}
+use Rattle.words.proofs.Cases.{by-test, clash}
+use Rattle.family.specs.Family.{Family, empty, base, node, top, Ordered, Within, has, size, mk}
 use Rattle.family.specs.Operation.{change, lacking, holding, isBase, leaf, apply, combine, minus, union, intsec, diff}
-use Rattle.family.specs.Combination.{largest, Falling}
+use Rattle.family.specs.Combination.{Falling}
+use Rattle.family.specs.Finite.{single}
 use Rattle.family.proofs.Diagrams.{within-lacking, within-holding, rebuild, is-leaf}
 use Rattle.family.proofs.Laws.{union-law}
+use Rattle.family.proofs.Finite.{single-falls, change-top}
 use Rattle.report_add.specs.Promise.{Added, next, made, added}
 use Rattle.report_close.proofs.Closings.{placed-family}
-
--- the family of one combination
-abbrev pub single : List ℕ → Family
-single [] = base
-single (x ∷ c) = node x empty (single c)
-
-pub single-falls : (c : List ℕ) → Falling c → Ordered (single c) × (top (single c) ≡ largest c)
-single-falls [] h = (tt, refl)
-single-falls (x ∷ c) h = let q = single-falls c (h .1) in ((omega (arith, h .0), omega (arith, q .1, h .0), some c, tt, q .0), refl)
-  where
-    some : (c : List ℕ) → T (inhabited (single c))
-    some [] = tt
-    some (y ∷ d) = tt
-
--- it has that member, and no other
-pub single-has : (c : List ℕ) → has (single c) c ≡ true
-single-has [] = refl
-single-has (x ∷ c) = rw (eq-eqb x x refl) (single-has c)
-
-pub single-only : (c d : List ℕ) → has (single c) d ≡ true → d ≡ c
-single-only [] [] e = refl
-single-only [] (y ∷ d) e = clash e refl
-single-only (x ∷ c) [] e = clash e refl
-single-only (x ∷ c) (y ∷ d) e =
-    by-eq y x (λ p t. let q = single-only c d (rw t at e) in λ i. p i ∷ q i) (λ p t. clash (rw t at e) refl)
-
--- an item above all others is put on top
-change-top : (x : ℕ) (c : List ℕ) → largest c < x → change x (single c) ≡ single (x ∷ c)
-change-top x [] l = refl
-change-top x (y ∷ c) l = rw (lt-ltb y x l)
 
 -- a call that was not refused
 next-not-full : (capacity : ℕ) (f : Family → Family) (a : Added) → next capacity f a .full ≡ false → (a .full ≡ false) × (next capacity f a .family ≡ f (a .family))
@@ -130,7 +100,3 @@ module _ (F G : Family) (hF : Ordered F) (hG : Ordered G) where
   pub diff-size : size (diff F G) ≤ size F
   unfolding combine
   diff-size = left-level minus (λ y. refl) (max (top F) (top G)) F G (within-both F hF (omega arith)) (within-both G hG (omega arith))
-
-pub single-size : (c : List ℕ) → size (single c) ≡ 1
-single-size [] = refl
-single-size (x ∷ c) = omega (arith, single-size c)
