@@ -1,4 +1,4 @@
--- The two sides of both operands, as `fork_at` promises them. A reader of the promises can pass this page over.
+-- What the functions below Union, Intsec and Diff ask and promise. A reader of the promises can pass this page over.
 use mathlib.Core.Path.{_≡_}
 use mathlib.Core.Logic.{_⊎_}
 use Rattle.family.specs.Book.{at}
@@ -12,6 +12,30 @@ use Rattle.store.specs.Inner.{Holds, TwoSides}
 use Rattle.op_cache.specs.declared.Call.{Call}
 use Rattle.op_families.specs.declared.recursion.Fork.{Fork}
 use Rattle.op_families.specs.declared.recursion.Fork.the-variants.{Two, Broken}
+
+-- an operation of these three
+pub record FamilyOperation (op : ℕ) : Type 0 where
+  pub some : 4 ≤ op
+  pub low : op ≤ 6
+
+-- a call of these three on words that fit: two handles held
+pub record FamilyCall (call : Call) (s : Store) (nodes lookup : List ℕ) : Type 0 where
+  pub roomy : Roomy s nodes lookup
+  pub operation : FamilyOperation (call .op)
+  pub first : call .p ≤ s .count + 1
+  pub second : call .q ≤ s .count + 1
+
+-- with the larger of the two tops
+pub record FamilyLevel (call : Call) (level : ℕ) (nodes : List ℕ) : Type 0 where
+  pub is : level ≡ max (topAt nodes (call .p)) (topAt nodes (call .q))
+  pub low : level ≤ itemLimit
+
+-- the words of two handles
+pub record ForkAsks (nodes : List ℕ) (n : ℕ) (call : Call) : Type 0 where
+  pub first : call .p ≤ n + 1
+  pub second : call .q ≤ n + 1
+  pub words : 3 * n ≤ length nodes
+  pub small : n ≤ 1000000
 
 -- the operands of an operation on two families, in an order that names the same family
 pub record OrderedAs (call other : Call) : Type 0 where
@@ -46,6 +70,7 @@ pub record Forked (nodes : List ℕ) (n : ℕ) (call : Call) (level p₀ q₀ to
   pub top₀-is : top₀ ≡ max a₀ b₀
   pub top₁-is : top₁ ≡ max a₁ b₁
 
+-- the two sides of both operands, or words that no sound store has
 pub data ForkOf (nodes : List ℕ) (n : ℕ) (call : Call) (level : ℕ) : Fork → Type 0 where
   two : {p₀ q₀ top₀ p₁ q₁ top₁ : ℕ} → Forked nodes n call level p₀ q₀ top₀ p₁ q₁ top₁ → ForkOf nodes n call level (Two p₀ q₀ top₀ p₁ q₁ top₁)
   broken : ((B : List Family) (lookup : List ℕ) → Holds B n nodes lookup → ⊥) → ForkOf nodes n call level Broken

@@ -1,9 +1,10 @@
 // Subset1 (1), Subset0 (2) and Change (3): an item above the top, and the top itself.
+ghost use Rattle.op_items.specs.Inner.{ItemCall};
 ghost use mathlib.Core.Path.{_≡_};
-ghost use Prim.Native.Nat.{_+_, _<_, _≤_};
-ghost use Rattle.store.specs.Words.{itemLimit, topAt};
+ghost use Prim.Native.Nat.{_<_};
+ghost use Rattle.store.specs.Words.{topAt};
 ghost use Rattle.store.specs.Cache.{named};
-ghost use Rattle.store.specs.Inner.{Roomy, RanPlain};
+ghost use Rattle.store.specs.Inner.{RanPlain};
 use op_cache::Call;
 use store_node::getnode::get_node;
 use store::node::Sides;
@@ -14,8 +15,7 @@ use store::record::Store;
 
 // An item above the top of p: no member holds it.
 pub fn above_top(call: Call, store: Store, nodes: &mut [u32], lookup: &mut [u32]) -> Placed
-    requires { ⌜ Roomy store (now nodes) (now lookup) ⌝ }
-    requires { ⌜ (1 ≤ call .op) × (call .op ≤ 3) × (call .p ≤ store .count + 1) × (1 ≤ call .q) × (call .q ≤ itemLimit) ⌝ }
+    requires { ⌜ ItemCall call store (now nodes) (now lookup) ⌝ }
     requires { ⌜ topAt (now nodes) (call .p) < call .q ⌝ }
     ensures { λ r. ⌜ RanPlain (λ B. named (call .op) B (call .p) (call .q)) store (now (nodes .entry)) (now (lookup .entry)) r (now (nodes .exit)) (now (lookup .exit)) ⌝ }
 {
@@ -30,8 +30,7 @@ pub fn above_top(call: Call, store: Store, nodes: &mut [u32], lookup: &mut [u32]
 
 // The top of p itself: its two sides are at hand.
 pub fn at_top(call: Call, store: Store, nodes: &mut [u32], lookup: &mut [u32]) -> Placed
-    requires { ⌜ Roomy store (now nodes) (now lookup) ⌝ }
-    requires { ⌜ (1 ≤ call .op) × (call .op ≤ 3) × (call .p ≤ store .count + 1) × (1 ≤ call .q) × (call .q ≤ itemLimit) ⌝ }
+    requires { ⌜ ItemCall call store (now nodes) (now lookup) ⌝ }
     requires { ⌜ topAt (now nodes) (call .p) ≡ call .q ⌝ }
     ensures { λ r. ⌜ RanPlain (λ B. named (call .op) B (call .p) (call .q)) store (now (nodes .entry)) (now (lookup .entry)) r (now (nodes .exit)) (now (lookup .exit)) ⌝ }
 {

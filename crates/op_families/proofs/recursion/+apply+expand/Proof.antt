@@ -1,6 +1,5 @@
 -- `apply` and `expand` run the operation on two families: the level falls from `expand` to each `apply`, and `apply` comes just above `expand` of its level.
 -- Every way out is a terminal case, a recalled result, or one step over the two results below.
-use mathlib.Core.Path.{_∙_}
 use Prim.Native.Nat.{ℕ, _+_, _*_, _<_}
 use native.Mathlib.Omega.{arith}
 use Rattle.store.proofs.Growing.{kept-top, kept-roomy, kept-trans}
