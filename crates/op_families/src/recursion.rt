@@ -1,10 +1,9 @@
 // Union (4), Intsec (5) and Diff (6): the recursion on the two sides; the larger top item falls at each call.
 ghost use mathlib.Core.Path.{_≡_};
 ghost use Prim.Native.Nat.{_<_, max};
-ghost use Rattle.store.specs.Words.{topAt};
 ghost use Rattle.store.specs.Cache.{named};
 ghost use Rattle.store.specs.Inner.{Ran};
-ghost use Rattle.op_families.specs.Inner.{ForkOf, Proper};
+ghost use Rattle.op_families.specs.Inner.{ForkAsks, ApplyAsks, ExpandAsks, ForkOf};
 use op_cache::Call;
 use op_cache::Recalled;
 use op_cache::recall;
@@ -40,9 +39,7 @@ pub enum Fork {
 
 // The sides of both operands at their larger top.
 fn fork_at(nodes: &[u32], count: u32, call: Call, level: u32) -> Fork
-    requires { ⌜ ForkAsks (now nodes) count call ⌝ }
-    requires { ⌜ level ≡ max (topAt (now nodes) (call .p)) (topAt (now nodes) (call .q)) ⌝ }
-    requires { ⌜ Proper call ⌝ }
+    requires { ⌜ ForkAsks (now nodes) count call level ⌝ }
     ensures { λ r. ⌜ ForkOf (now (nodes .entry)) count call level r ⌝ }
 {
     if level == 0 {
@@ -83,8 +80,7 @@ pub fn apply(
     lookup: &mut [u32],
     cache: &mut [u32],
 ) -> Placed
-    requires { ⌜ FamilyCall asked store (now nodes) (now lookup) ⌝ }
-    requires { ⌜ FamilyLevel asked level (now nodes) ⌝ }
+    requires { ⌜ ApplyAsks asked level store (now nodes) (now lookup) ⌝ }
     ensures { λ r. ⌜ Ran (λ B. named (asked .op) B (asked .p) (asked .q)) store (now (nodes .entry)) (now (lookup .entry)) (now (cache .entry)) r (now (nodes .exit)) (now (lookup .exit)) (now (cache .exit)) ⌝ }
 {
     let call = ordered(asked);
@@ -106,9 +102,7 @@ fn expand(
     lookup: &mut [u32],
     cache: &mut [u32],
 ) -> Placed
-    requires { ⌜ FamilyCall call store (now nodes) (now lookup) ⌝ }
-    requires { ⌜ FamilyLevel call level (now nodes) ⌝ }
-    requires { ⌜ Proper call ⌝ }
+    requires { ⌜ ExpandAsks call level store (now nodes) (now lookup) ⌝ }
     ensures { λ r. ⌜ Ran (λ B. named (call .op) B (call .p) (call .q)) store (now (nodes .entry)) (now (lookup .entry)) (now (cache .entry)) r (now (nodes .exit)) (now (lookup .exit)) (now (cache .exit)) ⌝ }
 {
     match fork_at(nodes, store.count, call, level) {

@@ -1,5 +1,5 @@
 // Subset1 (1), Subset0 (2) and Change (3): the recursion on the two sides; the top item falls at each call.
-ghost use Rattle.op_items.specs.Inner.{ItemCall, ItemLevel};
+ghost use Rattle.op_items.specs.Inner.{RestrictAsks, ExpandAsks};
 ghost use Prim.Native.Nat.{_<_};
 ghost use Rattle.store.specs.Cache.{named};
 ghost use Rattle.store.specs.Inner.{Ran};
@@ -25,8 +25,7 @@ pub fn restrict(
     lookup: &mut [u32],
     cache: &mut [u32],
 ) -> Placed
-    requires { ⌜ ItemCall call store (now nodes) (now lookup) ⌝ }
-    requires { ⌜ ItemLevel call level (now nodes) ⌝ }
+    requires { ⌜ RestrictAsks call level store (now nodes) (now lookup) ⌝ }
     ensures { λ r. ⌜ Ran (λ B. named (call .op) B (call .p) (call .q)) store (now (nodes .entry)) (now (lookup .entry)) (now (cache .entry)) r (now (nodes .exit)) (now (lookup .exit)) (now (cache .exit)) ⌝ }
 {
     if level < call.q {
@@ -50,9 +49,7 @@ fn expand(
     lookup: &mut [u32],
     cache: &mut [u32],
 ) -> Placed
-    requires { ⌜ ItemCall call store (now nodes) (now lookup) ⌝ }
-    requires { ⌜ ItemLevel call level (now nodes) ⌝ }
-    requires { ⌜ call .q < level ⌝ }
+    requires { ⌜ ExpandAsks call level store (now nodes) (now lookup) ⌝ }
     ensures { λ r. ⌜ Ran (λ B. named (call .op) B (call .p) (call .q)) store (now (nodes .entry)) (now (lookup .entry)) (now (cache .entry)) r (now (nodes .exit)) (now (lookup .exit)) (now (cache .exit)) ⌝ }
 {
     match sides_at(nodes, store.count, call.p, level) {

@@ -1,8 +1,5 @@
 // Subset1 (1), Subset0 (2) and Change (3): an item above the top, and the top itself.
-ghost use Rattle.op_items.specs.Inner.{ItemCall};
-ghost use mathlib.Core.Path.{_≡_};
-ghost use Prim.Native.Nat.{_<_};
-ghost use Rattle.store.specs.Words.{topAt};
+ghost use Rattle.op_items.specs.Inner.{AboveAsks, AtAsks};
 ghost use Rattle.store.specs.Cache.{named};
 ghost use Rattle.store.specs.Inner.{RanPlain};
 use op_cache::Call;
@@ -15,8 +12,7 @@ use store::record::Store;
 
 // An item above the top of p: no member holds it.
 pub fn above_top(call: Call, store: Store, nodes: &mut [u32], lookup: &mut [u32]) -> Placed
-    requires { ⌜ ItemCall call store (now nodes) (now lookup) ⌝ }
-    requires { ⌜ topAt (now nodes) (call .p) < call .q ⌝ }
+    requires { ⌜ AboveAsks call store (now nodes) (now lookup) ⌝ }
     ensures { λ r. ⌜ RanPlain (λ B. named (call .op) B (call .p) (call .q)) store (now (nodes .entry)) (now (lookup .entry)) r (now (nodes .exit)) (now (lookup .exit)) ⌝ }
 {
     if call.op == 1 {
@@ -30,8 +26,7 @@ pub fn above_top(call: Call, store: Store, nodes: &mut [u32], lookup: &mut [u32]
 
 // The top of p itself: its two sides are at hand.
 pub fn at_top(call: Call, store: Store, nodes: &mut [u32], lookup: &mut [u32]) -> Placed
-    requires { ⌜ ItemCall call store (now nodes) (now lookup) ⌝ }
-    requires { ⌜ topAt (now nodes) (call .p) ≡ call .q ⌝ }
+    requires { ⌜ AtAsks call store (now nodes) (now lookup) ⌝ }
     ensures { λ r. ⌜ RanPlain (λ B. named (call .op) B (call .p) (call .q)) store (now (nodes .entry)) (now (lookup .entry)) r (now (nodes .exit)) (now (lookup .exit)) ⌝ }
 {
     match sides_at(nodes, store.count, call.p, call.q) {

@@ -1,21 +1,18 @@
 -- Each way out of Has keeps the promise: what is refused, in its order, and what is answered.
 -- The tests of the call decide the definition's own tests; on a sound store the words hold the book that the answer is read in.
-use Prim.Native.Nat.{ℕ, _+_, _-_, _≤_, _<_}
+use Prim.Native.Nat.{ℕ, _-_}
 use mathlib.Core.Path.{_≡_, ap, _∙_, sym}
 use mathlib.Core.Bool.{Bool, true, false}
 use mathlib.Core.List.{List, []}
 use native.Mathlib.Omega.{arith}
 use lib.ListN.{length}
 use borrow.Author.Tests.{ne-eqb}
-use Rattle.family.specs.Family.{Family, has}
-use Rattle.family.specs.Book.{at}
+use Rattle.family.specs.Family.{Family}
 use Rattle.words.proofs.Cases.{clash}
 use Rattle.store.specs.declared.tests.Test.{Test}
 use Rattle.store.specs.declared.tests.Test.the-variants.{Refuses}
 use Rattle.store.specs.declared.record.Refusal.{Refusal}
 use Rattle.store.specs.declared.record.Store.{Store}
-use Rattle.store.specs.declared.record.Refusal.the-variants.{Handle, Damaged}
-use Rattle.store.specs.Capacity.{fitting}
 use Rattle.store.specs.Words.{bookOf}
 use Rattle.store.specs.Sound.{Sound}
 use Rattle.store.proofs.Decoding.{sound-holds}

@@ -1,9 +1,9 @@
 -- The promise of Has: document 01, 'Calls' and 'Numbers and trade words'.
-use Prim.Native.Nat.{ℕ, _+_, _-_}
+use Prim.Native.Nat.{ℕ, _-_}
 use mathlib.Core.Path.{_≡_}
 use mathlib.Core.Bool.{Bool, true, false, cond}
 use mathlib.Core.List.{List, []}
-use lib.Dec.{ltb, eqb}
+use lib.Dec.{eqb}
 use lib.ListN.{length}
 use Rattle.family.specs.Family.{Family, has}
 use Rattle.family.specs.Book.{at}

@@ -1,6 +1,6 @@
 -- Each way out of Size keeps the promise: what is refused, in its order, and what is answered.
 -- The tests of the call decide the definition's own tests; on a sound store the words hold the book that the answer is read in.
-use Prim.Native.Nat.{ℕ, _+_, _-_, _≤_, _<_, min}
+use Prim.Native.Nat.{ℕ, _-_, _≤_, min}
 use mathlib.Core.Path.{_≡_, refl, sym, ap, _∙_}
 use mathlib.Core.Bool.{Bool, true, false}
 use mathlib.Core.List.{List, []}
@@ -14,8 +14,7 @@ use Rattle.store.specs.declared.tests.Test.{Test}
 use Rattle.store.specs.declared.tests.Test.the-variants.{Refuses}
 use Rattle.store.specs.declared.record.Refusal.{Refusal}
 use Rattle.store.specs.declared.record.Store.{Store}
-use Rattle.store.specs.declared.record.Refusal.the-variants.{Handle, Large, Scratch, Damaged}
-use Rattle.store.specs.Capacity.{fitting}
+use Rattle.store.specs.declared.record.Refusal.the-variants.{Large}
 use Rattle.store.specs.Scratch.{scratchTests}
 use Rattle.store.specs.Words.{bookOf, wordOf}
 use Rattle.store.specs.Sound.{Sound}

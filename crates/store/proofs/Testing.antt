@@ -2,7 +2,7 @@
 -- Where nothing refuses, every test passed; a refusal has the number of the tests, or is a certain 10.
 use Prim.Native.Nat.{ℕ, _+_, _≤_, _<_}
 use mathlib.Core.Path.{_≡_, refl, sym, ap, _∙_}
-use mathlib.Core.Bool.{Bool, true, false, cond}
+use mathlib.Core.Bool.{true, false}
 use mathlib.Core.List.{List}
 use native.Mathlib.Omega.{arith}
 use lib.ListN.{length}
@@ -47,6 +47,9 @@ pub item-passed : (v : ℕ) → itemTest v ≡ 0 → (1 ≤ v) × (v ≤ itemLim
 item-passed v e =
     by-lt v 1 (λ l d. absurd (omega (arith, no-item v (item-low v l))))
     (λ l d. by-lt itemLimit v (λ k b. absurd (omega (arith, no-item v (item-high v k)))) (λ k b. (l, k)))
+
+pub item-not-five : (v : ℕ) {n : ℕ} → n ≡ itemTest v → n ≡ 5 → ⊥
+item-not-five v e d = by-test (isItem v) (λ t. omega (arith, an-item v t)) (λ t. omega (arith, no-item v t))
 
 module _ (n p q own scratch need : ℕ) where
   pub tests-first : n + 1 < p → testsOf n p q own scratch need ≡ 4

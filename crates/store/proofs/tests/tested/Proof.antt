@@ -1,6 +1,6 @@
 -- `tested` finds what refuses a call in document 01's order: 10, 4 for each handle, the call's own test, 7.
 -- Each way out decides one more test of the definition.
-use mathlib.Core.Path.{sym, ap, _∙_}
+use mathlib.Core.Path.{ap}
 use native.Mathlib.Omega.{arith}
 use Rattle.store.specs.Tests.{testNumber}
 use Rattle.store.proofs.Fitting.{test-refused, test-passed, handle-refused, handle-passed}
