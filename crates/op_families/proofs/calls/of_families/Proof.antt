@@ -112,9 +112,10 @@ returns-3 : tie.Need-returns-3
 returns-3 c =
     let at-finish : tie.After-finish = search in
     let at-apply : tie.After-apply = search in
-    let at-told : tie.After-enum-told = search (at-apply) in
-    let at-tested : tie.After-tested = search (at-apply) in
-    let at-start : tie.Start = search (at-apply) in
+    let at-larger : tie.After-larger = search (at-apply) in
+    let at-told : tie.After-enum-told = search (at-larger) in
+    let at-tested : tie.After-tested = search (at-told) in
+    let at-start : tie.Start = search (at-tested) in
     let a = at-start .args in
     let P = tested-clear (a .nodes .now) (a .lookup .now) (at-tested .tested .ensures) (at-told .enum-told .given .1) in
     let number = family-number (a .op) (a .store .count) (a .p) (a .q) (at-start .pre .some) in
