@@ -1,6 +1,6 @@
 -- What the writers leave is the definition's bytes at the front: a field where it stands, then the record of three fields behind the bit map byte.
 -- Runs of bytes laid one after another are one run.
-use Prim.Native.Nat.{ℕ, zero, suc, _+_, _/_, _%_, _≤_, _<_}
+use Prim.Native.Nat.{ℕ, zero, suc, _+_, _-_, _/_, _%_, _≤_, _<_}
 use mathlib.Core.Path.{_≡_, refl, sym, ap, _∙_}
 use mathlib.Core.Bool.{Bool, true, false, cond}
 use mathlib.Core.List.{List, [], _∷_, _++_}
@@ -34,28 +34,50 @@ pub weight-low : (s : Bool) (a v : ℕ) → a ≡ cond s v 0 → a ≤ v
 weight-low true a v e = omega arith
 weight-low false a v e = omega arith
 
+-- the bytes of a field that stands
+bytes-length : (n v : ℕ) → length (bytesOf n v) ≡ n
+bytes-length zero v = refl
+bytes-length (suc n) v = ap suc (bytes-length n (v / 256))
+
+field-length : (n : ℕ) (s : Bool) (v : ℕ) → length (field n s v) ≡ cond s n 0
+field-length n true v = bytes-length n v
+field-length n false v = refl
+
+-- the first k bytes of a number are laid; those of what is left of it complete the run
+pub record Laid (l₀ : List ℕ) (at width value k left : ℕ) (l : List ℕ) : Type 0 where
+  pub low : k ≤ width
+  pub long : length l ≡ length l₀
+  pub rest : sets l (at + k) (bytesOf (width - k) left) ≡ sets l₀ at (bytesOf width value)
+
+pub laid-start : (l : List ℕ) (at width value : ℕ) → Laid l at width value 0 value l
+laid-start l at width value =
+    let z : at + 0 ≡ at = omega arith in
+    let w : width - 0 ≡ width = omega arith in
+    record { low = omega arith; long = refl; rest = rw (z, w) refl }
+
+pub laid-step : {l₀ : List ℕ} {at width value k left : ℕ} {l : List ℕ} → k < width → Laid l₀ at width value k left l → Laid l₀ at width value (k + 1) (left / 256) (set l (at + k) (left % 256))
+laid-step {at = at} {width = width} {k = k} {left = left} {l = l} h L =
+    let w : width - k ≡ suc (width - (k + 1)) = omega arith in
+    let z : suc (at + k) ≡ at + (k + 1) = omega arith in
+    record {
+      low = omega arith;
+      long = length-set l (at + k) (left % 256) ∙ L .long;
+      rest = sym (ap (λ n. sets l (at + k) (bytesOf n left)) w ∙ ap (λ j. sets (set l (at + k) (left % 256)) j (bytesOf (width - (k + 1)) (left / 256))) z) ∙ L .rest;
+    }
+
 -- the ways out of a field writer
-module _ {s : Bool} (v : ℕ) (l : List ℕ) (at : ℕ) where
-  pub off-laid : (n : ℕ) → s ≡ false → (at ≡ at + length (field n s v)) × (l ≡ sets l at (field n s v))
-  off-laid n e = rw e (omega arith, refl)
+pub field-off : {s : Bool} (v : ℕ) (l : List ℕ) (at n : ℕ) → s ≡ false → (at ≡ at + length (field n s v)) × (l ≡ sets l at (field n s v))
+field-off v l at n e = rw e (omega arith, refl)
 
-  pub two-laid : s ≡ true → (at + 2 ≡ at + length (field 2 s v)) × (set (set l at (v % 256)) (at + 1) (v / 256 % 256) ≡ sets l at (field 2 s v))
-  two-laid e = rw (e, add-one at) (omega arith, refl)
+pub field-laid : {s : Bool} {l₀ : List ℕ} {at width value k left : ℕ} {l : List ℕ} → s ≡ true → width ≤ k → Laid l₀ at width value k left l
+    → (at + width ≡ at + length (field width s value)) × (l ≡ sets l₀ at (field width s value))
+field-laid {l₀ = l₀} {at = at} {width = width} {value = value} {k = k} e h L =
+    let z : width - k ≡ 0 = omega (arith, L .low) in
+    rw e (omega (arith, bytes-length width value), rw z at (L .rest))
 
-  pub four-laid : s ≡ true
-      → (at + 4 ≡ at + length (field 4 s v)) × (set (set (set (set l at (v % 256)) (at + 1) (v / 256 % 256)) (at + 2) (v / 256 / 256 % 256)) (at + 3) (v / 256 / 256 / 256 % 256) ≡ sets l at (field 4 s v))
-  four-laid e =
-      let e₂ : at + 2 ≡ suc (suc at) = omega arith in
-      let e₃ : at + 3 ≡ suc (suc (suc at)) = omega arith in
-      let e₄ : at + 4 ≡ at + length (field 4 true v) = omega arith in
-      rw e (e₄, rw (add-one at, e₂, e₃) refl)
-
-  -- the room of a field that stands
-  pub room-two : s ≡ true → at + length (field 2 s v) ≤ length l → at + 2 ≤ length l
-  room-two e h = omega (arith, ap (λ x. length (field 2 x v)) e)
-
-  pub room-four : s ≡ true → at + length (field 4 s v) ≤ length l → at + 4 ≤ length l
-  room-four e h = omega (arith, ap (λ x. length (field 4 x v)) e)
+-- the room of a field that stands
+pub field-room : {s : Bool} (width v at : ℕ) (l : List ℕ) → s ≡ true → at + length (field width s v) ≤ length l → at + width ≤ length l
+field-room width v at l e h = omega (arith, bytes-length width v, ap (λ x. length (field width x v)) e)
 
 -- the length of a record
 pub widths-is : (item zeroth one : Bool) (a b c : ℕ) → a ≡ cond item 2 0 → b ≡ cond zeroth 4 0 → c ≡ cond one 4 0 → (1 + a + b + c ≡ widths item zeroth one) × (1 + a + b + c ≤ 11)
@@ -109,11 +131,3 @@ pub widths-length : (pi pn i z o : ℕ) → widths (stands i (suc pi)) (stands z
 unfolding widths
 widths-length pi pn i z o =
     omega (arith, field-length 2 (stands i (suc pi)) i, field-length 4 (stands z 0) z, field-length 4 (stands o pn) o, record-length pi pn i z o)
-  where
-    bytes-length : (n v : ℕ) → length (bytesOf n v) ≡ n
-    bytes-length zero v = refl
-    bytes-length (suc n) v = ap suc (bytes-length n (v / 256))
-
-    field-length : (n : ℕ) (s : Bool) (v : ℕ) → length (field n s v) ≡ cond s n 0
-    field-length n true v = bytes-length n v
-    field-length n false v = refl

@@ -16,6 +16,7 @@ use Rattle.family.proofs.Books.{number-at, number-empty, number-base}
 use Rattle.words.proofs.Cases.{by-eq}
 use Rattle.store.specs.Words.{itemLimit, wordOf}
 use Rattle.store.specs.Inner.{Holds}
+use Rattle.store.proofs.Handles.{word-leaf, word-node}
 use Rattle.store.proofs.Held.{at-0, at-1, at-node, handle-of, within}
 use Rattle.file_record.specs.declared.field.Part.{Part}
 use Rattle.file_record.specs.Widths.{widths}

@@ -10,6 +10,9 @@ use borrow.Author.Needs.{needs}
 use Rattle.file_load.proofs.load.Statement.{statement}
 use Rattle.file_load.proofs.load.Tie as tie
 
+begun : tie.Else1 → tie.Start
+begun c = search
+
 fits-requires : tie.Need-fits-requires
 fits-requires c κs = search needs
 
@@ -116,10 +119,10 @@ returns-4 c =
     let at-place-parts : tie.After-place-parts = search in
     let at-content2 : tie.After-content2 = search in
     let at-read-file : tie.After-read-file = search (at-content2) in
-    let at-if2 : tie.Else2 = search (at-content2) in
-    let at-if1 : tie.Else1 = search (at-content2) in
-    let at-fits2 : tie.After-fits2 = search (at-content2) in
-    let at-start : tie.Start = search (at-content2) in
+    let at-if2 : tie.Else2 = search (at-read-file) in
+    let at-if1 : tie.Else1 = search (at-if2) in
+    let at-fits2 : tie.After-fits2 = search (at-if1) in
+    let at-start : tie.Start = begun at-if1 in
     let a = at-start .args in
     load-parts (a .store) (a .nodes .now) (a .lookup .now) (a .cache .now) (a .file .now) (a .words .now) _ (sym (at-fits2 .fits2 .ensures) ∙ not-false _ (at-if1 .if1 .left))
     (at-if2 .if2 .left) (at-read-file .read-file .ensures) _ (at-content2 .content2 .given .1) (at-place-parts .place-parts .ensures) (at-finish .finish .ensures)

@@ -6,6 +6,9 @@ use Rattle.file_write.proofs.Cursors.{turn-low, turn-high, turn-item, l
 use Rattle.file_write.proofs.write_part.Statement.{statement}
 use Rattle.file_write.proofs.write_part.Tie as tie
 
+begun : tie.After-length-of → tie.Start
+begun c = search
+
 returns : tie.Need-returns
 returns c =
     let at-start : tie.Start = search in
@@ -127,7 +130,7 @@ slice-write-links c =
 add-t16 : tie.Need-add-t16
 add-t16 c =
     let at-length-of : tie.After-length-of = search in
-    let at-start : tie.Start = search in
+    let at-start : tie.Start = begun at-length-of in
     omega (arith, at-start .pre .1 .short, at-start .pre .1 .number-low, at-length-of .length-of .ensures .1)
 
 same-length-3 : tie.Need-same-length-3
@@ -145,7 +148,7 @@ returns-5 c =
     let at-part-at : tie.After-part-at = search in
     let at-if2 : tie.Else2 = search in
     let at-if1 : tie.Else1 = search in
-    let at-start : tie.Start = search in
+    let at-start : tie.Start = search (at-if2) in
     let a = at-start .args in
     turn-done (a .cursor) (a .nodes .now) (a .count) (a .links .now) (a .out .now) _ (at-part-at .part-at .ensures) _ (at-length-of .length-of .ensures .0)
     (at-start .pre .0 .2) (at-start .pre .1) (at-if1 .if1 .left) (at-if2 .if2 .left)
