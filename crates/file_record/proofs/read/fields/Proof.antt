@@ -20,10 +20,7 @@ enum-told : tie.Need-enum-told
 enum-told c = search needs
 
 returns : tie.Need-returns
-returns c =
-    let at-start : tie.Start = search in
-    let a = at-start .args in
-    fields-no-item (a .map) (a .last) (a .bytes .now) (add-one (a .last .item)) ((c .before .before) .read-field .ensures) (c .enum-told .given .1)
+returns c = search (fields-no-item, add-one)
 
 sub-read-field : tie.Need-sub-read-field
 sub-read-field c = field-read _ _ ((c .before) .item .given .1) ((c .before .before .before) .read-field .ensures) .fits
@@ -44,13 +41,7 @@ enum-told-2 : tie.Need-enum-told-2
 enum-told-2 c = search needs
 
 returns-2 : tie.Need-returns-2
-returns-2 c =
-    let at-item : tie.After-item = search in
-    let at-read-field : tie.After-read-field = search in
-    let at-start : tie.Start = search in
-    let a = at-start .args in
-    fields-no-zero (a .map) (a .last) (a .bytes .now) (add-one (a .last .item)) (at-read-field .read-field .ensures) _ _ (at-item .item .given .1)
-    (part-from (a .bytes .now) _) ((c .before .before) .read-field2 .ensures) (c .enum-told2 .given .1)
+returns-2 c = search (fields-no-zero, add-one, part-from)
 
 add-read-field-2 : tie.Need-add-read-field-2
 add-read-field-2 c =
@@ -91,15 +82,7 @@ enum-told-3 : tie.Need-enum-told-3
 enum-told-3 c = search needs
 
 returns-3 : tie.Need-returns-3
-returns-3 c =
-    let at-zero : tie.After-zero = search in
-    let at-read-field2 : tie.After-read-field2 = search in
-    let at-item : tie.After-item = search in
-    let at-read-field : tie.After-read-field = search in
-    let at-start : tie.Start = search in
-    let a = at-start .args in
-    fields-no-one (a .map) (a .last) (a .bytes .now) (add-one (a .last .item)) (at-read-field .read-field .ensures) _ _ (at-item .item .given .1)
-    (part-from (a .bytes .now) _) (at-read-field2 .read-field2 .ensures) _ _ (at-zero .zero .given .1) (part-from (a .bytes .now) _) ((c .before .before) .read-field3 .ensures) (c .enum-told3 .given .1)
+returns-3 c = search (fields-no-one, add-one, part-from)
 
 add-t16 : tie.Need-add-t16
 add-t16 c =
@@ -123,16 +106,7 @@ add-t21 c =
     omega (arith, I .few, Z .few, O .few)
 
 returns-4 : tie.Need-returns-4
-returns-4 c =
-    let at-zero : tie.After-zero = search in
-    let at-read-field2 : tie.After-read-field2 = search in
-    let at-item : tie.After-item = search in
-    let at-read-field : tie.After-read-field = search in
-    let at-start : tie.Start = search in
-    let a = at-start .args in
-    fields-taken (a .map) (a .last) (a .bytes .now) (add-one (a .last .item)) (at-read-field .read-field .ensures) _ _ (at-item .item .given .1)
-    (part-from (a .bytes .now) _) (at-read-field2 .read-field2 .ensures) _ _ (at-zero .zero .given .1) (part-from (a .bytes .now) _)
-    ((c .before .before .before) .read-field3 .ensures) _ _ ((c .before) .one .given .1)
+returns-4 c = search (fields-taken, add-one, part-from)
 
 pub fields-spec : {M : Type 1} → statement M
 fields-spec =

@@ -28,7 +28,7 @@ add-result-2 c = omega (
 )
 
 returns : tie.Need-returns
-returns c = let a = (c .before .before .before) .args in map-is (a .item) (a .zero) (a .one) _ _ _ ((c .before .before) .weight .ensures) ((c .before) .weight2 .ensures) (c .weight3 .ensures)
+returns c = search map-is
 
 pub map-of-spec : {M : Type 1} → statement M
 map-of-spec =

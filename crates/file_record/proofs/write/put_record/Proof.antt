@@ -15,15 +15,10 @@ map-of-requires : tie.Need-map-of-requires
 map-of-requires c κs = search needs
 
 slice-write-out : tie.Need-slice-write-out
-slice-write-out c =
-    let at-start : tie.Start = search in
-    let a = at-start .args in room-map (a .last .item) (a .last .number) (a .part .item) (a .part .zero) (a .part .one) (a .out .now) 0 (at-start .pre .1)
+slice-write-out c = search room-map
 
 put-field-requires : tie.Need-put-field-requires
-put-field-requires c κs =
-    let at-start : tie.Start = search in
-    let a = at-start .args in
-    room-item (a .last .item) (a .last .number) (a .part .item) (a .part .zero) (a .part .one) (a .out .now) _ (at-start .pre .1)
+put-field-requires c κs = search room-item
 
 put-field-requires-2 : tie.Need-put-field-requires-2
 put-field-requires-2 c κs =
