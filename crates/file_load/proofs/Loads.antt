@@ -31,7 +31,7 @@ use Rattle.store.proofs.Plain.{plain-handle, plain-ran}
 use Rattle.file_read.specs.declared.file.Content.{Content}
 use Rattle.file_read.specs.declared.file.Content.the-variants.{Leaf, Parts, Bad}
 use Rattle.file_load.specs.Promise.{loadRefusal, loadFamily, LoadCall}
-use Rattle.file_table.specs.Inner.{Local, Nodes}
+use Rattle.file_table.specs.Inner.{Local, LocalNodes}
 use Rattle.file_place.specs.Inner.{PlacedOf}
 use Rattle.file_read.specs.Inner.{Holding, leaf, parts, nothing, ContentOf}
 use Rattle.file_read.proofs.Walks.{local-nodes}
@@ -86,7 +86,7 @@ parts-of n e A = out (rw e at A)
     out : {file words : List ℕ} {b n : ℕ} → Holding file b words (Parts n) → PartsRead file b words n
     out (parts {C = C} is few low T own) = record { book = C; is = is; few = few; low = low; table = T; own = own }
 
-pub parts-nodes : {file words : List ℕ} {b n : ℕ} → PartsRead file b words n → Nodes words n
+pub parts-nodes : {file words : List ℕ} {b n : ℕ} → PartsRead file b words n → LocalNodes words n
 parts-nodes R = local-nodes (R .table)
 
 module _ (s : Store) (nodes lookup cache file words : List ℕ) (r : Placed) where

@@ -4,7 +4,7 @@ ghost use Prim.Native.Nat.{_+_, _*_, _<_, _≤_};
 ghost use lib.ListN.{length, getD};
 ghost use Rattle.store_node.specs.Inner.{NodeIt};
 ghost use Rattle.store.specs.Inner.{Roomy};
-ghost use Rattle.file_table.specs.Inner.{NodeAt, Nodes};
+ghost use Rattle.file_table.specs.Inner.{LocalNode, LocalNodes};
 ghost use Rattle.file_place.specs.Inner.{handleIn, Handles, PlacedOf};
 use store_node::getnode::get_node;
 use store::record::PlaceAnswer;
@@ -32,7 +32,7 @@ fn place_part(
     k: u32,
 ) -> Placed
     requires { ⌜ Roomy store (now nodes) (now lookup) ⌝ }
-    requires { ⌜ NodeAt (now words) k ⌝ }
+    requires { ⌜ LocalNode (now words) k ⌝ }
     requires { ⌜ Handles k bytes (store .count) (now words) ⌝ }
     requires { ⌜ (6 * bytes ≤ length (now words)) × (k < bytes) ⌝ }
     ensures { λ r. ⌜ NodeIt store (now (nodes .entry)) (now (lookup .entry)) (getD (now (words .entry)) (3 * k) 0) (handleIn bytes (now (words .entry)) (getD (now (words .entry)) (3 * k + 1) 0)) (handleIn bytes (now (words .entry)) (getD (now (words .entry)) (3 * k + 2) 0)) r (now (nodes .exit)) (now (lookup .exit)) ⌝ }
@@ -53,7 +53,7 @@ pub fn place_parts(
     parts: u32,
 ) -> Placed
     requires { ⌜ Roomy store (now nodes) (now lookup) ⌝ }
-    requires { ⌜ Nodes (now words) parts ⌝ }
+    requires { ⌜ LocalNodes (now words) parts ⌝ }
     requires { ⌜ (6 * bytes ≤ length (now words)) × (parts ≤ bytes) × (parts < 4294967295) ⌝ }
     ensures { λ r. ⌜ PlacedOf store (now (nodes .entry)) (now (lookup .entry)) (now (words .entry)) bytes parts r (now (nodes .exit)) (now (lookup .exit)) (now (words .exit)) ⌝ }
 {

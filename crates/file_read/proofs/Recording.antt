@@ -20,7 +20,7 @@ use Rattle.file_record.specs.declared.read.Record.{Record}
 use Rattle.file_record.specs.declared.read.Record.the-variants.{Taken, Bad}
 use Rattle.file_record.specs.Inner.{RecordOf}
 use Rattle.file_read.specs.Inner.{whole, none-such, RecordsOf}
-use Rattle.file_table.specs.Inner.{Local, Taking, fit, unfit, TakeOf}
+use Rattle.file_table.specs.Inner.{Local, PartTaken, fit, unfit, TakeOf}
 
 -- what a reader said
 record Read (last : Last) (l : List ℕ) (part : Part) (m : ℕ) : Type 0 where
@@ -111,7 +111,7 @@ module _ (bytes : List ℕ) (n : ℕ) (words₀ : List ℕ) (b : ℕ) where
         upto-fits = R .fits-in
 
         module _ {r : Bool} {words′ : List ℕ} (T : TakeOf words b k part r words′) where
-          got : Taking (U .book) part k b words′ r
+          got : PartTaken (U .book) part k b words′ r
           got = T .sound (U .book) (U .table)
 
           same : length words′ ≡ length words₀
@@ -127,7 +127,7 @@ module _ (bytes : List ℕ) (n : ℕ) (words₀ : List ℕ) (b : ℕ) where
                     ∙ turn-unfit (n - (k + 1)) (U .book) (last .item) (last .number) left (part .item) (part .zero) (part .one) (drop m left) (R .is) (out (rw d at got)));
               }
             where
-              out : {C : List Family} {words′ : List ℕ} → Taking C part k b words′ false → fits itemLimit C (triple (part .item) (part .zero) (part .one)) ≡ false
+              out : {C : List Family} {words′ : List ℕ} → PartTaken C part k b words′ false → fits itemLimit C (triple (part .item) (part .zero) (part .one)) ≡ false
               out (unfit e) = e
 
           pub upto-step : r ≡ true → (last′ : Last) {left′ : List ℕ} → last′ .item ≡ part .item → last′ .number ≡ k + 1 + 1 → left′ ≡ drop m left → Upto bytes n words₀ b left′ last′ (k + 1) words′
@@ -148,7 +148,7 @@ module _ (bytes : List ℕ) (n : ℕ) (words₀ : List ℕ) (b : ℕ) where
                     ∙ U .todo);
               }
             where
-              out : {C : List Family} {words′ : List ℕ} → Taking C part k b words′ true
+              out : {C : List Family} {words′ : List ℕ} → PartTaken C part k b words′ true
                   → (fits itemLimit C (triple (part .item) (part .zero) (part .one)) ≡ true) × Local (C ++ (node (part .item) (at C (part .zero)) (at C (part .one)) ∷ [])) (k + 1) b words′
               out (fit e L) = (e, L)
 

@@ -15,7 +15,7 @@ use Rattle.store.proofs.Held.{handle-of, at-node, within}
 use Rattle.file_read.specs.declared.order.Order.{Order}
 use Rattle.file_read.specs.declared.order.Order.the-variants.{Upto, Broken}
 use Rattle.file_read.specs.Inner.{Walking, went, broken, OrderOf}
-use Rattle.file_table.specs.Inner.{Nodes}
+use Rattle.file_table.specs.Inner.{LocalNodes}
 
 -- a family that is placed already
 order-placed : (B : List Family) (F : Family) (n : ℕ) → number B F < n → order B F n ≡ some n
@@ -113,7 +113,7 @@ module _ (nodes : List ℕ) (n p last : ℕ) (lp : p ≤ n + 1) (some′ : 1 ≤
             }
 
 -- a local book's nodes
-pub local-nodes : {C : List Family} {n : ℕ} {words lookup : List ℕ} → Holds C n words lookup → Nodes words n
+pub local-nodes : {C : List Family} {n : ℕ} {words lookup : List ℕ} → Holds C n words lookup → LocalNodes words n
 local-nodes H =
     record {
       each = λ k l.
