@@ -93,18 +93,10 @@ same-length-3 : tie.Need-same-length-3
 same-length-3 c = search needs
 
 returns : tie.Need-returns
-returns c =
-    let at-start : tie.Start = search in
-    let a = at-start .args in
-    let p = at-start .pre .table in
-    enter-past (a .words .now) (a .bytes) (a .k) (a .part .item) (a .part .zero) (a .part .one) _ (p .room) (p .below) (probed (a .words .now) (a .bytes) (a .k) (a .part .item) (a .part .zero) (a .part .one) ((c .before) .probe .ensures)) (c .if1 .taken)
+returns c = search (enter-past, probed)
 
 returns-2 : tie.Need-returns-2
-returns-2 c =
-    let at-start : tie.Start = search in
-    let a = at-start .args in
-    let p = at-start .pre .table in
-    enter-old (a .words .now) (a .bytes) (a .k) (a .part .item) (a .part .zero) (a .part .one) _ (p .room) (p .below) (probed (a .words .now) (a .bytes) (a .k) (a .part .item) (a .part .zero) (a .part .one) ((c .before .before .before) .probe .ensures)) ((c .before .before) .if1 .left) (c .if2 .taken)
+returns-2 c = search (enter-old, probed)
 
 slice-write-words-2 : tie.Need-slice-write-words-2
 slice-write-words-2 c =
@@ -122,12 +114,7 @@ slice-write-words-4 c =
     simp length-set (omega (arith, at-start .pre .table .room, (c .before .before) .if1 .left))
 
 returns-3 : tie.Need-returns-3
-returns-3 c =
-    let at-start : tie.Start = search in
-    let a = at-start .args in
-    let p = at-start .pre .table in
-    enter-new (a .words .now) (a .bytes) (a .k) (a .part .item) (a .part .zero) (a .part .one) _ (p .room) (p .below) (probed (a .words .now) (a .bytes) (a .k) (a .part .item) (a .part .zero) (a .part .one) ((c .before .before .before) .probe .ensures)) ((c .before .before) .if1 .left) (c .if2 .left)
-    (stored (a .words .now) (a .k) (a .part .item) (a .part .zero) (a .part .one) _ _)
+returns-3 c = search (enter-new, probed, stored)
 
 pub enter-spec : {M : Type 1} → statement M
 enter-spec =
