@@ -33,17 +33,13 @@ same-length-2 : tie.Need-same-length-2
 same-length-2 c = search needs
 
 returns : tie.Need-returns
-returns c = let a = (c .before .before .before) .args in file-short (a .rest .now) (a .words .now) (a .bytes) (c .if1 .taken)
+returns c = search file-short
 
 returns-2 : tie.Need-returns-2
-returns-2 c =
-    let at-start : tie.Start = search in
-    let a = at-start .args in file-zero (a .rest .now) (a .words .now) (a .bytes) _ ((c .before .before) .if1 .left) ((c .before) .number .ensures) (c .if2 .taken)
+returns-2 c = search file-zero
 
 returns-3 : tie.Need-returns-3
-returns-3 c =
-    let at-start : tie.Start = search in
-    let a = at-start .args in file-many (a .rest .now) (a .words .now) (a .bytes) _ ((c .before .before .before) .if1 .left) ((c .before .before) .number .ensures) ((c .before) .if2 .left) (c .if3 .taken)
+returns-3 c = search file-many
 
 returns-4 : tie.Need-returns-4
 returns-4 c =

@@ -47,11 +47,7 @@ read-records-requires c κs =
     (record { room = omega (arith, p .room, (c .before .before .before) .zero .kept .0); few = p .few; low = p .low }, blank-table (a .bytes) (a .words .now) (p .room) ((c .before .before .before) .zero .ensures))
 
 returns : tie.Need-returns
-returns c =
-    let at-zero : tie.After-zero = search in
-    let at-start : tie.Start = search in
-    let a = at-start .args in
-    table-unread (a .records .now) (a .parts) (a .words .now) (a .bytes) (at-start .pre .0 .room) (at-zero .zero .ensures) ((c .before .before .before) .read-records .ensures) (not-true _ (c .if1 .taken))
+returns c = search (table-unread, not-true)
 
 in-order-requires : tie.Need-in-order-requires
 in-order-requires c κs =
@@ -69,22 +65,10 @@ in-order-requires c κs =
     }
 
 returns-2 : tie.Need-returns-2
-returns-2 c =
-    let at-if1 : tie.Else1 = search in
-    let at-read-records : tie.After-read-records = search in
-    let at-zero : tie.After-zero = search in
-    let at-start : tie.Start = search in
-    let a = at-start .args in
-    table-broken (a .records .now) (a .parts) (a .words .now) (a .bytes) (at-start .pre .0 .room) (at-zero .zero .ensures) (at-read-records .read-records .ensures) (not-false _ (at-if1 .if1 .left)) ((c .before .before) .in-order .ensures) (c .enum-told .given .1)
+returns-2 c = search (table-broken, not-false)
 
 returns-3 : tie.Need-returns-3
-returns-3 c =
-    let at-if1 : tie.Else1 = search in
-    let at-read-records : tie.After-read-records = search in
-    let at-zero : tie.After-zero = search in
-    let at-start : tie.Start = search in
-    let a = at-start .args in
-    table-done (a .records .now) (a .parts) (a .words .now) (a .bytes) (at-start .pre .0 .room) (at-zero .zero .ensures) (at-read-records .read-records .ensures) (not-false _ (at-if1 .if1 .left)) ((c .before .before .before) .in-order .ensures) _ ((c .before) .last .given .1) _ refl
+returns-3 c = search (table-done, not-false)
 
 pub read-table-spec : {M : Type 1} → statement M
 read-table-spec =

@@ -29,10 +29,7 @@ in-order-claims t = (in-order-below t, in-order.Post)
 in-order-returns :
     (t : ℕ) →
     in-order-lts.Need-returns (in-order-claims t) (in-order-at t) in-order.Post
-in-order-returns t c =
-    let a = (c .before .before) .args in
-    let q = (c .before .before) .pre .1 in
-    walk-placed (a .nodes .now) (a .count) (a .p) (a .last) (q .inside) (q .some-placed) (c .if1 .taken)
+in-order-returns t c = search walk-placed
 
 in-order-sub-base :
     (t : ℕ) →
@@ -82,12 +79,7 @@ in-order-enum-told t c = search needs
 in-order-returns-2 :
     (t : ℕ) →
     in-order-lts.Need-returns-2 (in-order-claims t) (in-order-at t) in-order.Post
-in-order-returns-2 t c =
-    let at-if1 : in-order-lts.Else1 (in-order-claims t) (in-order-at t) in-order.Post = search in
-    let at-start : in-order-lts.Start (in-order-claims t) (in-order-at t) in-order.Post = search in
-    let a = at-start .args in
-    let q = at-start .pre .1 in
-    walk-first (a .nodes .now) (a .count) (a .p) (a .last) (q .inside) (q .some-placed) (at-if1 .if1 .left) ((c .before .before) .in-order .ensures) (c .enum-told .given .1)
+in-order-returns-2 t c = search walk-first
 
 in-order-add-in-order-2 : (t : ℕ) → in-order-lts.Need-add-in-order-2 (in-order-claims t) (in-order-at t) in-order.Post
 in-order-add-in-order-2 t c = search needs
@@ -126,14 +118,7 @@ in-order-enum-told-2 t c = search needs
 in-order-returns-3 :
     (t : ℕ) →
     in-order-lts.Need-returns-3 (in-order-claims t) (in-order-at t) in-order.Post
-in-order-returns-3 t c =
-    let at-first : in-order-lts.After-first (in-order-claims t) (in-order-at t) in-order.Post = search in
-    let at-in-order : in-order-lts.After-in-order (in-order-claims t) (in-order-at t) in-order.Post = search in
-    let at-if1 : in-order-lts.Else1 (in-order-claims t) (in-order-at t) in-order.Post = search in
-    let at-start : in-order-lts.Start (in-order-claims t) (in-order-at t) in-order.Post = search in
-    let a = at-start .args in
-    let q = at-start .pre .1 in
-    walk-second (a .nodes .now) (a .count) (a .p) (a .last) (q .inside) (q .some-placed) (at-if1 .if1 .left) (at-in-order .in-order .ensures) _ (at-first .first .given .1) ((c .before .before) .in-order2 .ensures) (c .enum-told2 .given .1)
+in-order-returns-3 t c = search walk-second
 
 in-order-sub-if2 :
     (t : ℕ) →
@@ -143,28 +128,12 @@ in-order-sub-if2 t c = search needs
 in-order-returns-4 :
     (t : ℕ) →
     in-order-lts.Need-returns-4 (in-order-claims t) (in-order-at t) in-order.Post
-in-order-returns-4 t c =
-    let at-in-order2 : in-order-lts.After-in-order2 (in-order-claims t) (in-order-at t) in-order.Post = search in
-    let at-first : in-order-lts.After-first (in-order-claims t) (in-order-at t) in-order.Post = search in
-    let at-in-order : in-order-lts.After-in-order (in-order-claims t) (in-order-at t) in-order.Post = search in
-    let at-if1 : in-order-lts.Else1 (in-order-claims t) (in-order-at t) in-order.Post = search in
-    let at-start : in-order-lts.Start (in-order-claims t) (in-order-at t) in-order.Post = search in
-    let a = at-start .args in
-    let q = at-start .pre .1 in
-    walk-other (a .nodes .now) (a .count) (a .p) (a .last) (q .inside) (q .some-placed) (at-if1 .if1 .left) (at-in-order .in-order .ensures) _ (at-first .first .given .1) (at-in-order2 .in-order2 .ensures) _ ((c .before .before) .second .given .1) (c .if2 .taken)
+in-order-returns-4 t c = search walk-other
 
 in-order-returns-5 :
     (t : ℕ) →
     in-order-lts.Need-returns-5 (in-order-claims t) (in-order-at t) in-order.Post
-in-order-returns-5 t c =
-    let at-in-order2 : in-order-lts.After-in-order2 (in-order-claims t) (in-order-at t) in-order.Post = search in
-    let at-first : in-order-lts.After-first (in-order-claims t) (in-order-at t) in-order.Post = search in
-    let at-in-order : in-order-lts.After-in-order (in-order-claims t) (in-order-at t) in-order.Post = search in
-    let at-if1 : in-order-lts.Else1 (in-order-claims t) (in-order-at t) in-order.Post = search in
-    let at-start : in-order-lts.Start (in-order-claims t) (in-order-at t) in-order.Post = search in
-    let a = at-start .args in
-    let q = at-start .pre .1 in
-    walk-next (a .nodes .now) (a .count) (a .p) (a .last) (q .inside) (q .some-placed) (at-if1 .if1 .left) (at-in-order .in-order .ensures) _ (at-first .first .given .1) (at-in-order2 .in-order2 .ensures) _ ((c .before .before) .second .given .1) (c .if2 .left)
+in-order-returns-5 t c = search walk-next
 
 pub +in-order-spec : {M : Type 1} → statement M
 +in-order-spec =

@@ -17,7 +17,7 @@ abbrev μ-loop : tie.MeasureT-loop
 μ-loop records parts words₀ bytes rest₀ last₀ k₀ words rest last k = parts - k
 
 loop-holds : tie.Need-loop-holds Inv-loop μ-loop
-loop-holds c = let a = (c .before .before) .args in taken-start (a .records .now) (a .parts) (a .words .now) (a .bytes) ((c .before .before) .pre .1) _ refl refl
+loop-holds c = search taken-start
 
 read-record-requires : tie.Need-read-record-requires Inv-loop μ-loop
 read-record-requires c κs = omega (arith, (c .before) .loop .inv .item-low)
@@ -34,12 +34,7 @@ same-length c =
     at-loop .loop .inv .long
 
 returns : tie.Need-returns Inv-loop μ-loop
-returns c =
-    let at-loop : tie.At-loop Inv-loop μ-loop = search in
-    let at-start : tie.Start Inv-loop μ-loop = search in
-    let a = at-start .args in
-    let l = at-loop .loop in
-    taken-none (a .records .now) (a .parts) (a .words .now) (a .bytes) (l .rest .now) (l .last) (l .k) (l .words) (l .inv) ((c .before .before .before) .loop-test .taken) ((c .before .before) .read-record .ensures) (c .enum-told .given .1)
+returns c = search taken-none
 
 take-part-requires : tie.Need-take-part-requires Inv-loop μ-loop
 take-part-requires c κs =
@@ -58,33 +53,13 @@ same-length-2 c =
     (c .before .before .before) .take-part .kept .0 ∙ at-loop .loop .inv .long
 
 returns-2 : tie.Need-returns-2 Inv-loop μ-loop
-returns-2 c =
-    let at-part : tie.After-part Inv-loop μ-loop = search in
-    let at-read-record : tie.After-read-record Inv-loop μ-loop = search in
-    let at-loop-test : tie.In-loop Inv-loop μ-loop = search in
-    let at-loop : tie.At-loop Inv-loop μ-loop = search in
-    let at-start : tie.Start Inv-loop μ-loop = search in
-    let a = at-start .args in
-    let l = at-loop .loop in
-    taken-unfit (a .records .now) (a .parts) (a .words .now) (a .bytes) (l .rest .now) (l .last) (l .k) (l .words) (l .inv) (at-loop-test .loop-test .taken) (at-read-record .read-record .ensures) _ _ (at-part .part .given .1) ((c .before .before .before) .take-part .ensures) (not-true _ (c .if1 .taken))
+returns-2 c = search (taken-unfit, not-true)
 
 sub-rest : tie.Need-sub-rest Inv-loop μ-loop
-sub-rest c =
-    let at-part : tie.After-part Inv-loop μ-loop = search in
-    let at-read-record : tie.After-read-record Inv-loop μ-loop = search in
-    let at-loop-test : tie.In-loop Inv-loop μ-loop = search in
-    let at-loop : tie.At-loop Inv-loop μ-loop = search in
-    let at-start : tie.Start Inv-loop μ-loop = search in
-    let a = at-start .args in let l = at-loop .loop in taken-fits (a .records .now) (a .parts) (a .words .now) (a .bytes) (l .rest .now) (l .last) (l .k) (l .words) (l .inv) (at-loop-test .loop-test .taken) (at-read-record .read-record .ensures) _ _ (at-part .part .given .1)
+sub-rest c = search taken-fits
 
 part-rest-start : tie.Need-part-rest-start Inv-loop μ-loop
-part-rest-start c =
-    let at-part : tie.After-part Inv-loop μ-loop = search in
-    let at-read-record : tie.After-read-record Inv-loop μ-loop = search in
-    let at-loop-test : tie.In-loop Inv-loop μ-loop = search in
-    let at-loop : tie.At-loop Inv-loop μ-loop = search in
-    let at-start : tie.Start Inv-loop μ-loop = search in
-    let a = at-start .args in let l = at-loop .loop in taken-fits (a .records .now) (a .parts) (a .words .now) (a .bytes) (l .rest .now) (l .last) (l .k) (l .words) (l .inv) (at-loop-test .loop-test .taken) (at-read-record .read-record .ensures) _ _ (at-part .part .given .1)
+part-rest-start c = search taken-fits
 
 part-rest-end : tie.Need-part-rest-end Inv-loop μ-loop
 part-rest-end c = search needs
@@ -107,26 +82,13 @@ loop-less c =
     omega (arith, at-loop-test .loop-test .taken)
 
 loop-again : tie.Need-loop-again Inv-loop μ-loop
-loop-again c =
-    let at-take-part : tie.After-take-part Inv-loop μ-loop = search in
-    let at-part : tie.After-part Inv-loop μ-loop = search in
-    let at-read-record : tie.After-read-record Inv-loop μ-loop = search in
-    let at-loop-test : tie.In-loop Inv-loop μ-loop = search in
-    let at-loop : tie.At-loop Inv-loop μ-loop = search in
-    let at-start : tie.Start Inv-loop μ-loop = search in
-    let a = at-start .args in
-    let l = at-loop .loop in
-    taken-step (a .records .now) (a .parts) (a .words .now) (a .bytes) (l .rest .now) (l .last) (l .k) (l .words) (l .inv) (at-loop-test .loop-test .taken) (at-read-record .read-record .ensures) _ _ (at-part .part .given .1) (at-take-part .take-part .ensures) (not-false _ ((c .before) .if1 .left)) _ refl refl (part-from (l .rest .now) _)
+loop-again c = search (taken-step, not-false, part-from)
 
 same-length-3 : tie.Need-same-length-3 Inv-loop μ-loop
 same-length-3 c = (c .before) .loop .inv .long
 
 returns-3 : tie.Need-returns-3 Inv-loop μ-loop
-returns-3 c =
-    let at-start : tie.Start Inv-loop μ-loop = search in
-    let a = at-start .args in
-    let l = (c .before) .loop in
-    taken-done (a .records .now) (a .parts) (a .words .now) (a .bytes) (l .rest .now) (l .last) (l .k) (l .words) (l .inv) (omega (arith, c .loop-test .left)) _ refl
+returns-3 c = search taken-done
 
 pub read-records-spec : {M : Type 1} → statement M
 read-records-spec =
