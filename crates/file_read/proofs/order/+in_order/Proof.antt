@@ -14,7 +14,7 @@ use Rattle.file_read.proofs.order.+in_order.{statement}
 use Rattle.file_read.proofs.order.+in_order.Tie.{close}
 
 abbrev μ-in-order : Measures 1 in-order-kinds.ps ℕ
-μ-in-order κs a = a .1 .1 .0
+μ-in-order κs (nodes, (count, (p, last))) = p
 
 abbrev in-order-at : ℕ → In 1 in-order-kinds.ps
 in-order-at t = and 1 in-order-kinds.ps (is 1 in-order-kinds.ps μ-in-order t) in-order.Pre
