@@ -80,10 +80,14 @@ place-parts-requires c κs =
     let at-fits2 : tie.After-fits2 = search in
     let at-start : tie.Start = search in
     let a = at-start .args in
-    let R = parts-of _ (at-content2 .content2 .given .1) (at-read-file .read-file .ensures .outcome) in (
-      fits-roomy (a .store) (a .nodes .now) (a .lookup .now) (sym (at-fits2 .fits2 .ensures) ∙ not-false _ (at-if1 .if1 .left)),
-      (parts-nodes R, (omega (arith, at-read-file .read-file .ensures .long, at-if2 .if2 .left), R .few, R .low)),
-    )
+    let R = parts-of _ (at-content2 .content2 .given .1) (at-read-file .read-file .ensures .outcome) in
+    record {
+      roomy = fits-roomy (a .store) (a .nodes .now) (a .lookup .now) (sym (at-fits2 .fits2 .ensures) ∙ not-false _ (at-if1 .if1 .left));
+      local = parts-nodes R;
+      room = omega (arith, at-read-file .read-file .ensures .long, at-if2 .if2 .left);
+      few = R .few;
+      low = R .low;
+    }
 
 finish-requires : tie.Need-finish-requires
 finish-requires c κs =
