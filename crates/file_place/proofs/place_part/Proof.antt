@@ -62,11 +62,7 @@ get-node-requires c κs =
     )
 
 returns : tie.Need-returns
-returns c =
-    let at-get-node : tie.After-get-node = search in
-    let at-handle-at2 : tie.After-handle-at2 = search in
-    let at-handle-at : tie.After-handle-at = search in
-    node-as _ _ (at-handle-at .handle-at .ensures) (at-handle-at2 .handle-at2 .ensures) (at-get-node .get-node .ensures)
+returns c = search node-as
 
 pub place-part-spec : {M : Type 1} → statement M
 place-part-spec =

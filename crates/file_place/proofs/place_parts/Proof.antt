@@ -16,7 +16,7 @@ abbrev μ-loop : tie.MeasureT-loop
 μ-loop nodes₀ lookup₀ words₀ bytes parts current₀ k₀ nodes lookup words current k = parts - k
 
 loop-holds : tie.Need-loop-holds Inv-loop μ-loop
-loop-holds c = let a = (c .before .before .before) .args in turns-start (a .store) (a .nodes .now) (a .lookup .now) (a .words .now) (a .bytes) (a .parts) ((c .before .before .before) .pre .roomy)
+loop-holds c = search turns-start
 
 place-part-requires : tie.Need-place-part-requires Inv-loop μ-loop
 place-part-requires c κs =
@@ -57,16 +57,7 @@ same-length-3 c =
     at-loop .loop .inv .long
 
 returns : tie.Need-returns Inv-loop μ-loop
-returns c =
-    let at-place-part : tie.After-place-part Inv-loop μ-loop = search in
-    let at-loop-test : tie.In-loop Inv-loop μ-loop = search in
-    let at-loop : tie.At-loop Inv-loop μ-loop = search in
-    let at-start : tie.Start Inv-loop μ-loop = search in
-    let a = at-start .args in
-    let l = at-loop .loop in
-    let p = at-start .pre in
-    turns-refused (a .store) (a .nodes .now) (a .lookup .now) (a .words .now) (a .bytes) (a .parts) (p .few) (p .room) (p .local) (l .k) (l .current) (l .nodes) (l .lookup) (l .words) (l .inv) (at-loop-test .loop-test .taken)
-    (at-place-part .place-part .ensures) _ (c .enum-told .given .1)
+returns c = search turns-refused
 
 mul-words : tie.Need-mul-words Inv-loop μ-loop
 mul-words c =
@@ -109,16 +100,7 @@ loop-less c =
     omega (arith, at-loop-test .loop-test .taken)
 
 loop-again : tie.Need-loop-again Inv-loop μ-loop
-loop-again c =
-    let at-place-part : tie.After-place-part Inv-loop μ-loop = search in
-    let at-loop-test : tie.In-loop Inv-loop μ-loop = search in
-    let at-loop : tie.At-loop Inv-loop μ-loop = search in
-    let at-start : tie.Start Inv-loop μ-loop = search in
-    let a = at-start .args in
-    let l = at-loop .loop in
-    let p = at-start .pre in
-    turns-next (a .store) (a .nodes .now) (a .lookup .now) (a .words .now) (a .bytes) (a .parts) (p .few) (p .room) (p .local) (l .k) (l .current) (l .nodes) (l .lookup) (l .words) (l .inv) (at-loop-test .loop-test .taken)
-    (at-place-part .place-part .ensures) _ ((c .before .before) .answer .given .1) refl
+loop-again c = search turns-next
 
 add-handle-at : tie.Need-add-handle-at Inv-loop μ-loop
 add-handle-at c =
