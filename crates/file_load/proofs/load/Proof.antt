@@ -10,7 +10,7 @@ use borrow.Author.Needs.{needs}
 use Rattle.file_load.proofs.load.Statement.{statement}
 use Rattle.file_load.proofs.load.Tie as tie
 
-begun : tie.Else1 → tie.Start
+abbrev begun : tie.Else1 → tie.Start
 begun c = search
 
 fits-requires : tie.Need-fits-requires

@@ -6,7 +6,7 @@ use Rattle.file_write.proofs.Cursors.{turn-low, turn-high, turn-item, l
 use Rattle.file_write.proofs.write_part.Statement.{statement}
 use Rattle.file_write.proofs.write_part.Tie as tie
 
-begun : tie.After-length-of → tie.Start
+abbrev begun : tie.After-length-of → tie.Start
 begun c = search
 
 returns : tie.Need-returns
