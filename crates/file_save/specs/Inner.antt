@@ -28,7 +28,7 @@ pub record FileOf (t : Trail) (nodes : List ℕ) (n : ℕ) (links out : List ℕ
   pub long : length links′ ≡ length links
   pub long-out : length out′ ≡ length out
   pub rest : (k : ℕ) → n ≤ k → getD links′ k 0 ≡ getD links k 0
-  pub sound : (B D : List Family) (lookup : List ℕ) → Holds B n nodes lookup → Trailed B D n t links → t .length ≤ length out → (r ≡ true) × (out′ ≡ fileOfBook D ++ drop (length (fileOfBook D)) out)
+  pub sound : (B D : List Family) (lookup : List ℕ) → Holds B n nodes lookup → Trailed B D n t links → t .bytes ≤ length out → (r ≡ true) × (out′ ≡ fileOfBook D ++ drop (length (fileOfBook D)) out)
 
 -- the file of a family with parts
 pub record PartsOf (s : Store) (p : ℕ) (nodes links out : List ℕ) (r : Saved) (links′ out′ : List ℕ) : Type 0 where

@@ -70,7 +70,7 @@ write-file-requires c κs =
     let at-zero : tie.After-zero = search in
     let at-start : tie.Start = search in
     let p = at-start .pre in
-    let F = at-walk .walk .ensures .fits _ (at-trail .trail .given .1) in
+    let F = at-walk .walk .ensures .trail-fits _ (at-trail .trail .given .1) in
     ((p .0 .0, p .0 .1, omega (arith, p .0 .2, at-walk .walk .ensures .long, at-zero .zero .kept .0)), (omega (arith, F .some, (c .before .before) .if2 .left), F .few))
 
 same-length-3 : tie.Need-same-length-3

@@ -7,7 +7,7 @@ use Rattle.file_trail.proofs.walk.children.Statement.{statement}
 use Rattle.file_trail.proofs.walk.children.Tie as tie
 
 returns : tie.Need-returns
-returns c = let a = (c .before .before) .args in split-none (a .nodes .now) (a .count) (a .p) (a .top) ((c .before .before) .pre .0) ((c .before .before) .pre .3) (c .if1 .taken)
+returns c = let a = (c .before .before) .args in split-none (a .nodes .now) (a .count) (a .p) (a .top) ((c .before .before) .pre .inside) ((c .before .before) .pre .level-is) (c .if1 .taken)
 
 sides-at-requires : tie.Need-sides-at-requires
 sides-at-requires c κs = search needs
