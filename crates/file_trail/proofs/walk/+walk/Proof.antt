@@ -36,10 +36,7 @@ walk-same-length : (t : ℕ) → walk-lts.Need-same-length (walk-claims t) (walk
 walk-same-length t c = search needs
 
 walk-returns : (t : ℕ) → walk-lts.Need-returns (walk-claims t) (walk-at t) walk.Post
-walk-returns t c =
-    let at-start : walk-lts.Start (walk-claims t) (walk-at t) walk.Post = search in
-    let a = at-start .args in
-    walk-met (a .trail) (a .p) (a .nodes .now) (a .count) (a .links .now) (at-start .pre .1 .inside) (at-start .pre .1 .trail-fits) ((c .before) .is-met .ensures) (c .if1 .taken)
+walk-returns t c = search walk-met
 
 walk-children-requires : (t : ℕ) → walk-lts.Need-children-requires (walk-claims t) (walk-at t) walk.Post
 walk-children-requires t c κs =
@@ -56,13 +53,7 @@ walk-same-length-2 : (t : ℕ) → walk-lts.Need-same-length-2 (walk-claims t) (
 walk-same-length-2 t c = search needs
 
 walk-returns-2 : (t : ℕ) → walk-lts.Need-returns-2 (walk-claims t) (walk-at t) walk.Post
-walk-returns-2 t c =
-    let at-is-met : walk-lts.After-is-met (walk-claims t) (walk-at t) walk.Post = search in
-    let at-start : walk-lts.Start (walk-claims t) (walk-at t) walk.Post = search in
-    let a = at-start .args in
-    let q = at-start .pre .1 in
-    walk-no-children (a .trail) (a .p) (a .nodes .now) (a .count) (a .links .now) (q .inside) (at-is-met .is-met .ensures) ((c .before .before .before) .if1 .left) (a .top)
-    (q .level-is) ((c .before .before) .children .ensures) (c .enum-told .given .1)
+walk-returns-2 t c = search walk-no-children
 
 walk-walk-requires : (t : ℕ) → walk-lts.Need-walk-requires (walk-claims t) (walk-at t) walk.Post
 walk-walk-requires t c κs =
@@ -82,17 +73,7 @@ walk-same-length-3 : (t : ℕ) → walk-lts.Need-same-length-3 (walk-claims t) (
 walk-same-length-3 t c = search needs
 
 walk-returns-3 : (t : ℕ) → walk-lts.Need-returns-3 (walk-claims t) (walk-at t) walk.Post
-walk-returns-3 t c =
-    let at-walk : walk-lts.After-walk (walk-claims t) (walk-at t) walk.Post = search in
-    let at-zero : walk-lts.After-zero (walk-claims t) (walk-at t) walk.Post = search in
-    let at-children : walk-lts.After-children (walk-claims t) (walk-at t) walk.Post = search in
-    let at-if1 : walk-lts.Else1 (walk-claims t) (walk-at t) walk.Post = search in
-    let at-is-met : walk-lts.After-is-met (walk-claims t) (walk-at t) walk.Post = search in
-    let at-start : walk-lts.Start (walk-claims t) (walk-at t) walk.Post = search in
-    let a = at-start .args in
-    let q = at-start .pre .1 in
-    walk-first-broken (a .trail) (a .p) (a .nodes .now) (a .count) (a .links .now) (q .inside) (at-is-met .is-met .ensures) (at-if1 .if1 .left)
-    (a .top) (q .level-is) (at-children .children .ensures) _ _ _ _ (at-zero .zero .given .1) (at-walk .walk .ensures) (c .enum-told2 .given .1)
+walk-returns-3 t c = search walk-first-broken
 
 walk-walk-requires-2 : (t : ℕ) → walk-lts.Need-walk-requires-2 (walk-claims t) (walk-at t) walk.Post
 walk-walk-requires-2 t c κs =
