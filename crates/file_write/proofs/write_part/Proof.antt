@@ -17,7 +17,7 @@ returns c =
 add-if2 : tie.Need-add-if2
 add-if2 c =
     let at-start : tie.Start = search in
-    omega (arith, at-start .pre .0 .1)
+    omega (arith, at-start .pre .0 .few)
 
 returns-2 : tie.Need-returns-2
 returns-2 c =
@@ -27,17 +27,17 @@ returns-2 c =
 cast-j : tie.Need-cast-j
 cast-j c =
     let at-start : tie.Start = search in
-    omega (arith, at-start .pre .0 .1, c .if2 .left)
+    omega (arith, at-start .pre .0 .few, c .if2 .left)
 
 mul-part-at : tie.Need-mul-part-at
 mul-part-at c =
     let at-start : tie.Start = search in
-    omega (arith, at-start .pre .0 .1, (c .before) .if1 .left, c .if2 .left)
+    omega (arith, at-start .pre .0 .few, (c .before) .if1 .left, c .if2 .left)
 
 part-at-requires : tie.Need-part-at-requires
 part-at-requires c κs =
     let at-start : tie.Start = search in
-    omega (arith, at-start .pre .0 .0, at-start .pre .0 .1, (c .before .before) .if1 .left, (c .before) .if2 .left)
+    omega (arith, at-start .pre .0 .words, at-start .pre .0 .few, (c .before .before) .if1 .left, (c .before) .if2 .left)
 
 same-length : tie.Need-same-length
 same-length c = search needs
@@ -85,11 +85,10 @@ part-put-record-end c = search needs
 
 put-record-requires : tie.Need-put-record-requires
 put-record-requires c κs =
-    let at-if3 : tie.Else3 = search in
     let at-part-at : tie.After-part-at = search in
     let at-start : tie.Start = search in
     let a = at-start .args in (
-      (omega (arith, at-start .pre .1 .item-low), omega (arith, at-if3 .if3 .left)),
+      omega (arith, at-start .pre .1 .item-low),
       omega (
         arith,
         length-is (a .cursor) (a .nodes .now) (a .count) (a .links .now) (a .out .now) _ (at-part-at .part-at .ensures) _ ((c .before .before) .length-of .ensures .0),
@@ -106,7 +105,7 @@ slice-read-next c =
     let at-if2 : tie.Else2 = search in
     let at-if1 : tie.Else1 = search in
     let at-start : tie.Start = search in
-    omega (arith, at-start .pre .0 .2, at-if1 .if1 .left, at-if2 .if2 .left)
+    omega (arith, at-start .pre .0 .linkable, at-if1 .if1 .left, at-if2 .if2 .left)
 
 add-number : tie.Need-add-number
 add-number c =
@@ -118,14 +117,14 @@ mul-links c =
     let at-if2 : tie.Else2 = search in
     let at-if1 : tie.Else1 = search in
     let at-start : tie.Start = search in
-    omega (arith, at-start .pre .0 .1, at-if1 .if1 .left, at-if2 .if2 .left)
+    omega (arith, at-start .pre .0 .few, at-if1 .if1 .left, at-if2 .if2 .left)
 
 slice-write-links : tie.Need-slice-write-links
 slice-write-links c =
     let at-if2 : tie.Else2 = search in
     let at-if1 : tie.Else1 = search in
     let at-start : tie.Start = search in
-    omega (arith, at-start .pre .0 .2, at-if1 .if1 .left, at-if2 .if2 .left)
+    omega (arith, at-start .pre .0 .linkable, at-if1 .if1 .left, at-if2 .if2 .left)
 
 add-t16 : tie.Need-add-t16
 add-t16 c =
@@ -151,7 +150,7 @@ returns-5 c =
     let at-start : tie.Start = search (at-if2) in
     let a = at-start .args in
     turn-done (a .cursor) (a .nodes .now) (a .count) (a .links .now) (a .out .now) _ (at-part-at .part-at .ensures) _ (at-length-of .length-of .ensures .0)
-    (at-start .pre .0 .2) (at-start .pre .1) (at-if1 .if1 .left) (at-if2 .if2 .left)
+    (at-start .pre .0 .linkable) (at-start .pre .1) (at-if1 .if1 .left) (at-if2 .if2 .left)
     (at-if3 .if3 .left) (at-length-of .length-of .ensures .1)
     (omega (arith, at-if4 .if4 .left, at-start .pre .1 .within)) (at-put-record .put-record .ensures .1)
 

@@ -4,27 +4,27 @@ use borrow.Author.Needs.{needs}
 use Prim.Native.Nat.{_-_}
 use mathlib.Core.Path.{_∙_}
 use native.Mathlib.Omega.{arith}
-use Rattle.file_write.proofs.Writes.{Left, left-start, left-fits, left-broken, left-step, left-done}
+use Rattle.file_write.proofs.Writes.{PartsLeft, left-start, left-fits, left-broken, left-step, left-done}
 use Rattle.file_write.proofs.write_parts.Statement.{statement}
 use Rattle.file_write.proofs.write_parts.Tie as tie
 
 abbrev Inv-loop : tie.InvT-loop
-Inv-loop first parts nodes count links₀ out₀ cursor₀ left₀ links out cursor left = Left first parts nodes count links₀ out₀ cursor left links out
+Inv-loop first parts nodes count links₀ out₀ cursor₀ left₀ links out cursor left = PartsLeft first parts nodes count links₀ out₀ cursor left links out
 
 abbrev μ-loop : tie.MeasureT-loop
 μ-loop first parts nodes count links₀ out₀ cursor₀ left₀ links out cursor left = left
 
 loop-holds : tie.Need-loop-holds Inv-loop μ-loop
-loop-holds c = let a = (c .before .before .before) .args in left-start (a .first) (a .parts) (a .nodes .now) (a .count) (a .links .now) (a .out .now) ((c .before .before .before) .pre .1 .0)
+loop-holds c = let a = (c .before .before .before) .args in left-start (a .first) (a .parts) (a .nodes .now) (a .count) (a .links .now) (a .out .now) ((c .before .before .before) .pre .1 .five)
 
 write-part-requires : tie.Need-write-part-requires Inv-loop μ-loop
 write-part-requires c κs =
     let at-start : tie.Start Inv-loop μ-loop = search in
     let a = at-start .args in
     let l = (c .before .before .before) .loop in (
-      (at-start .pre .0 .0, at-start .pre .0 .1, omega (arith, at-start .pre .0 .2, l .inv .long)),
+      record { words = at-start .pre .0 .words; few = at-start .pre .0 .few; linkable = omega (arith, at-start .pre .0 .linkable, l .inv .long) },
       left-fits (a .first) (a .parts)
-          (a .nodes .now) (a .count) (a .links .now) (a .out .now) (l .cursor) (l .left) (l .inv) (at-start .pre .1 .1),
+          (a .nodes .now) (a .count) (a .links .now) (a .out .now) (l .cursor) (l .left) (l .inv) (at-start .pre .1 .few),
     )
 
 enum-known-next : tie.Need-enum-known-next Inv-loop μ-loop
@@ -37,13 +37,13 @@ same-length : tie.Need-same-length Inv-loop μ-loop
 same-length c =
     let at-write-part : tie.After-write-part Inv-loop μ-loop = search in
     let at-loop : tie.At-loop Inv-loop μ-loop = search in
-    at-write-part .write-part .kept .1 .1 .1 .0 ∙ at-loop .loop .inv .long
+    at-write-part .write-part .ensures .long ∙ at-loop .loop .inv .long
 
 same-length-2 : tie.Need-same-length-2 Inv-loop μ-loop
 same-length-2 c =
     let at-write-part : tie.After-write-part Inv-loop μ-loop = search in
     let at-loop : tie.At-loop Inv-loop μ-loop = search in
-    at-write-part .write-part .kept .1 .1 .1 .1 .0 ∙ at-loop .loop .inv .long-out
+    at-write-part .write-part .ensures .long-out ∙ at-loop .loop .inv .long-out
 
 returns : tie.Need-returns Inv-loop μ-loop
 returns c =
