@@ -10,9 +10,7 @@ abbrev begun : tie.After-length-of → tie.Start
 begun c = search
 
 returns : tie.Need-returns
-returns c =
-    let at-start : tie.Start = search in
-    let a = at-start .args in turn-low (a .cursor) (a .nodes .now) (a .count) (a .links .now) (a .out .now) (c .if1 .taken)
+returns c = search turn-low
 
 add-if2 : tie.Need-add-if2
 add-if2 c =
@@ -20,9 +18,7 @@ add-if2 c =
     omega (arith, at-start .pre .0 .few)
 
 returns-2 : tie.Need-returns-2
-returns-2 c =
-    let at-start : tie.Start = search in
-    let a = at-start .args in turn-high (a .cursor) (a .nodes .now) (a .count) (a .links .now) (a .out .now) (c .if2 .taken)
+returns-2 c = search turn-high
 
 cast-j : tie.Need-cast-j
 cast-j c =
@@ -43,9 +39,7 @@ same-length : tie.Need-same-length
 same-length c = search needs
 
 returns-3 : tie.Need-returns-3
-returns-3 c =
-    let at-start : tie.Start = search in
-    let a = at-start .args in turn-item (a .cursor) (a .nodes .now) (a .count) (a .links .now) (a .out .now) _ ((c .before .before) .part-at .ensures) (c .if3 .taken)
+returns-3 c = search turn-item
 
 add-length-of : tie.Need-add-length-of
 add-length-of c =
@@ -64,11 +58,7 @@ same-length-2 : tie.Need-same-length-2
 same-length-2 c = search needs
 
 returns-4 : tie.Need-returns-4
-returns-4 c =
-    let at-part-at : tie.After-part-at = search in
-    let at-start : tie.Start = search in
-    let a = at-start .args in
-    turn-full (a .cursor) (a .nodes .now) (a .count) (a .links .now) (a .out .now) _ (at-part-at .part-at .ensures) _ ((c .before) .length-of .ensures .0) (at-start .pre .1 .within) (c .if4 .taken)
+returns-4 c = search turn-full
 
 sub-put-record : tie.Need-sub-put-record
 sub-put-record c =

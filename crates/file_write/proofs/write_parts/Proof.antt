@@ -15,7 +15,7 @@ abbrev μ-loop : tie.MeasureT-loop
 μ-loop first parts nodes count links₀ out₀ cursor₀ left₀ links out cursor left = left
 
 loop-holds : tie.Need-loop-holds Inv-loop μ-loop
-loop-holds c = let a = (c .before .before .before) .args in left-start (a .first) (a .parts) (a .nodes .now) (a .count) (a .links .now) (a .out .now) ((c .before .before .before) .pre .1 .five)
+loop-holds c = search left-start
 
 write-part-requires : tie.Need-write-part-requires Inv-loop μ-loop
 write-part-requires c κs =
@@ -46,15 +46,7 @@ same-length-2 c =
     at-write-part .write-part .ensures .long-out ∙ at-loop .loop .inv .long-out
 
 returns : tie.Need-returns Inv-loop μ-loop
-returns c =
-    let at-write-part : tie.After-write-part Inv-loop μ-loop = search in
-    let at-loop-test : tie.In-loop Inv-loop μ-loop = search in
-    let at-loop : tie.At-loop Inv-loop μ-loop = search in
-    let at-start : tie.Start Inv-loop μ-loop = search in
-    let a = at-start .args in
-    let l = at-loop .loop in
-    left-broken (a .first) (a .parts) (a .nodes .now) (a .count) (a .links .now) (a .out .now) (l .cursor) (l .left) (l .inv) (at-loop-test .loop-test .taken)
-    (at-write-part .write-part .ensures) (c .enum-told .given .1)
+returns c = search left-broken
 
 sub-left : tie.Need-sub-left Inv-loop μ-loop
 sub-left c =
@@ -67,15 +59,7 @@ loop-less c =
     omega (arith, at-loop-test .loop-test .taken)
 
 loop-again : tie.Need-loop-again Inv-loop μ-loop
-loop-again c =
-    let at-write-part : tie.After-write-part Inv-loop μ-loop = search in
-    let at-loop-test : tie.In-loop Inv-loop μ-loop = search in
-    let at-loop : tie.At-loop Inv-loop μ-loop = search in
-    let at-start : tie.Start Inv-loop μ-loop = search in
-    let a = at-start .args in
-    let l = at-loop .loop in
-    left-step (a .first) (a .parts) (a .nodes .now) (a .count) (a .links .now) (a .out .now) (l .cursor) (l .left) (l .inv) (at-loop-test .loop-test .taken)
-    (at-write-part .write-part .ensures) _ ((c .before) .next .given .1)
+loop-again c = search left-step
 
 same-length-3 : tie.Need-same-length-3 Inv-loop μ-loop
 same-length-3 c = (c .before) .loop .inv .long
