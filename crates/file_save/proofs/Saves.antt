@@ -34,7 +34,7 @@ use Rattle.file_save.specs.declared.SaveAnswer.the-variants.{Length, Ref
 use Rattle.file_save.specs.declared.Saved.{Saved}
 use Rattle.file_save.specs.Promise.{saveGivenBy, saveRefusal, saveAnswer, saveOutput, SaveCall}
 use Rattle.file_trail.specs.Inner.{Trailed, WalkOf}
-use Rattle.file_write.specs.Inner.{Writing, startAt, WritesOf}
+use Rattle.file_write.specs.Inner.{Writing, firstCursor, WritesOf}
 use Rattle.file_save.specs.Inner.{LeafOf, FileOf, PartsOf}
 use Rattle.file_trail.proofs.Trails.{trail-start}
 use Rattle.file_trail.proofs.Walking.{came-to, never}
@@ -56,7 +56,7 @@ file-written t nodes n links out {out₁} {r} {links′} {out′} h e l W =
       sound = λ B D lookup H T few. W .sound B D lookup (fileOfBook D) out H (T .parts-is) (begun T few);
     }
   where
-    begun : {B D : List Family} → Trailed B D n t links → t .bytes ≤ length out → Writing B D 2 (startAt (t .first)) links (fileOfBook D) out out₁
+    begun : {B D : List Family} → Trailed B D n t links → t .bytes ≤ length out → Writing B D 2 (firstCursor (t .first)) links (fileOfBook D) out out₁
     begun {B} {D} T few =
         let parts : t .parts ≡ length D - 2 = omega (arith, T .parts-is) in
         record {
@@ -74,8 +74,8 @@ file-written t nodes n links out {out₁} {r} {links′} {out′} h e l W =
         }
 
 -- the ways out of `save_parts`
-parts-first : Trail
-parts-first = record { first = 0; last = 1; item = 0; parts = 0; bytes = 5 }
+abbrev pub startTrail : Trail
+startTrail = record { first = 0; last = 1; item = 0; parts = 0; bytes = 5 }
 
 module _ (s : Store) (p : ℕ) (nodes links out : List ℕ) (two : 2 ≤ p) (lp : p ≤ s .count + 1) where
   pub parts-damaged : (r : Saved) → r .store ≡ s → itemLimit < topAt nodes p → PartsOf s p nodes links out r links out
@@ -89,16 +89,16 @@ module _ (s : Store) (p : ℕ) (nodes links out : List ℕ) (two : 2 ≤ p) (lp 
         gave = λ B lookup H l. absurd (omega (arith, top-at H p (omega arith), within H p (omega arith) .low));
       }
 
-  module _ (room : s .count ≤ length links) {links₁ : List ℕ} (el : links₁ ≡ zeroed 0 (s .count) links) (start′ : Trail) (is-start : (start′ .last ≡ 1) × (start′ .item ≡ 0) × (start′ .parts ≡ 0) × (start′ .bytes ≡ 5))
-      {x : Walked} {links₂ : List ℕ} (W : WalkOf start′ p nodes (s .count) links₁ x links₂) where
+  module _ (room : s .count ≤ length links) {links₁ : List ℕ} (el : links₁ ≡ zeroed 0 (s .count) links) 
+      {x : Walked} {links₂ : List ℕ} (W : WalkOf startTrail p nodes (s .count) links₁ x links₂) where
     long₂ : length links₂ ≡ length links
     long₂ = W .long ∙ ap length el ∙ zeroed-length 0 (s .count) links (omega arith) room
 
     rest₂ : (k : ℕ) → s .count ≤ k → getD links₂ k 0 ≡ getD links k 0
     rest₂ k l = W .rest k l ∙ ap (λ X. getD X k 0) el ∙ zeroed-after 0 (s .count) links (omega arith) room k l
 
-    begun : {B : List Family} {lookup : List ℕ} → Holds B (s .count) nodes lookup → Trailed B start (s .count) start′ links₁
-    begun H = trail-start H links₁ (λ k l. ap (λ X. getD X k 0) el ∙ zeroed-inside 0 (s .count) links (omega arith) room k (omega arith) l) start′ (is-start .0) (is-start .1) (is-start .2) (is-start .3)
+    begun : {B : List Family} {lookup : List ℕ} → Holds B (s .count) nodes lookup → Trailed B start (s .count) startTrail links₁
+    begun H = trail-start H links₁ (λ k l. ap (λ X. getD X k 0) el ∙ zeroed-inside 0 (s .count) links (omega arith) room k (omega arith) l) startTrail refl refl refl refl
 
     pub parts-broken : (r : Saved) → r .store ≡ s → x ≡ NoWay → PartsOf s p nodes links out r links₂ out
     parts-broken r es e =

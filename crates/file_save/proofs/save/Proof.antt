@@ -68,10 +68,12 @@ save-parts-requires c κs =
     let at-fits2 : tie.After-fits2 = search in
     let at-start : tie.Start = search in
     let a = at-start .args in
-    let R = fits-roomy (a .store) (a .nodes .now) (a .lookup .now) (test-passed (at-fits2 .fits2 .ensures) (at-if1 .if1 .left)) in (
-      (omega (arith, R .within, R .words), omega (arith, R .within, R .small), (c .before .before .before) .if3 .left),
-      ((c .before .before) .if4 .left, handle-passed (a .p) (a .store .count) (at-holds .holds .ensures) (at-if2 .if2 .left)),
-    )
+    let R = fits-roomy (a .store) (a .nodes .now) (a .lookup .now) (test-passed (at-fits2 .fits2 .ensures) (at-if1 .if1 .left)) in
+    record {
+      lent = record { words = omega (arith, R .within, R .words); few = omega (arith, R .within, R .small); linkable = (c .before .before .before) .if3 .left };
+      two = (c .before .before) .if4 .left;
+      inside = handle-passed (a .p) (a .store .count) (at-holds .holds .ensures) (at-if2 .if2 .left);
+    }
 
 same-length-2 : tie.Need-same-length-2
 same-length-2 c = search needs
