@@ -6,10 +6,10 @@ use Rattle.file_save.proofs.leaf_byte.Statement.{statement}
 use Rattle.file_save.proofs.leaf_byte.Tie as tie
 
 returns : tie.Need-returns
-returns c = rw (eq-eqb ((c .before) .args .p) 0 (c .if1 .taken)) refl
+returns c = search eq-eqb
 
 returns-2 : tie.Need-returns-2
-returns-2 c = rw (ne-eqb ((c .before) .args .p) 0 (c .if1 .left)) refl
+returns-2 c = search ne-eqb
 
 pub leaf-byte-spec : {M : Type 1} → statement M
 leaf-byte-spec = tie.close (tie.spec returns returns-2)

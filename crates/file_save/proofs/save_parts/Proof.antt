@@ -47,25 +47,13 @@ same-length : tie.Need-same-length
 same-length c = search needs
 
 returns-2 : tie.Need-returns-2
-returns-2 c =
-    let at-walk : tie.After-walk = search in
-    let at-zero : tie.After-zero = search in
-    let at-start : tie.Start = search in
-    let a = at-start .args in
-    parts-broken (a .store) (a .p) (a .nodes .now) (a .links .now) (a .out .now) (at-start .pre .two) (at-start .pre .inside) (at-start .pre .lent .linkable)
-    (at-zero .zero .ensures) (at-walk .walk .ensures) _ refl (c .enum-told .given .1)
+returns-2 c = search parts-broken
 
 same-length-2 : tie.Need-same-length-2
 same-length-2 c = search needs
 
 returns-3 : tie.Need-returns-3
-returns-3 c =
-    let at-walk : tie.After-walk = search in
-    let at-zero : tie.After-zero = search in
-    let at-start : tie.Start = search in
-    let a = at-start .args in
-    parts-short (a .store) (a .p) (a .nodes .now) (a .links .now) (a .out .now) (at-start .pre .two) (at-start .pre .inside) (at-start .pre .lent .linkable) (at-zero .zero .ensures)
-    (at-walk .walk .ensures) _ ((c .before .before) .trail .given .1) _ refl (c .if2 .taken) refl
+returns-3 c = search parts-short
 
 write-file-requires : tie.Need-write-file-requires
 write-file-requires c κs =

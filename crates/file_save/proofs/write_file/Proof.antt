@@ -26,13 +26,7 @@ same-length-2 c =
     at-write-parts .write-parts .ensures .long-out ∙ at-put-header .put-header .kept .0
 
 returns : tie.Need-returns
-returns c =
-    let at-write-parts : tie.After-write-parts = search in
-    let at-put-header : tie.After-put-header = search in
-    let at-start : tie.Start = search in
-    let a = at-start .args in
-    file-written (a .trail) (a .nodes .now) (a .count) (a .links .now) (a .out .now) (at-start .pre .1 .five) (at-put-header .put-header .ensures)
-    (at-put-header .put-header .kept .0) (at-write-parts .write-parts .ensures)
+returns c = search file-written
 
 pub write-file-spec : {M : Type 1} → statement M
 write-file-spec =
