@@ -23,7 +23,7 @@ use Rattle.file_record.specs.Widths.{widths}
 use Rattle.file_record.proofs.Laying.{widths-length}
 use Rattle.file_write.specs.declared.Cursor.{Cursor}
 use Rattle.file_write.specs.declared.Turn.the-variants.{Next, Broken}
-use Rattle.file_write.specs.Inner.{LocalPart, CursorFits, NextFits, Writing, turned, TurnOf}
+use Rattle.file_write.specs.Inner.{LocalPart, CursorFits, Writing, turned, TurnOf}
 use Rattle.file_trail.proofs.Trails.{handle-in, handle-at, handle-apart, handle-two, local-two}
 
 -- bytes at the front, later bytes untouched

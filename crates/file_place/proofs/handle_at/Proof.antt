@@ -1,7 +1,6 @@
 -- `handle_at` gives a local number's handle in the store: 0 and 1 keep their meaning.
 -- Both ways out are one branch of the definition.
 use borrow.Author.Needs.{needs}
-use mathlib.Core.Path.{sym}
 use Rattle.file_place.proofs.Placements.{handle-leaf, handle-inner}
 use borrow.Author.Needs.{needs}
 use Rattle.file_place.proofs.handle_at.Statement.{statement}

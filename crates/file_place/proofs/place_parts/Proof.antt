@@ -1,7 +1,7 @@
 -- `place_parts` places one local part after another; so many are left.
 -- Each way out is one law of the turns.
 use borrow.Author.Needs.{needs}
-use mathlib.Core.Path.{refl, ap, _∙_}
+use mathlib.Core.Path.{ap, _∙_}
 use Prim.Native.Nat.{_-_}
 use native.Mathlib.Omega.{arith}
 use Rattle.store.specs.declared.record.PlaceAnswer.the-variants.{Handle}

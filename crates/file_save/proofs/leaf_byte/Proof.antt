@@ -1,6 +1,5 @@
 -- `leaf_byte` is 00 for {} and 02 for {{}}.
 -- The test decides the definition's own.
-use mathlib.Core.Path.{refl}
 use borrow.Author.Tests.{eq-eqb, ne-eqb}
 use Rattle.file_save.proofs.leaf_byte.Statement.{statement}
 use Rattle.file_save.proofs.leaf_byte.Tie as tie

@@ -1,7 +1,6 @@
 -- `save` tests in document 01's order, then writes the file of a leaf or of a node.
 -- Each way out is one law of saving.
 use borrow.Author.Needs.{needs}
-use mathlib.Core.Path.{refl}
 use native.Mathlib.Omega.{arith}
 use Rattle.store.proofs.Fitting.{test-refused, test-passed, handle-refused, handle-passed}
 use Rattle.store.proofs.Calls.{fits-roomy}

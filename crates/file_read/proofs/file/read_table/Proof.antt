@@ -1,7 +1,6 @@
 -- `read_table` empties the local lookup, reads the records and walks the placing order from the last part.
 -- Each way out is one law of the local table of a file.
 use borrow.Author.Needs.{needs}
-use mathlib.Core.Path.{refl}
 use native.Mathlib.Omega.{arith}
 use borrow.Author.Tests.{not-true, not-false}
 use Rattle.file_read.proofs.Tables.{blank-table, table-unread, table-room, table-nodes, table-broken, table-done}

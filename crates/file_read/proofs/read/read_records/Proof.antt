@@ -1,7 +1,7 @@
 -- `read_records` takes record after record from the rest of the bytes; so many are left.
 -- Each way out is one law of the definition's turns.
 use borrow.Author.Needs.{needs}
-use mathlib.Core.Path.{refl, _∙_}
+use mathlib.Core.Path.{_∙_}
 use Prim.Native.Nat.{_-_}
 use native.Mathlib.Omega.{arith}
 use borrow.Author.Tests.{not-true, not-false}
