@@ -39,8 +39,8 @@ pub fn length_of(item: bool, zero: bool, one: bool) -> usize
 
 // Writes a field of so many bytes, low byte first, where it stands; gives the place after it.
 pub fn put_field(out: &mut [u8], at: usize, width: usize, stands: bool, value: u32) -> usize
-    requires { ⌜ at + length (field width stands value) ≤ length (now out) ⌝ }
-    ensures { λ r. ⌜ r ≡ at + length (field width stands value) ⌝ }
+    requires { ⌜ at + cond stands width 0 ≤ length (now out) ⌝ }
+    ensures { λ r. ⌜ r ≡ at + cond stands width 0 ⌝ }
     ensures { λ _. ⌜ now (out .exit) ≡ sets (now (out .entry)) at (field width stands value) ⌝ }
 {
     if !stands {

@@ -32,7 +32,7 @@ mul-value c =
     let at-loop-test : tie.In-loop Inv-loop μ-loop = search in
     let at-loop : tie.At-loop Inv-loop μ-loop = search in
     let at-start : tie.Start Inv-loop μ-loop = search in
-    let small = number-room (at-start .pre .0) (at-loop-test .loop-test .taken) (at-loop .loop .inv) in
+    let small = number-room (at-start .pre .0) (omega (arith, at-loop-test .loop-test .taken)) (at-loop .loop .inv) in
     search needs
 
 add-value : tie.Need-add-value Inv-loop μ-loop
@@ -40,14 +40,18 @@ add-value c =
     let at-loop-test : tie.In-loop Inv-loop μ-loop = search in
     let at-loop : tie.At-loop Inv-loop μ-loop = search in
     let at-start : tie.Start Inv-loop μ-loop = search in
-    let small = number-room (at-start .pre .0) (at-loop-test .loop-test .taken) (at-loop .loop .inv) in
+    let small = number-room (at-start .pre .0) (omega (arith, at-loop-test .loop-test .taken)) (at-loop .loop .inv) in
     search needs
 
 loop-less : tie.Need-loop-less Inv-loop μ-loop
 loop-less c = search needs
 
 loop-again : tie.Need-loop-again Inv-loop μ-loop
-loop-again c = search number-step
+loop-again c =
+    let at-loop-test : tie.In-loop Inv-loop μ-loop = search in
+    let at-loop : tie.At-loop Inv-loop μ-loop = search in
+    let at-start : tie.Start Inv-loop μ-loop = search in
+    number-step (omega (arith, at-loop-test .loop-test .taken)) (at-start .pre .1) (at-loop .loop .inv) (c .wide .ensures .0) (c .wide .ensures .1)
 
 returns : tie.Need-returns Inv-loop μ-loop
 returns c = number-done (omega (arith, c .loop-test .left)) ((c .before) .loop .inv)

@@ -29,7 +29,7 @@ add-out c =
     let at-if1 : tie.Else1 Inv-loop μ-loop = search in
     let at-start : tie.Start Inv-loop μ-loop = search in
     let a = at-start .args in
-    let room = field-room (a .width) (a .value) (a .at) (a .out .now) (not-false (a .stands) (at-if1 .if1 .left)) (at-start .pre) in
+    let room = field-room (a .width) (a .at) (a .out .now) (not-false (a .stands) (at-if1 .if1 .left)) (at-start .pre) in
     search needs
 
 slice-write-out : tie.Need-slice-write-out Inv-loop μ-loop
@@ -37,7 +37,7 @@ slice-write-out c =
     let at-if1 : tie.Else1 Inv-loop μ-loop = search in
     let at-start : tie.Start Inv-loop μ-loop = search in
     let a = at-start .args in
-    let room = field-room (a .width) (a .value) (a .at) (a .out .now) (not-false (a .stands) (at-if1 .if1 .left)) (at-start .pre) in
+    let room = field-room (a .width) (a .at) (a .out .now) (not-false (a .stands) (at-if1 .if1 .left)) (at-start .pre) in
     search needs
 
 add-k : tie.Need-add-k Inv-loop μ-loop
@@ -54,7 +54,7 @@ add-result c =
     let at-if1 : tie.Else1 Inv-loop μ-loop = search in
     let at-start : tie.Start Inv-loop μ-loop = search in
     let a = at-start .args in
-    let room = field-room (a .width) (a .value) (a .at) (a .out .now) (not-false (a .stands) (at-if1 .if1 .left)) (at-start .pre) in
+    let room = field-room (a .width) (a .at) (a .out .now) (not-false (a .stands) (at-if1 .if1 .left)) (at-start .pre) in
     search needs
 
 same-length : tie.Need-same-length Inv-loop μ-loop

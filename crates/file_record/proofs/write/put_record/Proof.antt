@@ -22,17 +22,21 @@ put-field-requires c κs = search room-item
 
 put-field-requires-2 : tie.Need-put-field-requires-2
 put-field-requires-2 c κs =
-    let at-start : tie.Start = search in
-    let a = at-start .args in
-    room-zero (a .last .item) (a .last .number) (a .part .item) (a .part .zero) (a .part .one) (a .out .now) _ (at-start .pre .1) _ ((c .before .before .before) .put-field .ensures)
-
-put-field-requires-3 : tie.Need-put-field-requires-3
-put-field-requires-3 c κs =
     let at-put-field : tie.After-put-field = search in
     let at-start : tie.Start = search in
     let a = at-start .args in
-    room-one (a .last .item) (a .last .number) (a .part .item) (a .part .zero) (a .part .one) (a .out .now) _ (at-start .pre .1) _
-    (at-put-field .put-field .ensures) _ ((c .before .before .before) .put-field2 .ensures)
+    room-zero (a .last .item) (a .last .number) (a .part .item) (a .part .zero) (a .part .one) (a .out .now) (at-start .pre .1) _
+    (at-put-field .put-field .kept .0 ∙ length-set (a .out .now) 0 _) (at-put-field .put-field .ensures .0)
+
+put-field-requires-3 : tie.Need-put-field-requires-3
+put-field-requires-3 c κs =
+    let at-put-field2 : tie.After-put-field2 = search in
+    let at-put-field : tie.After-put-field = search in
+    let at-start : tie.Start = search in
+    let a = at-start .args in
+    room-one (a .last .item) (a .last .number) (a .part .item) (a .part .zero) (a .part .one) (a .out .now) (at-start .pre .1) _ _
+    (at-put-field2 .put-field2 .kept .0 ∙ at-put-field .put-field .kept .0 ∙ length-set (a .out .now) 0 _)
+    (at-put-field .put-field .ensures .0) (at-put-field2 .put-field2 .ensures .0)
 
 same-length : tie.Need-same-length
 same-length c =
