@@ -31,9 +31,9 @@ use Rattle.store.proofs.Plain.{plain-handle, plain-ran}
 use Rattle.file_read.specs.declared.file.Content.{Content}
 use Rattle.file_read.specs.declared.file.Content.the-variants.{Leaf, Parts, Bad}
 use Rattle.file_load.specs.Promise.{loadRefusal, loadFamily, LoadCall}
-use Rattle.file_table.specs.Inner.{Local, Nodes}
+use Rattle.file_table.specs.Inner.{Local, LocalNodes}
 use Rattle.file_place.specs.Inner.{PlacedOf}
-use Rattle.file_read.specs.Inner.{Holding, leaf, parts, nothing, ContentOf}
+use Rattle.file_read.specs.Inner.{Holding, holds-leaf, holds-parts, holds-none, ContentOf}
 use Rattle.file_read.proofs.Walks.{local-nodes}
 
 -- the promise's tests
@@ -60,7 +60,7 @@ none-of : {file words : List ℕ} {b : ℕ} {x : Content} → x ≡ Bad → Hold
 none-of e A = out (rw e at A)
   where
     out : {file words : List ℕ} {b : ℕ} → Holding file b words Bad → familyOf itemLimit file ≡ none
-    out (nothing is) = is
+    out (holds-none is) = is
 
 record LeafRead (file : List ℕ) (h : ℕ) : Type 0 where
   low : h < 2
@@ -70,7 +70,7 @@ leaf-of : {file words : List ℕ} {b : ℕ} {x : Content} (h : ℕ) → x ≡ Le
 leaf-of h e A = out (rw e at A)
   where
     out : {file words : List ℕ} {b h : ℕ} → Holding file b words (Leaf h) → LeafRead file h
-    out (leaf l is) = record { low = l; is = is }
+    out (holds-leaf l is) = record { low = l; is = is }
 
 pub record PartsRead (file : List ℕ) (b : ℕ) (words : List ℕ) (n : ℕ) : Type 0 where
   pub book : List Family
@@ -84,9 +84,9 @@ pub parts-of : {file words : List ℕ} {b : ℕ} {x : Content} (n : ℕ) → x �
 parts-of n e A = out (rw e at A)
   where
     out : {file words : List ℕ} {b n : ℕ} → Holding file b words (Parts n) → PartsRead file b words n
-    out (parts {C = C} is few low T own) = record { book = C; is = is; few = few; low = low; table = T; own = own }
+    out (holds-parts {C = C} is few low T own) = record { book = C; is = is; few = few; low = low; table = T; own = own }
 
-pub parts-nodes : {file words : List ℕ} {b n : ℕ} → PartsRead file b words n → Nodes words n
+pub parts-nodes : {file words : List ℕ} {b n : ℕ} → PartsRead file b words n → LocalNodes words n
 parts-nodes R = local-nodes (R .table)
 
 module _ (s : Store) (nodes lookup cache file words : List ℕ) (r : Placed) where

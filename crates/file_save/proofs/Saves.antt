@@ -34,7 +34,7 @@ use Rattle.file_save.specs.declared.SaveAnswer.the-variants.{Length, Ref
 use Rattle.file_save.specs.declared.Saved.{Saved}
 use Rattle.file_save.specs.Promise.{saveGivenBy, saveRefusal, saveAnswer, saveOutput, SaveCall}
 use Rattle.file_trail.specs.Inner.{Trailed, WalkOf}
-use Rattle.file_write.specs.Inner.{Writing, startAt, WritesOf}
+use Rattle.file_write.specs.Inner.{Writing, firstCursor, WritesOf}
 use Rattle.file_save.specs.Inner.{LeafOf, FileOf, PartsOf}
 use Rattle.file_trail.proofs.Trails.{trail-start}
 use Rattle.file_trail.proofs.Walking.{came-to, never}
@@ -56,7 +56,7 @@ file-written t nodes n links out {out₁} {r} {links′} {out′} h e l W =
       sound = λ B D lookup H T few. W .sound B D lookup (fileOfBook D) out H (T .parts-is) (begun T few);
     }
   where
-    begun : {B D : List Family} → Trailed B D n t links → t .length ≤ length out → Writing B D 2 (startAt (t .first)) links (fileOfBook D) out out₁
+    begun : {B D : List Family} → Trailed B D n t links → t .bytes ≤ length out → Writing B D 2 (firstCursor (t .first)) links (fileOfBook D) out out₁
     begun {B} {D} T few =
         let parts : t .parts ≡ length D - 2 = omega (arith, T .parts-is) in
         record {
@@ -66,7 +66,7 @@ file-written t nodes n links out {out₁} {r} {links′} {out′} h e l W =
           at-is = T .first-is;
           number-is = omega arith;
           place-low = omega (arith, file-length D);
-          room = omega (arith, file-length D, T .length-is);
+          room = omega (arith, file-length D, T .bytes-is);
           todo-is = refl;
           out-is = e ∙ rw parts (sets-front (1 ∷ bytesOf 4 (length D - 2)) out (omega arith));
           numbered = λ m a b c. absurd (omega arith);
@@ -74,8 +74,8 @@ file-written t nodes n links out {out₁} {r} {links′} {out′} h e l W =
         }
 
 -- the ways out of `save_parts`
-parts-first : Trail
-parts-first = record { first = 0; last = 1; item = 0; parts = 0; length = 5 }
+abbrev pub startTrail : Trail
+startTrail = record { first = 0; last = 1; item = 0; parts = 0; bytes = 5 }
 
 module _ (s : Store) (p : ℕ) (nodes links out : List ℕ) (two : 2 ≤ p) (lp : p ≤ s .count + 1) where
   pub parts-damaged : (r : Saved) → r .store ≡ s → itemLimit < topAt nodes p → PartsOf s p nodes links out r links out
@@ -89,16 +89,16 @@ module _ (s : Store) (p : ℕ) (nodes links out : List ℕ) (two : 2 ≤ p) (lp 
         gave = λ B lookup H l. absurd (omega (arith, top-at H p (omega arith), within H p (omega arith) .low));
       }
 
-  module _ (room : s .count ≤ length links) {links₁ : List ℕ} (el : links₁ ≡ zeroed 0 (s .count) links) (start′ : Trail) (is-start : (start′ .last ≡ 1) × (start′ .item ≡ 0) × (start′ .parts ≡ 0) × (start′ .length ≡ 5))
-      {x : Walked} {links₂ : List ℕ} (W : WalkOf start′ p nodes (s .count) links₁ x links₂) where
+  module _ (room : s .count ≤ length links) {links₁ : List ℕ} (el : links₁ ≡ zeroed 0 (s .count) links) 
+      {x : Walked} {links₂ : List ℕ} (W : WalkOf startTrail p nodes (s .count) links₁ x links₂) where
     long₂ : length links₂ ≡ length links
     long₂ = W .long ∙ ap length el ∙ zeroed-length 0 (s .count) links (omega arith) room
 
     rest₂ : (k : ℕ) → s .count ≤ k → getD links₂ k 0 ≡ getD links k 0
     rest₂ k l = W .rest k l ∙ ap (λ X. getD X k 0) el ∙ zeroed-after 0 (s .count) links (omega arith) room k l
 
-    begun : {B : List Family} {lookup : List ℕ} → Holds B (s .count) nodes lookup → Trailed B start (s .count) start′ links₁
-    begun H = trail-start H links₁ (λ k l. ap (λ X. getD X k 0) el ∙ zeroed-inside 0 (s .count) links (omega arith) room k (omega arith) l) start′ (is-start .0) (is-start .1) (is-start .2) (is-start .3)
+    begun : {B : List Family} {lookup : List ℕ} → Holds B (s .count) nodes lookup → Trailed B start (s .count) startTrail links₁
+    begun H = trail-start H links₁ (λ k l. ap (λ X. getD X k 0) el ∙ zeroed-inside 0 (s .count) links (omega arith) room k (omega arith) l) startTrail refl refl refl refl
 
     pub parts-broken : (r : Saved) → r .store ≡ s → x ≡ NoWay → PartsOf s p nodes links out r links₂ out
     parts-broken r es e =
@@ -124,10 +124,10 @@ module _ (s : Store) (p : ℕ) (nodes links out : List ℕ) (two : 2 ≤ p) (lp 
           go base e = absurd (let z : _≡_ {A = ℕ} 0 1 = cc in omega arith)
           go (node i a b) e = refl
 
-      length-is : {B : List Family} {lookup : List ℕ} → Holds B (s .count) nodes lookup → t .length ≡ length (fileOf (at B p))
-      length-is {B} H = trail H .length-is ∙ sym (file-length (place start (at B p))) ∙ ap length (sym (file-is H))
+      length-is : {B : List Family} {lookup : List ℕ} → Holds B (s .count) nodes lookup → t .bytes ≡ length (fileOf (at B p))
+      length-is {B} H = trail H .bytes-is ∙ sym (file-length (place start (at B p))) ∙ ap length (sym (file-is H))
 
-      pub parts-short : (r : Saved) → r .store ≡ s → length out < t .length → r .answer ≡ Refused Output → PartsOf s p nodes links out r links₂ out
+      pub parts-short : (r : Saved) → r .store ≡ s → length out < t .bytes → r .answer ≡ Refused Output → PartsOf s p nodes links out r links₂ out
       parts-short r es h ea =
           record {
             store-is = es;
@@ -138,7 +138,7 @@ module _ (s : Store) (p : ℕ) (nodes links out : List ℕ) (two : 2 ≤ p) (lp 
             gave = λ B lookup H l. absurd (omega (arith, length-is H));
           }
 
-      module _ (fit : t .length ≤ length out) {y : Bool} {links₃ out₃ : List ℕ} (F : FileOf t nodes (s .count) links₂ out y links₃ out₃) where
+      module _ (fit : t .bytes ≤ length out) {y : Bool} {links₃ out₃ : List ℕ} (F : FileOf t nodes (s .count) links₂ out y links₃ out₃) where
         wrote : {B : List Family} {lookup : List ℕ} → Holds B (s .count) nodes lookup → (y ≡ true) × (out₃ ≡ fileOf (at B p) ++ drop (length (fileOf (at B p))) out)
         wrote {B} {lookup} H = rw (file-is H) (F .sound B (place start (at B p)) lookup H (trail H) fit)
 
@@ -153,7 +153,7 @@ module _ (s : Store) (p : ℕ) (nodes links out : List ℕ) (two : 2 ≤ p) (lp 
               gave = λ B lookup H l. clash (wrote H .0) e;
             }
 
-        pub parts-done : (r : Saved) → r .store ≡ s → r .answer ≡ Length (t .length) → PartsOf s p nodes links out r links₃ out₃
+        pub parts-done : (r : Saved) → r .store ≡ s → r .answer ≡ Length (t .bytes) → PartsOf s p nodes links out r links₃ out₃
         parts-done r es ea =
             record {
               store-is = es;
@@ -184,7 +184,7 @@ module _ (s : Store) (nodes lookup : List ℕ) (p : ℕ) (scratch out : List ℕ
 
   module _ (e : fitting (s .capacity) (s .count) (length nodes) (length lookup) ≡ true) where
     -- refused by a test of handle and scratch
-    tested-out : (n : ℕ) → (n ≡ 0 → ⊥) → (Sound s nodes lookup [] → scratchTests B p (length scratch) ≡ n) → (r : Saved) → r .store ≡ s → saveGivenBy (r .answer) ≡ record { refusal = n; length = 0 }
+    tested-out : (n : ℕ) → (n ≡ 0 → ⊥) → (Sound s nodes lookup [] → scratchTests B p (length scratch) ≡ n) → (r : Saved) → r .store ≡ s → saveGivenBy (r .answer) ≡ record { refusal = n; fileLength = 0 }
         → SaveCall s nodes lookup p scratch out r scratch out
     unfolding saveAnswer saveRefusal saveOutput
     tested-out n some t r es ea =

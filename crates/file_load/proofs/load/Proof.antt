@@ -2,13 +2,14 @@
 -- Each way out is one law of loading.
 use borrow.Author.Needs.{needs}
 use native.Mathlib.Omega.{arith}
-use mathlib.Core.Path.{sym, _∙_}
-use borrow.Author.Tests.{not-true, not-false}
+use Rattle.store.proofs.Fitting.{test-refused, test-passed}
 use Rattle.store.proofs.Calls.{fits-roomy}
 use Rattle.file_load.proofs.Loads.{parts-of, parts-nodes, load-misfit, load-short, load-none, load-leaf, load-roomy, load-parts}
-use borrow.Author.Needs.{needs}
 use Rattle.file_load.proofs.load.Statement.{statement}
 use Rattle.file_load.proofs.load.Tie as tie
+
+abbrev begun : tie.Else1 → tie.Start
+begun c = search
 
 fits-requires : tie.Need-fits-requires
 fits-requires c κs = search needs
@@ -56,17 +57,10 @@ same-length-6 : tie.Need-same-length-6
 same-length-6 c = search needs
 
 returns : tie.Need-returns
-returns c =
-    let at-start : tie.Start = search in
-    let a = at-start .args in
-    load-misfit (a .store) (a .nodes .now) (a .lookup .now) (a .cache .now) (a .file .now) (a .words .now) _ (sym ((c .before .before) .fits2 .ensures) ∙ not-true _ ((c .before) .if1 .taken)) (c .refused .ensures .0) (c .refused .ensures .1)
+returns c = search (load-misfit, test-refused)
 
 returns-2 : tie.Need-returns-2
-returns-2 c =
-    let at-start : tie.Start = search in
-    let a = at-start .args in
-    load-short (a .store) (a .nodes .now) (a .lookup .now) (a .cache .now) (a .file .now) (a .words .now) _ (sym ((c .before .before .before) .fits2 .ensures) ∙ not-false _ ((c .before .before) .if1 .left))
-    ((c .before) .if2 .taken) (c .refused2 .ensures .0) (c .refused2 .ensures .1)
+returns-2 c = search (load-short, test-passed)
 
 place-parts-requires : tie.Need-place-parts-requires
 place-parts-requires c κs =
@@ -77,10 +71,14 @@ place-parts-requires c κs =
     let at-fits2 : tie.After-fits2 = search in
     let at-start : tie.Start = search in
     let a = at-start .args in
-    let R = parts-of _ (at-content2 .content2 .given .1) (at-read-file .read-file .ensures .outcome) in (
-      fits-roomy (a .store) (a .nodes .now) (a .lookup .now) (sym (at-fits2 .fits2 .ensures) ∙ not-false _ (at-if1 .if1 .left)),
-      (parts-nodes R, (omega (arith, at-read-file .read-file .ensures .long, at-if2 .if2 .left), R .few, R .low)),
-    )
+    let R = parts-of _ (at-content2 .content2 .given .1) (at-read-file .read-file .ensures .outcome) in
+    record {
+      roomy = fits-roomy (a .store) (a .nodes .now) (a .lookup .now) (test-passed (at-fits2 .fits2 .ensures) (at-if1 .if1 .left));
+      local = parts-nodes R;
+      room = omega (arith, at-read-file .read-file .ensures .long, at-if2 .if2 .left);
+      few = R .few;
+      low = R .low;
+    }
 
 finish-requires : tie.Need-finish-requires
 finish-requires c κs =
@@ -93,22 +91,13 @@ finish-requires c κs =
     let at-start : tie.Start = search (at-fits2) in
     let a = at-start .args in
     let P = at-place-parts .place-parts .ensures in (
-      load-roomy (a .store) (a .nodes .now) (a .lookup .now) (a .cache .now) (a .file .now) (a .words .now) (at-place-parts .place-parts .result) (sym (at-fits2 .fits2 .ensures) ∙ not-false _ (at-if1 .if1 .left))
+      load-roomy (a .store) (a .nodes .now) (a .lookup .now) (a .cache .now) (a .file .now) (a .words .now) (at-place-parts .place-parts .result) (test-passed (at-fits2 .fits2 .ensures) (at-if1 .if1 .left))
           (at-if2 .if2 .left) (at-read-file .read-file .ensures) _ (at-content2 .content2 .given .1) P,
       P .kept .grows,
     )
 
 returns-3 : tie.Need-returns-3
-returns-3 c =
-    let at-read-file : tie.After-read-file = search in
-    let at-if2 : tie.Else2 = search in
-    let at-if1 : tie.Else1 = search in
-    let at-fits2 : tie.After-fits2 = search in
-    let at-start : tie.Start = search in
-    let a = at-start .args in
-    load-leaf (a .store) (a .nodes .now) (a .lookup .now) (a .cache .now) (a .file .now) (a .words .now) _ (sym (at-fits2 .fits2 .ensures) ∙ not-false _ (at-if1 .if1 .left))
-    (at-if2 .if2 .left) (at-read-file .read-file .ensures) _ ((c .before .before) .content .given .1)
-    (c .placed .ensures .0) (c .placed .ensures .1)
+returns-3 c = search (load-leaf, test-passed)
 
 returns-4 : tie.Need-returns-4
 returns-4 c =
@@ -116,25 +105,16 @@ returns-4 c =
     let at-place-parts : tie.After-place-parts = search in
     let at-content2 : tie.After-content2 = search in
     let at-read-file : tie.After-read-file = search (at-content2) in
-    let at-if2 : tie.Else2 = search (at-content2) in
-    let at-if1 : tie.Else1 = search (at-content2) in
-    let at-fits2 : tie.After-fits2 = search (at-content2) in
-    let at-start : tie.Start = search (at-content2) in
+    let at-if2 : tie.Else2 = search (at-read-file) in
+    let at-if1 : tie.Else1 = search (at-if2) in
+    let at-fits2 : tie.After-fits2 = search (at-if1) in
+    let at-start : tie.Start = begun at-if1 in
     let a = at-start .args in
-    load-parts (a .store) (a .nodes .now) (a .lookup .now) (a .cache .now) (a .file .now) (a .words .now) _ (sym (at-fits2 .fits2 .ensures) ∙ not-false _ (at-if1 .if1 .left))
+    load-parts (a .store) (a .nodes .now) (a .lookup .now) (a .cache .now) (a .file .now) (a .words .now) _ (test-passed (at-fits2 .fits2 .ensures) (at-if1 .if1 .left))
     (at-if2 .if2 .left) (at-read-file .read-file .ensures) _ (at-content2 .content2 .given .1) (at-place-parts .place-parts .ensures) (at-finish .finish .ensures)
 
 returns-5 : tie.Need-returns-5
-returns-5 c =
-    let at-read-file : tie.After-read-file = search in
-    let at-if2 : tie.Else2 = search in
-    let at-if1 : tie.Else1 = search in
-    let at-fits2 : tie.After-fits2 = search in
-    let at-start : tie.Start = search in
-    let a = at-start .args in
-    load-none (a .store) (a .nodes .now) (a .lookup .now) (a .cache .now) (a .file .now) (a .words .now) _ (sym (at-fits2 .fits2 .ensures) ∙ not-false _ (at-if1 .if1 .left))
-    (at-if2 .if2 .left) (at-read-file .read-file .ensures) ((c .before) .enum-told .given .1)
-    (c .refused3 .ensures .0) (c .refused3 .ensures .1)
+returns-5 c = search (load-none, test-passed)
 
 pub load-spec : {M : Type 1} → statement M
 load-spec =
