@@ -21,7 +21,8 @@ use Rattle.query_sizes.specs.NodeSizes.{most}
 use Rattle.query_size.specs.Promise.{sizeRefusal, sizeAnswer}
 use Rattle.query_has.specs.Promise.{hasAnswer}
 use Rattle.file_save.specs.Promise.{saveRefusal}
-use Rattle.file_load.specs.Promise.{noFile, loadRefusal, found, loadFamily}
+use Rattle.store_node.specs.Inner.{found}
+use Rattle.file_load.specs.Promise.{noFile, loadRefusal, loadFamily}
 use Rattle.lists.specs.Calls.{Operation, numberOf, Call, Operate, Size, Has, Save, Load, Audit}
 use Rattle.lists.specs.Acts.{count}
 use Rattle.lists.specs.Books.{bookAnswer}

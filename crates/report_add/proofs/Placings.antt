@@ -24,7 +24,8 @@ use Rattle.store.specs.Placing.{tooLarge, placeAnswer, placeBook}
 use Rattle.store.specs.Promise.{leaves, placing, PlaceCall}
 use Rattle.store.proofs.Decoding.{sound-holds}
 use Rattle.store.proofs.Recovering.{book-of-words}
-use Rattle.op_promise.specs.Promise.{isItem, operationRefusal, OperationCall}
+use Rattle.store.specs.Tests.{isItem}
+use Rattle.op_promise.specs.Promise.{operationRefusal, OperationCall}
 use Rattle.report_add.specs.Promise.{placed, After}
 
 -- the two ways that a call has which nothing refuses before it places
