@@ -17,16 +17,21 @@ use Rattle.words.specs.Words.{zeroed}
 use Rattle.words.proofs.Cases.{by-lt, by-eq, clash}
 use Rattle.words.proofs.Zeroed.{rest-drop, zeroed-length, zeroed-inside, zeroed-after}
 use Rattle.store.specs.declared.record.Store.{Store}
-use Rattle.store.specs.declared.record.Refusal.the-variants.{Handle, Scratch, Output, Damaged}
-use Rattle.store.specs.Capacity.{fitting}
+use Rattle.store.specs.declared.record.Refusal.the-variants.{Output}
 use Rattle.store.specs.Scratch.{scratchTests}
 use Rattle.store.specs.Words.{itemLimit, topAt, bookOf}
 use Rattle.store.specs.Sound.{Sound}
 use Rattle.store.specs.Inner.{Holds}
 use Rattle.store.proofs.Held.{at-0, at-1, top-at, within, at-node}
 use Rattle.store.proofs.Decoding.{sound-holds}
-use Rattle.store.proofs.Calls.{sound-fits}
-use Rattle.store.proofs.Tested.{tests-handle, tests-scratch, tests-passed}
+use Rattle.store.proofs.Calls.{refusal-some, sound-fits}
+use Rattle.store.proofs.Testing.{Tested, tested-refuses}
+use Rattle.store.specs.Tests.{testsOf, Found}
+use Rattle.store.specs.Refusals.{refusalNumber}
+use Rattle.store.specs.declared.tests.Test.{Test}
+use Rattle.store.specs.declared.tests.Test.the-variants.{Refuses}
+use Rattle.store.specs.declared.record.Refusal.{Refusal}
+use Rattle.store.proofs.Tested.{scratch-number}
 use Rattle.file_trail.specs.declared.trail.Trail.{Trail}
 use Rattle.file_trail.specs.declared.walk.Walked.{Walked}
 use Rattle.file_trail.specs.declared.walk.Walked.the-variants.{Went, Broken as NoWay}
@@ -169,82 +174,75 @@ module _ (s : Store) (nodes lookup : List ℕ) (p : ℕ) (scratch out : List ℕ
   abbrev B : List Family
   B = bookOf nodes (s .count)
 
-  pub save-misfit : (r : Saved) → r .store ≡ s → fitting (s .capacity) (s .count) (length nodes) (length lookup) ≡ false → r .answer ≡ Refused Damaged → SaveCall s nodes lookup p scratch out r scratch out
-  save-misfit r es e ea =
-      record {
-        misfit = λ d. (ea, refl, refl);
-        answer-is = λ S. clash (sound-fits S) e;
-        out-is = λ S. clash (sound-fits S) e;
+  tests-are : Sound s nodes lookup [] → scratchTests B p (length scratch) ≡ testsOf (s .count) p 0 0 (length scratch) (s .count)
+  tests-are S = scratch-number B (s .count) p (length scratch) (sound-holds S .size)
+
+  -- refused by a test: all words as they came
+  pub save-refused : {a : Test} → Found s (length nodes) (length lookup) p 0 0 (length scratch) (s .count) a → {x : Refusal} → a ≡ Refuses x
+      → (r : Saved) → r .store ≡ s → r .answer ≡ Refused x → SaveCall s nodes lookup p scratch out r scratch out
+  unfolding saveAnswer saveRefusal saveOutput
+  save-refused F {x} e r es ea =
+      tested-refuses nodes lookup F e
+      (λ t d. record {
+        misfit = λ q. (ea ∙ ap Refused d, refl, refl);
+        answer-is = λ S. clash (sound-fits S) t;
+        out-is = λ S. clash (sound-fits S) t;
         scratch-stays = λ S n. refl;
         scratch-rest = refl;
         store-is = es;
         long = refl;
         long-out = refl;
-      }
+      })
+      (λ t d. record {
+        misfit = λ q. clash t q;
+        answer-is = λ S. let n = ne-eqb (refusalNumber x) 0 (refusal-some x) in ap saveGivenBy ea ∙ rw (tests-are S, ← d, n, n);
+        out-is = λ S. let n = ne-eqb (refusalNumber x) 0 (refusal-some x) in rw (tests-are S, ← d, n, n);
+        scratch-stays = λ S n. refl;
+        scratch-rest = refl;
+        store-is = es;
+        long = refl;
+        long-out = refl;
+      })
 
-  module _ (e : fitting (s .capacity) (s .count) (length nodes) (length lookup) ≡ true) where
-    -- refused by a test of handle and scratch
-    tested-out : (n : ℕ) → (n ≡ 0 → ⊥) → (Sound s nodes lookup [] → scratchTests B p (length scratch) ≡ n) → (r : Saved) → r .store ≡ s → saveGivenBy (r .answer) ≡ record { refusal = n; fileLength = 0 }
-        → SaveCall s nodes lookup p scratch out r scratch out
+  module _ (P : Tested s nodes lookup p 0 0 (length scratch) (s .count)) where
+    passed : Sound s nodes lookup [] → scratchTests B p (length scratch) ≡ 0
+    passed S = tests-are S ∙ P .number-is
+
+    -- by whether the output has room for the file
+    told : (r : Saved) (scratch′ out′ : List ℕ) → r .store ≡ s → length scratch′ ≡ length scratch → length out′ ≡ length out → ((k : ℕ) → s .count ≤ k → getD scratch′ k 0 ≡ getD scratch k 0)
+        → (Sound s nodes lookup [] → length out < length (fileOf (at B p)) → (r .answer ≡ Refused Output) × (out′ ≡ out))
+        → (Sound s nodes lookup [] → length (fileOf (at B p)) ≤ length out → (r .answer ≡ Length (length (fileOf (at B p)))) × (out′ ≡ fileOf (at B p) ++ drop (length (fileOf (at B p))) out))
+        → SaveCall s nodes lookup p scratch out r scratch′ out′
     unfolding saveAnswer saveRefusal saveOutput
-    tested-out n some t r es ea =
+    told r scratch′ out′ es l lo rest short long =
         record {
-          misfit = λ d. clash e d;
-          answer-is = λ S. ea ∙ rw (t S, ne-eqb n 0 some, ne-eqb n 0 some);
-          out-is = λ S. rw (t S, ne-eqb n 0 some, ne-eqb n 0 some);
-          scratch-stays = λ S m. refl;
-          scratch-rest = refl;
+          misfit = λ d. clash (P .fits) d;
+          answer-is = λ S. by-lt (length out) (length (fileOf (at B p)))
+              (λ h q. ap saveGivenBy (short S h .0) ∙ rw (passed S, q))
+              (λ h q. ap saveGivenBy (long S h .0) ∙ rw (passed S, q));
+          out-is = λ S. by-lt (length out) (length (fileOf (at B p))) (λ h q. short S h .1 ∙ rw (passed S, q)) (λ h q. long S h .1 ∙ rw (passed S, q));
+          scratch-stays = λ S n. absurd (n (passed S));
+          scratch-rest = rest-drop (s .count) scratch scratch′ l rest;
           store-is = es;
-          long = refl;
-          long-out = refl;
+          long = l;
+          long-out = lo;
         }
 
-    pub save-handle : s .count + 1 < p → (r : Saved) → r .store ≡ s → r .answer ≡ Refused Handle → SaveCall s nodes lookup p scratch out r scratch out
-    save-handle l r es ea = tested-out 4 (omega arith) (λ S. tests-handle B (s .count) p (length scratch) (sound-holds S .size) l) r es (ap saveGivenBy ea)
+    pub save-leaf : p < 2 → (r : Saved) {out′ : List ℕ} → LeafOf s p out r out′ → SaveCall s nodes lookup p scratch out r scratch out′
+    save-leaf h r {out′} L =
+        told r scratch out′ (L .store-is) refl (L .long-out) (λ k l. refl)
+        (λ S l. L .refused (omega (arith, one S)))
+        (λ S l. let g = L .gave (λ z. omega (arith, one S)) in (g .0 ∙ ap Length (sym (one S)), g .1 ∙ laid S (λ z. omega (arith, one S))))
+      where
+        leaf : Sound s nodes lookup [] → fileOf (at B p) ≡ cond (eqb p 0) 0 2 ∷ []
+        leaf S = by-eq p 0 (λ q d. rw (d, q, at-0 (sound-holds S))) (λ q d. let one : p ≡ 1 = omega arith in rw (d, one, at-1 (sound-holds S)))
 
-    module _ (lp : p ≤ s .count + 1) where
-      pub save-scratch : length scratch < s .count → (r : Saved) → r .store ≡ s → r .answer ≡ Refused Scratch → SaveCall s nodes lookup p scratch out r scratch out
-      save-scratch l r es ea = tested-out 7 (omega arith) (λ S. tests-scratch B (s .count) p (length scratch) (sound-holds S .size) lp l) r es (ap saveGivenBy ea)
+        one : Sound s nodes lookup [] → length (fileOf (at B p)) ≡ 1
+        one S = ap length (leaf S)
 
-      module _ (room : s .count ≤ length scratch) where
-        passed : Sound s nodes lookup [] → scratchTests B p (length scratch) ≡ 0
-        passed S = tests-passed B (s .count) p (length scratch) (sound-holds S .size) lp room
+        laid : Sound s nodes lookup [] → (length out ≡ 0 → ⊥) → set out 0 (cond (eqb p 0) 0 2) ≡ fileOf (at B p) ++ drop (length (fileOf (at B p))) out
+        laid S n = rw (leaf S) (sets-front (cond (eqb p 0) 0 2 ∷ []) out (omega arith))
 
-        -- by whether the output has room for the file
-        told : (r : Saved) (scratch′ out′ : List ℕ) → r .store ≡ s → length scratch′ ≡ length scratch → length out′ ≡ length out → ((k : ℕ) → s .count ≤ k → getD scratch′ k 0 ≡ getD scratch k 0)
-            → (Sound s nodes lookup [] → length out < length (fileOf (at B p)) → (r .answer ≡ Refused Output) × (out′ ≡ out))
-            → (Sound s nodes lookup [] → length (fileOf (at B p)) ≤ length out → (r .answer ≡ Length (length (fileOf (at B p)))) × (out′ ≡ fileOf (at B p) ++ drop (length (fileOf (at B p))) out))
-            → SaveCall s nodes lookup p scratch out r scratch′ out′
-        unfolding saveAnswer saveRefusal saveOutput
-        told r scratch′ out′ es l lo rest short long =
-            record {
-              misfit = λ d. clash e d;
-              answer-is = λ S. by-lt (length out) (length (fileOf (at B p)))
-                  (λ h q. ap saveGivenBy (short S h .0) ∙ rw (passed S, q))
-                  (λ h q. ap saveGivenBy (long S h .0) ∙ rw (passed S, q));
-              out-is = λ S. by-lt (length out) (length (fileOf (at B p))) (λ h q. short S h .1 ∙ rw (passed S, q)) (λ h q. long S h .1 ∙ rw (passed S, q));
-              scratch-stays = λ S n. absurd (n (passed S));
-              scratch-rest = rest-drop (s .count) scratch scratch′ l rest;
-              store-is = es;
-              long = l;
-              long-out = lo;
-            }
-
-        pub save-leaf : p < 2 → (r : Saved) {out′ : List ℕ} → LeafOf s p out r out′ → SaveCall s nodes lookup p scratch out r scratch out′
-        save-leaf h r {out′} L =
-            told r scratch out′ (L .store-is) refl (L .long-out) (λ k l. refl)
-            (λ S l. L .refused (omega (arith, one S)))
-            (λ S l. let g = L .gave (λ z. omega (arith, one S)) in (g .0 ∙ ap Length (sym (one S)), g .1 ∙ laid S (λ z. omega (arith, one S))))
-          where
-            leaf : Sound s nodes lookup [] → fileOf (at B p) ≡ cond (eqb p 0) 0 2 ∷ []
-            leaf S = by-eq p 0 (λ q d. rw (d, q, at-0 (sound-holds S))) (λ q d. let one : p ≡ 1 = omega arith in rw (d, one, at-1 (sound-holds S)))
-
-            one : Sound s nodes lookup [] → length (fileOf (at B p)) ≡ 1
-            one S = ap length (leaf S)
-
-            laid : Sound s nodes lookup [] → (length out ≡ 0 → ⊥) → set out 0 (cond (eqb p 0) 0 2) ≡ fileOf (at B p) ++ drop (length (fileOf (at B p))) out
-            laid S n = rw (leaf S) (sets-front (cond (eqb p 0) 0 2 ∷ []) out (omega arith))
-
-        pub save-parts : (r : Saved) {scratch′ out′ : List ℕ} → PartsOf s p nodes scratch out r scratch′ out′ → SaveCall s nodes lookup p scratch out r scratch′ out′
-        save-parts r {scratch′} {out′} P =
-            told r scratch′ out′ (P .store-is) (P .long) (P .long-out) (P .rest) (λ S l. P .refused B lookup (sound-holds S) l) (λ S l. P .gave B lookup (sound-holds S) l)
+    pub save-parts : (r : Saved) {scratch′ out′ : List ℕ} → PartsOf s p nodes scratch out r scratch′ out′ → SaveCall s nodes lookup p scratch out r scratch′ out′
+    save-parts r {scratch′} {out′} W =
+        told r scratch′ out′ (W .store-is) (W .long) (W .long-out) (W .rest) (λ S l. W .refused B lookup (sound-holds S) l) (λ S l. W .gave B lookup (sound-holds S) l)

@@ -15,6 +15,8 @@ use file_record::write::put_field;
 use store::node::top_of;
 use store::record::Refusal;
 use store::record::Store;
+use store::tests::Test;
+use store::tests::tested;
 use file_trail::trail::Trail;
 use file_trail::walk::Walked;
 use file_trail::walk::walk;
@@ -133,22 +135,20 @@ pub fn save(
 ) -> Saved
     ensures { λ r. ⌜ SaveCall store (now (nodes .entry)) (now (lookup .entry)) p (now (links .entry)) (now (out .entry)) r (now (links .exit)) (now (out .exit)) ⌝ }
 {
-    if !store.fits(nodes.len(), lookup.len()) {
+    let found = tested(
+        store,
+        nodes.len(),
+        lookup.len(),
+        p,
+        0,
+        Test::Clear,
+        links.len(),
+        store.count as usize,
+    );
+    if let Test::Refuses(refusal) = found {
         return Saved {
             store: store,
-            answer: SaveAnswer::Refused(Refusal::Damaged),
-        };
-    }
-    if !store.holds(p) {
-        return Saved {
-            store: store,
-            answer: SaveAnswer::Refused(Refusal::Handle),
-        };
-    }
-    if links.len() < store.count as usize {
-        return Saved {
-            store: store,
-            answer: SaveAnswer::Refused(Refusal::Scratch),
+            answer: SaveAnswer::Refused(refusal),
         };
     }
     if p < 2 {

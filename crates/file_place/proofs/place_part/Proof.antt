@@ -51,15 +51,13 @@ get-node-requires c κs =
     let at-handle-at : tie.After-handle-at = search in
     let at-start : tie.Start = search in
     let p = at-start .pre in
-    (
-      p .roomy,
-      (
-        p .local .item-some,
-        p .local .item-low,
-        omega (arith, at-handle-at .handle-at .ensures, p .handles .each _ (p .local .zero-before)),
-        omega (arith, (c .before .before .before) .handle-at2 .ensures, p .handles .each _ (p .local .one-before)),
-      ),
-    )
+    record {
+      roomy = p .roomy;
+      item-some = p .local .item-some;
+      item-low = p .local .item-low;
+      zero-held = omega (arith, at-handle-at .handle-at .ensures, p .handles .each _ (p .local .zero-before));
+      one-held = omega (arith, (c .before .before .before) .handle-at2 .ensures, p .handles .each _ (p .local .one-before));
+    }
 
 returns : tie.Need-returns
 returns c = search node-as
