@@ -13,8 +13,7 @@ use Rattle.family.specs.Book.{at, Held, Book}
 use Rattle.family.specs.File.{familyOf}
 use Rattle.family.proofs.Books.{held-at, held-empty}
 use Rattle.store.specs.Words.{itemLimit}
-use Rattle.store_node.specs.Inner.{found}
-use Rattle.file_load.specs.Promise.{noFile, loadRefusal, loadFamily}
+use Rattle.file_load.specs.Promise.{noFile, foundFamily, loadRefusal, loadFamily}
 use Rattle.lists.specs.Calls.{numberOf, Call, Operate, Size, Has, Save, Load, Audit, Fact}
 use Rattle.lists.specs.Acts.{count, Act, Gives, Saves, Places, actOf}
 use Rattle.lists.proofs.Limits.{named-within, file-within}
@@ -29,7 +28,7 @@ unfolding loadRefusal loadFamily
 load-finds file scratch e =
     by-test (ltb scratch (6 * length file)) (λ s. absurd (omega (arith, rw s at e))) (λ s. by-file (familyOf itemLimit file) (rw s at e))
   where
-    by-file : (o : Option Family) → noFile o ≡ 0 → o ≡ some (found o)
+    by-file : (o : Option Family) → noFile o ≡ 0 → o ≡ some (foundFamily o)
     by-file none d = absurd (omega arith)
     by-file (some F) d = refl
 

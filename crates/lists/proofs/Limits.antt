@@ -1,15 +1,14 @@
 -- The families that calls take keep to the limit: those of an operation and those of a file.
 -- An operation keeps to the limit of its operands, and reading a file adds only nodes that fit a book.
 use Prim.Native.Nat.{ℕ, zero, suc, _+_, _≤_, _<_}
-use mathlib.Core.Path.{_≡_}
+use mathlib.Core.Path.{_≡_, sym, _∙_}
 use mathlib.Core.Bool.{true, cond, _&&_}
 use mathlib.Core.List.{List, [], _∷_, _++_}
 use mathlib.Core.Option.{none, some}
 use native.Mathlib.Omega.{arith}
-use lib.Dec.{eqb, ltb, leb}
+use lib.Dec.{eqb, ltb}
 use lib.ListN.{length, List·getD-eq-default}
-use borrow.Author.Tests.{ltb-true, leb-true, lt-ltb}
-use Rattle.words.proofs.Cases.{by-test, by-eq, by-lt, and-inv}
+use Rattle.words.proofs.Cases.{by-eq, by-lt}
 use Rattle.family.specs.Family.{Family, empty, base, Within}
 use Rattle.family.specs.Book.{start, at, Book}
 use Rattle.family.specs.Record.{readNumber, Triple, triple, itemOf, readRecord}
@@ -21,7 +20,9 @@ use Rattle.family.proofs.Reading.{fits-next, book-next}
 use Rattle.store.specs.Words.{itemLimit}
 use Rattle.store.specs.Cache.{named}
 use Rattle.store.proofs.Naming.{named-families, named-item, families-within, restrict-within}
-use Rattle.store.specs.Tests.{isItem}
+use Rattle.store.specs.Tests.{itemTest}
+use Rattle.store.proofs.Testing.{item-passed, passes}
+use Rattle.op_promise.proofs.Refusing.{item-number}
 use Rattle.op_promise.specs.Promise.{operationRefusal}
 
 empty-within : (limit : ℕ) → Within limit empty
@@ -33,15 +34,8 @@ at-within {limit} B book k =
     by-lt k (length B) (λ h e. book .within (at B k) (held-at B book k h)) (λ h e. rw (List·getD-eq-default B empty {n = k} h) (empty-within limit))
 
 -- an operation that is not refused has an item where it takes one
-item-bounds : (v : ℕ) → isItem v ≡ true → (1 ≤ v) × (v ≤ itemLimit)
-unfolding isItem
-item-bounds v e = and-inv (ltb 0 v) (leb v itemLimit) e (λ p q. (ltb-true 0 v p, leb-true v itemLimit q))
-
 item-some : (op n p q : ℕ) → op < 4 → operationRefusal op n p q ≡ 0 → (1 ≤ q) × (q ≤ itemLimit)
-unfolding operationRefusal
-item-some op n p q l e =
-    item-bounds q (by-test (isItem q) (λ i. i)
-    (λ i. absurd (by-lt (n + 1) p (λ h t. omega (arith, rw t at e)) (λ h t. omega (arith, rw (t, lt-ltb op 4 l, i) at e)))))
+item-some op n p q l e = item-passed q (passes n p 0 (itemTest q) 0 0 (sym (item-number op n p q l) ∙ e) .none)
 
 -- the family that an operation names, by the operation's number
 pub named-within : (op : ℕ) (B : List Family) → Book itemLimit B → (n p q : ℕ) → operationRefusal op n p q ≡ 0 → Within itemLimit (named op B p q)

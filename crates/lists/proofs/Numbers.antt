@@ -1,7 +1,7 @@
 -- What the promises' definitions give, by the number that refuses a call: each number is a refusal's, and what Size
 -- and Save write is as long as what they were lent. Each case of the tests is one line.
-use Prim.Native.Nat.{ℕ, _+_, _*_, _-_, min}
-use mathlib.Core.Path.{_≡_, _∙_}
+use Prim.Native.Nat.{ℕ, _+_, _*_, _-_, _≤_, min}
+use mathlib.Core.Path.{_≡_, refl, _∙_}
 use mathlib.Core.Bool.{Bool, cond}
 use mathlib.Core.List.{List}
 use mathlib.Core.Option.{Option, none, some}
@@ -9,7 +9,7 @@ use native.Mathlib.Omega.{arith}
 use lib.Dec.{eqb, ltb}
 use lib.ListN.{length, drop, length-append, length-drop, length-map}
 use borrow.Author.Tests.{ne-eqb}
-use Rattle.words.proofs.Cases.{by-test, by-lt}
+use Rattle.words.proofs.Cases.{by-test, by-lt, by-eq}
 use Rattle.family.specs.Family.{Family, size}
 use Rattle.family.specs.Book.{at}
 use Rattle.family.specs.File.{fileOf, familyOf}
@@ -19,7 +19,9 @@ use Rattle.store.specs.Refusals.{refusalNumber}
 use Rattle.store.specs.Words.{itemLimit}
 use Rattle.store.specs.Scratch.{scratchTests}
 use Rattle.store.proofs.Calls.{refusal-some}
-use Rattle.store.specs.Tests.{isItem}
+use Rattle.store.specs.Tests.{isItem, testsOf}
+use Rattle.store.proofs.Testing.{passes}
+use Rattle.query_has.specs.Promise.{hasRefusal}
 use Rattle.op_promise.specs.Promise.{operationRefusal}
 use Rattle.query_sizes.specs.NodeSizes.{most, sizesOf}
 use Rattle.query_size.specs.declared.SizeAnswer.the-variants.{Members, Refused as SizeRefused}
@@ -33,13 +35,23 @@ pub data Refusing : ℕ → Type 0 where
   nothing : Refusing 0
   refuses : (x : Refusal) → (refusalNumber x ≡ 5 → ⊥) → Refusing (refusalNumber x)
 
+-- the tests of a call, where its own finds a refusal other than 5 or none
+tests-refusing : (n p q : ℕ) {own : ℕ} (scratch need : ℕ) → Refusing own → Refusing (testsOf n p q own scratch need)
+unfolding testsOf
+tests-refusing n p q scratch need own =
+    by-test (ltb (n + 1) p) (λ a. rw a (refuses NoHandle (λ e. omega arith)))
+    (λ a. rw a (by-test (ltb (n + 1) q) (λ b. rw b (refuses NoHandle (λ e. omega arith))) (λ b. rw b (by-own own))))
+  where
+    by-own : {own : ℕ} → Refusing own → Refusing (cond (eqb own 0) (cond (ltb scratch need) 7 0) own)
+    by-own nothing = by-test (ltb scratch need) (λ s. rw s (refuses Scratch (λ e. omega arith))) (λ s. rw s nothing)
+    by-own (refuses x five) = rw (ne-eqb (refusalNumber x) 0 (refusal-some x)) (refuses x five)
+
 pub operation-refusing : (op n p q : ℕ) → Refusing (operationRefusal op n p q)
 unfolding operationRefusal
 operation-refusing op n p q =
-    by-test (ltb (n + 1) p) (λ a. rw a (refuses NoHandle (λ e. omega arith)))
-    (λ a. rw a (by-test (ltb op 4)
-    (λ t. rw t (by-test (isItem q) (λ i. rw i nothing) (λ i. rw i (refuses Item (λ e. omega arith)))))
-    (λ t. rw t (by-test (ltb (n + 1) q) (λ b. rw b (refuses NoHandle (λ e. omega arith))) (λ b. rw b nothing)))))
+    by-test (ltb op 4)
+    (λ t. rw t (tests-refusing n p 0 0 0 (by-test (isItem q) (λ i. rw i nothing) (λ i. rw i (refuses Item (λ e. omega arith))))))
+    (λ t. rw t (tests-refusing n p q 0 0 nothing))
 
 pub load-refusing : (file : List ℕ) (words : ℕ) → Refusing (loadRefusal file words)
 unfolding loadRefusal
@@ -52,9 +64,16 @@ load-refusing file words =
 
 scratch-refusing : (B : List Family) (p words : ℕ) → Refusing (scratchTests B p words)
 unfolding scratchTests
-scratch-refusing B p words =
-    by-test (ltb (length B - 2 + 1) p) (λ a. rw a (refuses NoHandle (λ e. omega arith)))
-    (λ a. rw a (by-test (ltb words (length B - 2)) (λ s. rw s (refuses Scratch (λ e. omega arith))) (λ s. rw s nothing)))
+scratch-refusing B p words = tests-refusing (length B - 2) p 0 words (length B - 2) nothing
+
+pub has-refusing : (B : List Family) (p : ℕ) → Refusing (hasRefusal B p)
+unfolding hasRefusal
+has-refusing B p = tests-refusing (length B - 2) p 0 0 0 nothing
+
+-- a number of these is 0 or a refusal's
+pub by-refusing {ℓ} : {A : Type ℓ} {n : ℕ} → Refusing n → (n ≡ 0 → A) → ((x : Refusal) → n ≡ refusalNumber x → A) → A
+by-refusing nothing f g = f refl
+by-refusing (refuses x five) f g = g x refl
 
 -- the tests of the scratch, and then one more
 then-refusing : {n : ℕ} (b : Bool) (x : Refusal) → (refusalNumber x ≡ 5 → ⊥) → Refusing n → Refusing (cond (eqb n 0) (cond b (refusalNumber x) 0) n)
@@ -78,13 +97,18 @@ pub size-some : (B : List Family) (p words : ℕ) (x : Refusal) → sizeRefusal 
 unfolding sizeAnswer
 size-some B p words x e = rw (e, ne-eqb (refusalNumber x) 0 (refusal-some x))
 
+-- scratch that no test refuses has a word per node held
+scratch-room : (B : List Family) (p words : ℕ) → scratchTests B p words ≡ 0 → length B - 2 ≤ words
+unfolding scratchTests
+scratch-room B p words e = passes (length B - 2) p 0 0 words (length B - 2) e .room
+
 pub size-long : (B : List Family) (p : ℕ) (scratch : List ℕ) → length (sizeScratch B p scratch) ≡ length scratch
-unfolding sizeScratch scratchTests sizesOf
+unfolding sizeScratch sizesOf
 size-long B p scratch =
-    by-test (ltb (length B - 2 + 1) p) (λ a. rw a)
-    (λ a. rw a (by-lt (length scratch) (length B - 2) (λ l t. rw t)
-    (λ l t. rw t (length-append (sizesOf B) (drop (length B - 2) scratch)
-    ∙ omega (arith, length-map (drop 2 B) (λ F. min (size F) most), length-drop 2 B, length-drop (length B - 2) scratch)))))
+    by-eq (scratchTests B p (length scratch)) 0
+    (λ z e. rw e (length-append (sizesOf B) (drop (length B - 2) scratch)
+    ∙ omega (arith, scratch-room B p (length scratch) z, length-map (drop 2 B) (λ F. min (size F) most), length-drop 2 B, length-drop (length B - 2) scratch)))
+    (λ z e. rw e)
 
 pub save-none : (B : List Family) (p words room : ℕ) → saveRefusal B p words room ≡ 0 → saveGivenBy (Length (length (fileOf (at B p)))) ≡ saveAnswer B p words room
 unfolding saveAnswer
@@ -94,11 +118,18 @@ pub save-some : (B : List Family) (p words room : ℕ) (x : Refusal) → saveRef
 unfolding saveAnswer
 save-some B p words room x e = rw (e, ne-eqb (refusalNumber x) 0 (refusal-some x))
 
+-- an output that Save does not refuse has room for the file
+save-room : (B : List Family) (p words room : ℕ) → saveRefusal B p words room ≡ 0 → length (fileOf (at B p)) ≤ room
+unfolding saveRefusal
+save-room B p words room d =
+    by-eq (scratchTests B p words) 0
+    (λ z e. by-lt room (length (fileOf (at B p))) (λ l t. absurd (omega (arith, rw (e, t) at d))) (λ l t. l))
+    (λ z e. absurd (z (rw e at d)))
+
 pub save-long : (B : List Family) (p words : ℕ) (out : List ℕ) → length (saveOutput B p words out) ≡ length out
-unfolding saveOutput saveRefusal scratchTests
+unfolding saveOutput
 save-long B p words out =
     let file = fileOf (at B p) in
-    by-test (ltb (length B - 2 + 1) p) (λ a. rw a)
-    (λ a. rw a (by-test (ltb words (length B - 2)) (λ s. rw s)
-    (λ s. rw s (by-lt (length out) (length file) (λ l t. rw t)
-    (λ l t. rw t (length-append file (drop (length file) out) ∙ omega (arith, length-drop (length file) out)))))))
+    by-eq (saveRefusal B p words (length out)) 0
+    (λ z e. rw e (length-append file (drop (length file) out) ∙ omega (arith, save-room B p words (length out) z, length-drop (length file) out)))
+    (λ z e. rw e)

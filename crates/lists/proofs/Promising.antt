@@ -1,14 +1,14 @@
 -- Every promise can be kept on a sound store: for each call there is something to return and to leave as it says.
 -- What the promises define for the book that the words hold is itself such a thing: the words of a book are sound, a
 -- cache that was true stays so as the book grows, and one of zeros is true of every book.
-use Prim.Native.Nat.{ℕ, _+_, _*_, _-_, _/_, _≤_}
+use Prim.Native.Nat.{ℕ, _*_, _-_, _/_, _≤_}
 use mathlib.Core.Path.{_≡_, refl, sym}
 use mathlib.Core.Bool.{true, false}
 use mathlib.Core.List.{List, []}
 use native.Mathlib.Omega.{arith}
-use lib.Dec.{ltb}
 use lib.ListN.{length}
-use borrow.Author.Tests.{ltb-false}
+use borrow.Author.Tests.{ltb-false, ne-eqb}
+use Rattle.lists.proofs.Numbers.{has-refusing, by-refusing}
 use Rattle.words.specs.Words.{zeroed}
 use Rattle.words.proofs.Cases.{by-test, clash}
 use Rattle.words.proofs.Zeroed.{zeroed-length, zeroed-drop}
@@ -18,7 +18,7 @@ use Rattle.family.specs.File.{fileOf}
 use Rattle.family.proofs.Placing.{place-grown, book-place}
 use Rattle.family.proofs.Different.{place-length}
 use Rattle.store.specs.declared.record.Store.{Store}
-use Rattle.store.specs.declared.record.Refusal.the-variants.{Handle as NoHandle, Full}
+use Rattle.store.specs.declared.record.Refusal.the-variants.{Full}
 use Rattle.store.specs.declared.record.PlaceAnswer.the-variants.{Handle, Refused}
 use Rattle.store.specs.declared.record.Placed.{Placed}
 use Rattle.store.specs.Refusals.{refusalNumber}
@@ -26,7 +26,7 @@ use Rattle.store.specs.Words.{itemLimit, bookOf, nodesWith, lookupOf}
 use Rattle.store.specs.Placing.{costOf, tooLarge}
 use Rattle.store.specs.Promise.{cacheRefused, PlaceCall}
 use Rattle.store.specs.Sound.{Sound}
-use Rattle.store.proofs.Calls.{sound-fits, call-refused}
+use Rattle.store.proofs.Calls.{sound-fits, call-refused, refusal-some}
 use Rattle.store.proofs.Decoding.{sound-holds}
 use Rattle.store.proofs.Sounds.{zeroed-true}
 use Rattle.store.proofs.Cached.{true-grown}
@@ -135,11 +135,11 @@ module _ {s : Store} {nodes lookup : List ℕ} (S : Sound s nodes lookup []) whe
   unfolding hasAnswer
   has-kept p c =
       let B = bookOf nodes (s .count) in
-      by-test (ltb (length B - 2 + 1) p)
-      (λ a. record { r = record { store = s; answer = HasRefused NoHandle }; call = says (HasRefused NoHandle) (rw a) })
-      (λ a. by-test (has (at B p) c)
-      (λ h. record { r = record { store = s; answer = Yes }; call = says Yes (rw (a, h)) })
-      (λ h. record { r = record { store = s; answer = No }; call = says No (rw (a, h)) }))
+      by-refusing (has-refusing B p)
+      (λ z. by-test (has (at B p) c)
+      (λ h. record { r = record { store = s; answer = Yes }; call = says Yes (rw (z, h)) })
+      (λ h. record { r = record { store = s; answer = No }; call = says No (rw (z, h)) }))
+      (λ x d. record { r = record { store = s; answer = HasRefused x }; call = says (HasRefused x) (rw (d, ne-eqb (refusalNumber x) 0 (refusal-some x))) })
     where
       says : (a : HasAnswer) → hasGivenBy a ≡ hasAnswer (bookOf nodes (s .count)) p c → HasCall s nodes lookup p c (record { store = s; answer = a })
       says a e = record { misfit = λ d. clash (sound-fits S) d; answer-is = λ T. e; store-is = refl }

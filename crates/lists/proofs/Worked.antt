@@ -21,7 +21,7 @@ use Rattle.store.specs.Placing.{tooLarge, costOf, placeAnswer}
 use Rattle.store.specs.Scratch.{scratchTests}
 use Rattle.store.specs.Inner.{Holds}
 use Rattle.store.proofs.Encoding.{encoded, looked-up}
-use Rattle.store.specs.Tests.{isItem}
+use Rattle.store.specs.Tests.{isItem, testsOf}
 use Rattle.op_promise.specs.Promise.{operationRefusal}
 use Rattle.file_save.specs.Promise.{saveRefusal, saveAnswer}
 use Rattle.lists.specs.Calls.{Answer}
@@ -36,11 +36,11 @@ abbrev book : List Family
 book = empty ∷ base ∷ node 1 empty base ∷ node 2 empty base ∷ node 2 (node 1 empty base) base ∷ node 2 base (node 1 empty base) ∷ []
 
 book-is : bookOfCalls 4 worked ≡ book
-unfolding bookOfCalls bookEffect operationRefusal tooLarge costOf isItem named restrict rule combine same decide ℕ-discrete add fileOfBook recordBytes mapOf
+unfolding bookOfCalls bookEffect operationRefusal testsOf tooLarge costOf isItem named restrict rule combine same decide ℕ-discrete add fileOfBook recordBytes mapOf
 book-is = refl
 
 answers-are : answersOf 4 worked ≡ workedAnswers
-unfolding answersOf bookAnswer bookEffect operationRefusal placeAnswer saveAnswer saveRefusal scratchTests tooLarge costOf isItem named restrict rule combine same decide ℕ-discrete add fileOfBook recordBytes mapOf
+unfolding answersOf bookAnswer bookEffect operationRefusal testsOf placeAnswer saveAnswer saveRefusal scratchTests tooLarge costOf isItem named restrict rule combine same decide ℕ-discrete add fileOfBook recordBytes mapOf
 answers-are = refl
 
 words-are : wordsOf book ≡ workedWords

@@ -31,7 +31,7 @@ hasReturns g = record { refusal = g .refusal; value = Tells (Says (g .member)) }
 
 -- Save's file is the front of the output, as long as Save says
 abbrev pub saveReturns : SaveGiven → List ℕ → Answer
-saveReturns g out = record { refusal = g .refusal; value = Writes (g .length) (take (g .length) out) }
+saveReturns g out = record { refusal = g .refusal; value = Writes (g .fileLength) (take (g .fileLength) out) }
 
 abbrev pub auditReturns : Bool → Answer
 auditReturns sound = record { refusal = 0; value = Tells (Says sound) }
