@@ -57,10 +57,10 @@ module _ (capacity : ℕ) (B : List Family) where
   tabled (Operate op p q) = place-refusal (operationRefusal (numberOf op) (count B) p q) (named (numberOf op) B p q) ∙ sym (operate-table op p q)
   tabled (Size p scratch) =
       by-test (above B p) (λ a. rw a)
-      (λ a. rw a (by-test (ltb scratch (count B)) (λ s. rw s) (λ s. rw s (by-test (ltb most (size (at B p))) (λ l. rw l) (λ l. rw l)))))
-  tabled (Has p combination) = by-test (above B p) (λ a. rw a) (λ a. rw a)
+      (λ a. rw (a, le-ltb (count B + 1) 0 (omega arith)) (by-test (ltb scratch (count B)) (λ s. rw s) (λ s. rw s (by-test (ltb most (size (at B p))) (λ l. rw l) (λ l. rw l)))))
+  tabled (Has p combination) = by-test (above B p) (λ a. rw a) (λ a. rw (a, le-ltb (count B + 1) 0 (omega arith)))
   tabled (Save p scratch output) =
       by-test (above B p) (λ a. rw a)
-      (λ a. rw a (by-test (ltb scratch (count B)) (λ s. rw s) (λ s. rw s (by-test (ltb output (length (fileOf (at B p)))) (λ l. rw l) (λ l. rw l)))))
+      (λ a. rw (a, le-ltb (count B + 1) 0 (omega arith)) (by-test (ltb scratch (count B)) (λ s. rw s) (λ s. rw s (by-test (ltb output (length (fileOf (at B p)))) (λ l. rw l) (λ l. rw l)))))
   tabled (Load file scratch) = place-refusal (loadRefusal file scratch) (loadFamily file) ∙ sym (load-table file scratch)
   tabled Audit = refl
