@@ -20,8 +20,8 @@ use Rattle.store.specs.Refusals.{givenBy}
 use Rattle.store.specs.Words.{bookOf}
 use Rattle.store.specs.Cache.{True}
 use Rattle.store.specs.Sound.{Sound}
-use Rattle.store.proofs.Sounds.{zeroed-true, sound-with}
-use Rattle.op_promise.specs.Promise.{OperationCall}
+use Rattle.store.proofs.Sounds.{zeroed-true, sound-with, bare}
+use Rattle.op_promise.specs.Promise.{OperationCall, numberOf}
 use Rattle.query_size.specs.declared.Measured.{Measured}
 use Rattle.query_has.specs.declared.Asked.{Asked}
 use Rattle.query_size.specs.Promise.{sizeGivenBy, sizeAnswer, SizeCall}
@@ -31,7 +31,8 @@ use Rattle.file_save.specs.Promise.{saveGivenBy, saveRefusal, saveAnswer, saveO
 use Rattle.file_load.specs.Promise.{LoadCall}
 use Rattle.store_audit.specs.declared.audit.Audited.{Audited}
 use Rattle.store_audit.specs.Promise.{AuditCall}
-use Rattle.lists.specs.Calls.{Operation, numberOf, Call, Operate, Size, Has, Save, Load, Audit, Answer}
+use Rattle.op_promise.specs.declared.Operation.{Operation}
+use Rattle.lists.specs.Calls.{Call, Operate, Size, Has, Save, Load, Audit, Answer}
 use Rattle.lists.specs.Acts.{placeReturns, sizeReturns, hasReturns, saveReturns, auditReturns, Saves, actAnswer, stays}
 use Rattle.lists.specs.Books.{bookAnswer, bookEffect}
 use Rattle.lists.specs.Runs.{State, sameWords, withPart, Step, operates, sizes, asks, saves, loads, audits}

@@ -17,7 +17,8 @@ use Rattle.store.proofs.Decoding.{sound-holds}
 use Rattle.store_fresh.specs.declared.FreshAnswer.the-variants.{Done}
 use Rattle.store_fresh.specs.Promise.{freshLeaves, freshOf}
 use Rattle.file_load.specs.Promise.{loadFamily}
-use Rattle.lists.specs.Calls.{numberOf, Call, Operate, Size, Has, Save, Load, Audit, Answer}
+use Rattle.op_promise.specs.Promise.{numberOf}
+use Rattle.lists.specs.Calls.{Call, Operate, Size, Has, Save, Load, Audit, Answer}
 use Rattle.lists.specs.Books.{bookAnswer, answersOf, bookOfCalls}
 use Rattle.lists.specs.Runs.{State, Step, operates, sizes, asks, saves, loads, audits, Runs, fresh, next}
 use Rattle.lists.specs.Witness.{WitnessClaim}
