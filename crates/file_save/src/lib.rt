@@ -44,16 +44,16 @@ fn leaf_byte(p: u32) -> u8
 fn save_leaf(store: Store, p: u32, out: &mut [u8]) -> Saved
     ensures { λ r. ⌜ LeafOf store p (now (out .entry)) r (now (out .exit)) ⌝ }
 {
-    if out.len() == 0 {
+    if 0 < out.len() {
+        out[0] = leaf_byte(p);
         return Saved {
             store: store,
-            answer: SaveAnswer::Refused(Refusal::Output),
+            answer: SaveAnswer::Length(1),
         };
     }
-    out[0] = leaf_byte(p);
     Saved {
         store: store,
-        answer: SaveAnswer::Length(1),
+        answer: SaveAnswer::Refused(Refusal::Output),
     }
 }
 

@@ -93,7 +93,7 @@ finish-requires c κs =
     let P = at-place-parts .place-parts .ensures in (
       load-roomy (a .store) (a .nodes .now) (a .lookup .now) (a .cache .now) (a .file .now) (a .words .now) (at-place-parts .place-parts .result) (test-passed (at-fits2 .fits2 .ensures) (at-if1 .if1 .left))
           (at-if2 .if2 .left) (at-read-file .read-file .ensures) _ (at-content2 .content2 .given .1) P,
-      P .kept .grows,
+      omega (arith, P .kept .grows),
     )
 
 returns-3 : tie.Need-returns-3
