@@ -1,5 +1,6 @@
 -- What the readers answer is what the definitions of the file read: a field, the three fields of a record, the record.
--- Each way out is one branch of the definition; a part of the bytes lent from a place on is what is left after dropping so many.
+-- Each way out is one branch of the definition; a part of the bytes lent from a place on is what is left after
+-- dropping so many.
 use Prim.Native.Nat.{ℕ, zero, suc, _+_, _*_, _-_, _≤_, _<_}
 use mathlib.Core.Path.{_≡_, refl, sym, ap, _∙_}
 use mathlib.Core.Bool.{Bool, true, false}

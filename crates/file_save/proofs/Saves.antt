@@ -1,4 +1,5 @@
--- Each way out of Save keeps the promise: the trail's parts are those of the family in placing order, its length is the file's, and the file written is the definition's.
+-- Each way out of Save keeps the promise: the trail's parts are those of the family in placing order, its length is
+-- the file's, and the file written is the definition's.
 -- On words that hold a book nothing on the way is broken.
 use Prim.Native.Nat.{ℕ, _+_, _-_, _≤_, _<_}
 use mathlib.Core.Path.{_≡_, refl, sym, ap, _∙_}

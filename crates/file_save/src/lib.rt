@@ -1,4 +1,5 @@
-// Save: the file of a family. A walk over the diagram links the parts in placing order; then each record is written behind the one before.
+// Save: the file of a family. A walk over the diagram links the parts in placing order; then each record is written
+// behind the one before.
 ghost use mathlib.Core.Path.{_≡_};
 ghost use mathlib.Core.Bool.{cond};
 ghost use mathlib.Core.List.{_∷_};

@@ -1,4 +1,5 @@
--- The local table in Load's scratch, and what its functions promise each other. A reader of the promise can pass this page over.
+-- The local table in Load's scratch, and what its functions promise each other. A reader of the promise can pass
+-- this page over.
 use Prim.Native.Nat.{ℕ, _+_, _*_, _≤_, _<_}
 use mathlib.Core.Path.{_≡_}
 use mathlib.Core.Bool.{Bool, true, false, _&&_}
@@ -13,7 +14,8 @@ use Rattle.store.specs.Words.{itemLimit, topAt}
 use Rattle.store.specs.Inner.{Holds}
 use Rattle.file_record.specs.declared.field.Part.{Part}
 
--- The scratch of a file of b bytes: the words of the local nodes, 2b slots of the local lookup from 3b on, b handles from 5b on.
+-- The scratch of a file of b bytes: the words of the local nodes, 2b slots of the local lookup from 3b on, b
+-- handles from 5b on.
 unfoldable pub localSlots : ℕ → List ℕ → List ℕ
 localSlots b words = take (2 * b) (drop (3 * b) words)
 

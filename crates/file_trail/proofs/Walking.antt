@@ -1,5 +1,7 @@
--- Each way out of `walk`: a part met already changes nothing, else its sides are walked and it is put behind them, which places it in the local book.
--- A side has a smaller top than the part, so that walking it cannot meet the part; on words that hold a book nothing is broken.
+-- Each way out of `walk`: a part met already changes nothing, else its sides are walked and it is put behind them,
+-- which places it in the local book.
+-- A side has a smaller top than the part, so that walking it cannot meet the part; on words that hold a book
+-- nothing is broken.
 use Prim.Native.Nat.{ℕ, _+_, _-_, _≤_, _<_}
 use mathlib.Core.Path.{_≡_, refl, sym, ap, _∙_}
 use mathlib.Core.Bool.{Bool, true, false}

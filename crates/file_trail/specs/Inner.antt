@@ -1,4 +1,5 @@
--- The trail of the parts in placing order, and what its functions promise each other. A reader of the promise can pass this page over.
+-- The trail of the parts in placing order, and what its functions promise each other. A reader of the promise can
+-- pass this page over.
 use Prim.Native.Nat.{ℕ, _+_, _*_, _-_, _≤_, _<_}
 use mathlib.Core.Path.{_≡_}
 use mathlib.Core.Bool.{Bool, true, cond, not}

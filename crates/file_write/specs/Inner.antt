@@ -27,7 +27,8 @@ pub record CursorFits (c : Cursor) (out : List ℕ) : Type 0 where
   pub number-low : c .last .number ≤ 1000001
   pub short : c .place ≤ 11 * c .last .number
 
--- The family number k of the local book D is written next: the parts before have their local numbers, those from k on their links, and the output has the bytes of the whole file up to the cursor.
+-- The family number k of the local book D is written next: the parts before have their local numbers, those from k
+-- on their links, and the output has the bytes of the whole file up to the cursor.
 pub record Writing (B D : List Family) (k : ℕ) (c : Cursor) (links whole before out : List ℕ) : Type 0 where
   pub book : Book itemLimit D
   pub inside : (m : ℕ) → m < length D → Held B (at D m)
