@@ -39,21 +39,23 @@ field-length n false v = refl
 
 -- the first k bytes of a number are laid; those of what is left of it complete the run
 pub record Laid (l₀ : List ℕ) (at width value k left : ℕ) (l : List ℕ) : Type 0 where
+  pub room : at + width ≤ length l₀
   pub low : k ≤ width
   pub long : length l ≡ length l₀
   pub rest : sets l (at + k) (bytesOf (width - k) left) ≡ sets l₀ at (bytesOf width value)
 
-pub laid-start : (l : List ℕ) (at width value : ℕ) → Laid l at width value 0 value l
-laid-start l at width value =
+pub laid-start : (l : List ℕ) (at width value : ℕ) → at + width ≤ length l → Laid l at width value 0 value l
+laid-start l at width value h =
     let z : at + 0 ≡ at = omega arith in
     let w : width - 0 ≡ width = omega arith in
-    record { low = omega arith; long = refl; rest = rw (z, w) refl }
+    record { room = h; low = omega arith; long = refl; rest = rw (z, w) refl }
 
 pub laid-step : {l₀ : List ℕ} {at width value k left : ℕ} {l : List ℕ} → k < width → Laid l₀ at width value k left l → Laid l₀ at width value (k + 1) (left / 256) (set l (at + k) (left % 256))
 laid-step {at = at} {width = width} {k = k} {left = left} {l = l} h L =
     let w : width - k ≡ suc (width - (k + 1)) = omega arith in
     let z : suc (at + k) ≡ at + (k + 1) = omega arith in
     record {
+      room = L .room;
       low = omega arith;
       long = length-set l (at + k) (left % 256) ∙ L .long;
       rest = sym (ap (λ n. sets l (at + k) (bytesOf n left)) w ∙ ap (λ j. sets (set l (at + k) (left % 256)) j (bytesOf (width - (k + 1)) (left / 256))) z) ∙ L .rest;

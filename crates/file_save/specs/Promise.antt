@@ -25,6 +25,7 @@ pub record SaveGiven : Type 0 where
   pub refusal : ℕ
   pub fileLength : ℕ
 
+-- the same of an answer
 abbrev pub saveGivenBy : SaveAnswer → SaveGiven
 saveGivenBy (Length n) = record { refusal = 0; fileLength = n }
 saveGivenBy (Refused r) = record { refusal = refusalNumber r; fileLength = 0 }
