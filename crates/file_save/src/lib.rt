@@ -13,14 +13,14 @@ ghost use Rattle.file_write.specs.Inner.{HeadRoom};
 ghost use Rattle.file_save.specs.Promise.{SaveCall};
 ghost use Rattle.file_save.specs.Inner.{LeafOf, FileOf, SavePartsAsks, PartsOf};
 use file_record::write::put_field;
-use store::node::top_of;
-use store::record::Refusal;
-use store::record::Store;
 use file_trail::trail::Trail;
 use file_trail::walk::Walked;
 use file_trail::walk::walk;
-use words::zero;
 use file_write::write_parts;
+use store::node::top_of;
+use store::record::Refusal;
+use store::record::Store;
+use words::zero;
 
 // What Save answers.
 pub enum SaveAnswer {

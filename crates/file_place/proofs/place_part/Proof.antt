@@ -50,8 +50,7 @@ get-node-requires : tie.Need-get-node-requires
 get-node-requires c κs =
     let at-handle-at : tie.After-handle-at = search in
     let at-start : tie.Start = search in
-    let p = at-start .pre in
-    (
+    let p = at-start .pre in (
       p .roomy,
       (
         p .local .item-some,

@@ -70,8 +70,7 @@ write-file-requires c κs =
     let at-zero : tie.After-zero = search in
     let at-start : tie.Start = search in
     let p = at-start .pre in
-    let F = at-walk .walk .ensures .trail-fits _ (at-trail .trail .given .1) in
-    (
+    let F = at-walk .walk .ensures .trail-fits _ (at-trail .trail .given .1) in (
       record { words = p .lent .words; few = p .lent .few; linkable = omega (arith, p .lent .linkable, at-walk .walk .ensures .long, at-zero .zero .kept .0) },
       record { five = omega (arith, F .some, (c .before .before) .if2 .left); few = F .few },
     )

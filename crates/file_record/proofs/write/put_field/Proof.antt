@@ -19,7 +19,7 @@ returns c =
     let a = (c .before) .args in field-off (a .value) (a .out .now) (a .at) (a .width) (not-true (a .stands) (c .if1 .taken))
 
 loop-holds : tie.Need-loop-holds Inv-loop μ-loop
-loop-holds c = 
+loop-holds c =
     let a = (c .before) .args in
     laid-start (a .out .now) (a .at) (a .width) (a .value) (field-room (a .width) (a .at) (a .out .now) (not-false (a .stands) (c .if1 .left)) ((c .before) .pre))
 
@@ -27,13 +27,13 @@ cast-out : tie.Need-cast-out Inv-loop μ-loop
 cast-out c = search needs
 
 add-out : tie.Need-add-out Inv-loop μ-loop
-add-out c = 
+add-out c =
     let at-loop : tie.At-loop Inv-loop μ-loop = search in
     let L = at-loop .loop .inv in
     omega (arith, L .room, L .long, c .loop-test .taken)
 
 slice-write-out : tie.Need-slice-write-out Inv-loop μ-loop
-slice-write-out c = 
+slice-write-out c =
     let at-loop : tie.At-loop Inv-loop μ-loop = search in
     let L = at-loop .loop .inv in
     omega (arith, L .room, L .long, c .loop-test .taken)

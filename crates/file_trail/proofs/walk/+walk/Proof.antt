@@ -28,7 +28,7 @@ abbrev walk-claims : ℕ → walk-lts.Claims
 walk-claims t = (is-met-reads.Asked, is-met-reads.Learnt, children-reads.Asked, children-reads.Learnt, walk-below t, walk.Post, visit-reads.Asked, visit-reads.Learnt)
 
 walk-is-met-requires : (t : ℕ) → walk-lts.Need-is-met-requires (walk-claims t) (walk-at t) walk.Post
-walk-is-met-requires t c κs = 
+walk-is-met-requires t c κs =
     let at-start : walk-lts.Start (walk-claims t) (walk-at t) walk.Post = search in
     omega (arith, at-start .pre .1 .inside, at-start .pre .1 .lent .linkable)
 
