@@ -13,8 +13,8 @@ returns c = search (field-off, not-true)
 returns-2 : tie.Need-returns-2
 returns-2 c = search (field-short, not-false)
 
-number-requires : tie.Need-number-requires
-number-requires c κs = search needs
+read-number-requires : tie.Need-read-number-requires
+read-number-requires c κs = search needs
 
 returns-3 : tie.Need-returns-3
 returns-3 c = search (field-same, not-false)
@@ -23,4 +23,4 @@ returns-4 : tie.Need-returns-4
 returns-4 c = search (field-value, not-false)
 
 pub read-field-spec : {M : Type 1} → statement M
-read-field-spec = tie.close (tie.spec returns returns-2 number-requires returns-3 returns-4)
+read-field-spec = tie.close (tie.spec returns returns-2 read-number-requires returns-3 returns-4)
