@@ -68,7 +68,6 @@ pub enum Record {
 
 // The three fields after the bit map byte.
 fn fields(bytes: &[u8], map: u32, last: Last) -> Record
-    requires { ⌜ map < 8 ⌝ }
     requires { ⌜ last .item < 65535 ⌝ }
     ensures { λ r. ⌜ FieldsOf map last (now (bytes .entry)) r ⌝ }
 {

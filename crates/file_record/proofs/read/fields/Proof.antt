@@ -8,7 +8,7 @@ use Rattle.file_record.proofs.read.fields.Statement.{statement}
 use Rattle.file_record.proofs.read.fields.Tie as tie
 
 add-read-field : tie.Need-add-read-field
-add-read-field c = omega (arith, (c .before .before) .pre .1)
+add-read-field c = omega (arith, (c .before .before) .pre)
 
 read-field-requires : tie.Need-read-field-requires
 read-field-requires c κs = search needs
