@@ -3,7 +3,6 @@
 use borrow.Author.Needs.{needs}
 use Prim.Native.Nat.{ℕ, _<_}
 use native.Mathlib.Omega.{arith}
-use mathlib.Core.Path.{refl}
 use Rattle.file_trail.proofs.Walking.{split-two, zero-child, one-child, child-side, walked-lent, zero-asks, one-asks, walk-met, walk-no-children, walk-first-broken, walk-second-broken, walk-many, walk-done}
 use borrow.Fn.Kinds.{In}
 use borrow.Fn.PlainCycle.{Measures, is, falls, and}
