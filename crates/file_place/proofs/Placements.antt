@@ -1,4 +1,5 @@
--- Each way out of the functions that place the local parts: after k turns the store holds its book with the first k families of the local book added, and the scratch has their handles.
+-- Each way out of the functions that place the local parts: after k turns the store holds its book with the first k
+-- families of the local book added, and the scratch has their handles.
 -- Adding the families of a family's own book, in its order, is placing that family.
 use Prim.Native.Nat.{ℕ, _+_, _*_, _-_, _≤_, _<_}
 use mathlib.Core.Path.{_≡_, refl, sym, ap, _∙_}
