@@ -30,7 +30,7 @@ abbrev pub saveGivenBy : SaveAnswer → SaveGiven
 saveGivenBy (Length n) = record { refusal = 0; fileLength = n }
 saveGivenBy (Refused r) = record { refusal = refusalNumber r; fileLength = 0 }
 
--- 4 and 7, "one 32-bit word per node held", then "8: output shorter than the file"
+-- 4 and 7, "one 32-bit word per node held", then 8: "output shorter than the file"
 unfoldable pub saveRefusal : List Family → ℕ → ℕ → ℕ → ℕ
 saveRefusal B p words room = cond (eqb (scratchTests B p words) 0) (cond (ltb room (length (fileOf (at B p)))) 8 0) (scratchTests B p words)
 
