@@ -19,15 +19,15 @@ same-length c = search needs
 spell-requires : tie.Need-spell-requires
 spell-requires c κs =
     let at-start : tie.Start = search in
-    omega (arith, at-start .pre .0, (c .before .before .before) .put-word .ensures .end, (c .before .before .before) .put-word .kept .0, short-64 (at-start .args .n) (at-start .fits .n .fits))
+    omega (arith, at-start .pre .room, (c .before .before .before) .put-word .ensures .end, (c .before .before .before) .put-word .kept .0, short-64 (at-start .args .n) (at-start .fits .n .fits))
 
 put-word-requires-2 : tie.Need-put-word-requires-2
 put-word-requires-2 c κs =
     let at-put-word : tie.After-put-word = search in
-    let a = start·After-put-word-arg3 c in
+    let a : tie.Start = search in
     let w = at-put-word .put-word in
     let d = (c .before .before .before) .spell in
-    omega (arith, a .pre .0, a .pre .1, w .ensures .end, w .kept .0, d .ensures .end, d .kept .0, short-64 (a .args .n) (a .fits .n .fits))
+    omega (arith, a .pre .room, a .pre .short, w .ensures .end, w .kept .0, d .ensures .end, d .kept .0, short-64 (a .args .n) (a .fits .n .fits))
 
 returns : tie.Need-returns
 returns c =
