@@ -36,10 +36,10 @@ use Rattle.report_log.specs.declared.tally.Ending.{Ending}
 use Rattle.report_log.specs.declared.tally.Ending.the-variants.{Going, Refused, Full}
 use Rattle.report_log.specs.declared.tally.Tally.{Tally}
 use Rattle.report_log.proofs.tally.Ending.{the-type as the-ending}
-use Rattle.report_line.specs.Line.{State, begin, step, progressOf, stateOf}
-use Rattle.report_add.specs.Promise.{Added, next, made, added, After, AddCall}
+use Rattle.report_line.specs.Line.{LineState, begin, nextByte, progressOf, stateOf}
+use Rattle.report_add.specs.Promise.{Added, next, lineMade, added, After, AddCall}
 use Rattle.report_log.specs.Log.{withPassed, withReturned, Log, opening, counted, readOn, whileGoing, logByte, feed, capped, Keeps, OpenCall, TakeCall}
-use Rattle.report_log.specs.Inner.{TallyIs, familyOf, LineEnd, LineIt}
+use Rattle.report_log.specs.Inner.{TallyIs, sideHandle, LineEnd, LineIt}
 use Rattle.report_add.proofs.Makings.{gives, refused-full, next-grown, made-grown}
 
 -- opening
@@ -83,7 +83,7 @@ opened {nodes} {lookup} {cache} {f} {nodes′} {lookup′} {cache′} C {s} {p} 
         en₀ = en
 
 -- the line read on, the lot as it was
-pub read-keeps : {capacity : ℕ} {t : Tally} {nodes lookup cache : List ℕ} {g : Log} → Keeps capacity t nodes lookup cache g → {s : State} {e : Ending} (r : Tally)
+pub read-keeps : {capacity : ℕ} {t : Tally} {nodes lookup cache : List ℕ} {g : Log} → Keeps capacity t nodes lookup cache g → {s : LineState} {e : Ending} (r : Tally)
     → r .store ≡ t .store → r .passed ≡ t .passed → r .returned ≡ t .returned → r .lines ≡ t .lines → stateOf (r .reading) ≡ s → r .ending ≡ e
     → Keeps capacity r nodes lookup cache (record { lot = g .lot; lines = g .lines; line = s; ending = e })
 read-keeps {nodes = nodes} K r a b c d f h =
@@ -102,7 +102,7 @@ read-keeps {nodes = nodes} K r a b c d f h =
 
 -- a line added
 pub added-grown : (capacity : ℕ) (B : List Family) (F : Family) (c : List ℕ) → Grown B (added capacity B F c .book)
-added-grown capacity B F c = next-grown capacity (union F) (made capacity B c) (made-grown capacity B c)
+added-grown capacity B F c = next-grown capacity (union F) (lineMade capacity B c) (made-grown capacity B c)
 
 pub record Stays (n : ℕ) (B : List Family) (q : ℕ) (F : Family) : Type 0 where
   pub held : q ≤ n + 1
@@ -240,34 +240,34 @@ module _ {t : Tally} {m : Placed} {r : Tally} where
   pub end-returned : {d : Side} {h n : ℕ} → d ≡ Returned → m .answer ≡ Handle h → n ≡ capped (suc (t .lines)) → TallyIs (m .store) (t .passed) h n Going r → LineEnd t d m r
   end-returned ed e en T = rw ed record { is = λ nodes lookup cache c nodes′ lookup′ cache′ C. take-returned-more C e en T }
 
-pub line-added : {t : Tally} {nodes lookup cache : List ℕ} {f : ℕ} {c : List ℕ} {m : Placed} {r : Tally} {nodes′ lookup′ cache′ : List ℕ} (d : Side) → f ≡ familyOf d t
+pub line-added : {t : Tally} {nodes lookup cache : List ℕ} {f : ℕ} {c : List ℕ} {m : Placed} {r : Tally} {nodes′ lookup′ cache′ : List ℕ} (d : Side) → f ≡ sideHandle d t
     → AddCall (t .store) nodes lookup cache f c m nodes′ lookup′ cache′ → LineEnd t d m r → LineIt t nodes lookup cache d c r nodes′ lookup′ cache′
 line-added d e C E = E .is _ _ _ _ _ _ _ (rw e at C)
 
 -- one byte more of the line, whatever the ending was
 pub record NextIt (t : Tally) (nodes lookup cache : List ℕ) (b : ℕ) (r : Tally) (nodes′ lookup′ cache′ : List ℕ) : Type 0 where
-  pub keeps : (capacity : ℕ) (g : Log) → Keeps capacity t nodes lookup cache g → Keeps capacity r nodes′ lookup′ cache′ (readOn capacity g (step (g .line) b) (step (g .line) b .progress))
+  pub keeps : (capacity : ℕ) (g : Log) → Keeps capacity t nodes lookup cache g → Keeps capacity r nodes′ lookup′ cache′ (readOn capacity g (nextByte (g .line) b) (nextByte (g .line) b .progress))
 
-module _ {t : Tally} {nodes lookup cache : List ℕ} (b : ℕ) (next : Reading) (e : stateOf next ≡ step (stateOf (t .reading)) b) where
-  read-is : {capacity : ℕ} {g : Log} → Keeps capacity t nodes lookup cache g → stateOf next ≡ step (g .line) b
-  read-is K = e ∙ ap (λ s. step s b) (K .line-is)
+module _ {t : Tally} {nodes lookup cache : List ℕ} (b : ℕ) (next : Reading) (e : stateOf next ≡ nextByte (stateOf (t .reading)) b) where
+  read-is : {capacity : ℕ} {g : Log} → Keeps capacity t nodes lookup cache g → stateOf next ≡ nextByte (g .line) b
+  read-is K = e ∙ ap (λ s. nextByte s b) (K .line-is)
 
-  staged : {capacity : ℕ} {g : Log} → Keeps capacity t nodes lookup cache g → {st : Stage} → next .stage ≡ st → step (g .line) b .progress ≡ progressOf st (next .side) (itemsOf (next .items .words)) (next .item)
+  staged : {capacity : ℕ} {g : Log} → Keeps capacity t nodes lookup cache g → {st : Stage} → next .stage ≡ st → nextByte (g .line) b .progress ≡ progressOf st (next .side) (itemsOf (next .items .words)) (next .item)
   staged K d = sym (ap (λ s. s .progress) (read-is K)) ∙ ap (λ x. progressOf x (next .side) (itemsOf (next .items .words)) (next .item)) d
 
   pub next-whole : {r : Tally} {nodes′ lookup′ cache′ : List ℕ} → next .stage ≡ Stage.Whole → LineIt t nodes lookup cache (next .side) (itemsOf (next .items .words)) r nodes′ lookup′ cache′ → NextIt t nodes lookup cache b r nodes′ lookup′ cache′
   next-whole {r} {nodes′} {lookup′} {cache′} d L =
-      record { keeps = λ capacity g K. subst (λ p. Keeps capacity r nodes′ lookup′ cache′ (readOn capacity g (step (g .line) b) p)) (sym (staged K d)) (L .keeps capacity g K) }
+      record { keeps = λ capacity g K. subst (λ p. Keeps capacity r nodes′ lookup′ cache′ (readOn capacity g (nextByte (g .line) b) p)) (sym (staged K d)) (L .keeps capacity g K) }
 
-pub next-read : {t : Tally} {nodes lookup cache : List ℕ} (b : ℕ) (next : Reading) → stateOf next ≡ step (stateOf (t .reading)) b → {st : Stage} → next .stage ≡ st → {r : Tally} (end : Ending)
+pub next-read : {t : Tally} {nodes lookup cache : List ℕ} (b : ℕ) (next : Reading) → stateOf next ≡ nextByte (stateOf (t .reading)) b → {st : Stage} → next .stage ≡ st → {r : Tally} (end : Ending)
     → (r .store ≡ t .store) × (r .passed ≡ t .passed) × (r .returned ≡ t .returned) × (r .lines ≡ t .lines) × (r .reading ≡ next) × (r .ending ≡ end)
-    → ((capacity : ℕ) (g : Log) (s : State) (d : Side) (c : List ℕ) (n : ℕ) → readOn capacity g s (progressOf st d c n) ≡ record { lot = g .lot; lines = g .lines; line = s; ending = end })
+    → ((capacity : ℕ) (g : Log) (s : LineState) (d : Side) (c : List ℕ) (n : ℕ) → readOn capacity g s (progressOf st d c n) ≡ record { lot = g .lot; lines = g .lines; line = s; ending = end })
     → NextIt t nodes lookup cache b r nodes lookup cache
 next-read {t} {nodes} {lookup} {cache} b next e {st} d {r} end f h =
     record {
       keeps = λ capacity g K.
           subst (λ x. Keeps capacity r nodes lookup cache x)
-          (sym (h capacity g (step (g .line) b) (next .side) (itemsOf (next .items .words)) (next .item)) ∙ sym (ap (λ p. readOn capacity g (step (g .line) b) p) (staged b next e K d)))
+          (sym (h capacity g (nextByte (g .line) b) (next .side) (itemsOf (next .items .words)) (next .item)) ∙ sym (ap (λ p. readOn capacity g (nextByte (g .line) b) p) (staged b next e K d)))
           (read-keeps K r (f .0) (f .1) (f .2) (f .3) (ap stateOf (f .4) ∙ read-is b next e K) (f .5));
     }
 
@@ -275,7 +275,7 @@ next-read {t} {nodes} {lookup} {cache} b next e {st} d {r} end f h =
 abbrev going : List ℕ
 going = 0 ∷ 1 ∷ 2 ∷ 3 ∷ []
 
-going-on : (st : Stage) → OneOf going (tagOf the-stage st) → (capacity : ℕ) (g : Log) (s : State) (d : Side) (c : List ℕ) (n : ℕ)
+going-on : (st : Stage) → OneOf going (tagOf the-stage st) → (capacity : ℕ) (g : Log) (s : LineState) (d : Side) (c : List ℕ) (n : ℕ)
     → readOn capacity g s (progressOf st d c n) ≡ record { lot = g .lot; lines = g .lines; line = s; ending = Going }
 going-on Stage.Blank k capacity g s d c n = refl
 going-on Stage.Letter k capacity g s d c n = refl
@@ -284,7 +284,7 @@ going-on Stage.Number k capacity g s d c n = refl
 going-on Stage.Whole k capacity g s d c n = absurd (miss going 4 tt k)
 going-on Stage.Malformed k capacity g s d c n = absurd (miss going 5 tt k)
 
-pub next-going : {t : Tally} {nodes lookup cache : List ℕ} (b : ℕ) (next : Reading) → stateOf next ≡ step (stateOf (t .reading)) b → OneOf going (tagOf the-stage (next .stage)) → {r : Tally}
+pub next-going : {t : Tally} {nodes lookup cache : List ℕ} (b : ℕ) (next : Reading) → stateOf next ≡ nextByte (stateOf (t .reading)) b → OneOf going (tagOf the-stage (next .stage)) → {r : Tally}
     → (r .store ≡ t .store) × (r .passed ≡ t .passed) × (r .returned ≡ t .returned) × (r .lines ≡ t .lines) × (r .reading ≡ next) × (r .ending ≡ Going) → NextIt t nodes lookup cache b r nodes lookup cache
 next-going b next e k f = next-read b next e refl Going f (going-on (next .stage) k)
 
@@ -300,7 +300,7 @@ module _ {t : Tally} {nodes lookup cache : List ℕ} {b : ℕ} where
   byte-going {r} {nodes′} {lookup′} {cache′} e N =
       record {
         keeps = λ capacity g K.
-            subst (λ x. Keeps capacity r nodes′ lookup′ cache′ (whileGoing x (readOn capacity g (step (g .line) b) (step (g .line) b .progress)) g)) (sym e ∙ K .ending-is) (N .keeps capacity g K);
+            subst (λ x. Keeps capacity r nodes′ lookup′ cache′ (whileGoing x (readOn capacity g (nextByte (g .line) b) (nextByte (g .line) b .progress)) g)) (sym e ∙ K .ending-is) (N .keeps capacity g K);
       }
 
   -- a log that ended, either way
@@ -310,7 +310,7 @@ module _ {t : Tally} {nodes lookup cache : List ℕ} {b : ℕ} where
       record {
         keeps = λ capacity g K.
             subst (λ y. Keeps capacity t nodes lookup cache y)
-            (sym (stopped (t .ending) k (readOn capacity g (step (g .line) b) (step (g .line) b .progress)) g) ∙ ap (λ y. whileGoing y (readOn capacity g (step (g .line) b) (step (g .line) b .progress)) g) (K .ending-is)) K;
+            (sym (stopped (t .ending) k (readOn capacity g (nextByte (g .line) b) (nextByte (g .line) b .progress)) g) ∙ ap (λ y. whileGoing y (readOn capacity g (nextByte (g .line) b) (nextByte (g .line) b .progress)) g) (K .ending-is)) K;
       }
 
 -- a piece, byte by byte

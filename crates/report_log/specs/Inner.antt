@@ -26,10 +26,10 @@ pub record LineIt (t : Tally) (nodes lookup cache : List ℕ) (d : Side) (c : Li
   pub keeps : (capacity : ℕ) (g : Log) → Keeps capacity t nodes lookup cache g → Keeps capacity r nodes′ lookup′ cache′ (counted g (takeLine capacity (g .lot) d c))
 
 -- the family that a line of a side goes to
-abbrev pub familyOf : Side → Tally → ℕ
-familyOf Passed t = t .passed
-familyOf Returned t = t .returned
+abbrev pub sideHandle : Side → Tally → ℕ
+sideHandle Passed t = t .passed
+sideHandle Returned t = t .returned
 
 -- the tally behind a line of a side, by what adding it gave
 pub record LineEnd (t : Tally) (d : Side) (m : Placed) (r : Tally) : Type 0 where
-  pub is : (nodes lookup cache c nodes′ lookup′ cache′ : List ℕ) → AddCall (t .store) nodes lookup cache (familyOf d t) c m nodes′ lookup′ cache′ → LineIt t nodes lookup cache d c r nodes′ lookup′ cache′
+  pub is : (nodes lookup cache c nodes′ lookup′ cache′ : List ℕ) → AddCall (t .store) nodes lookup cache (sideHandle d t) c m nodes′ lookup′ cache′ → LineIt t nodes lookup cache d c r nodes′ lookup′ cache′

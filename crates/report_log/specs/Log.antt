@@ -16,8 +16,8 @@ use Rattle.report_line.specs.declared.Side.the-variants.{Passed, Returned}
 use Rattle.report_log.specs.declared.tally.Ending.{Ending}
 use Rattle.report_log.specs.declared.tally.Ending.the-variants.{Going, Refused, Full}
 use Rattle.report_log.specs.declared.tally.Tally.{Tally}
-use Rattle.report_line.specs.Line.{Progress, blank, letter, space, number, whole, malformed, State, begin, step, stateOf}
-use Rattle.report_add.specs.Promise.{Added, placed, added}
+use Rattle.report_line.specs.Line.{Progress, blank, letter, space, numeral, whole, malformed, LineState, begin, nextByte, stateOf}
+use Rattle.report_add.specs.Promise.{Added, called, added}
 use Rattle.report_text.specs.Text.{lineText, refusedWord, fullWord, reportFull, sumsText}
 
 -- the book of the store, and "the passed family P, the returned R"
@@ -27,17 +27,17 @@ pub record Lot : Type 0 where
   pub returned : Family
 
 -- a lot after one more line, or after a line that found the store full
-pub record Taken : Type 0 where
+pub record LineTaken : Type 0 where
   pub full : Bool
   pub lot : Lot
 
-abbrev pub withPassed : Lot → Added → Taken
+abbrev pub withPassed : Lot → Added → LineTaken
 withPassed l a = record { full = a .full; lot = record { book = a .book; passed = cond (a .full) (l .passed) (a .family); returned = l .returned } }
 
-abbrev pub withReturned : Lot → Added → Taken
+abbrev pub withReturned : Lot → Added → LineTaken
 withReturned l a = record { full = a .full; lot = record { book = a .book; passed = l .passed; returned = cond (a .full) (l .returned) (a .family) } }
 
-abbrev pub takeLine : ℕ → Lot → Side → List ℕ → Taken
+abbrev pub takeLine : ℕ → Lot → Side → List ℕ → LineTaken
 takeLine capacity l Passed c = withPassed l (added capacity (l .book) (l .passed) c)
 takeLine capacity l Returned c = withReturned l (added capacity (l .book) (l .returned) c)
 
@@ -45,24 +45,24 @@ takeLine capacity l Returned c = withReturned l (added capacity (l .book) (l .re
 pub record Log : Type 0 where
   pub lot : Lot
   pub lines : ℕ
-  pub line : State
+  pub line : LineState
   pub ending : Ending
 
 abbrev pub opening : Log
 opening = record { lot = record { book = start; passed = empty; returned = empty }; lines = 0; line = begin; ending = Going }
 
 -- the log after a whole line
-abbrev pub counted : Log → Taken → Log
+abbrev pub counted : Log → LineTaken → Log
 counted g t = record { lot = t .lot; lines = cond (t .full) (g .lines) (suc (g .lines)); line = begin; ending = cond (t .full) Full Going }
 
 -- the log with its line read on: a whole line is taken, a malformed one ends the log
-abbrev pub readOn : ℕ → Log → State → Progress → Log
+abbrev pub readOn : ℕ → Log → LineState → Progress → Log
 readOn capacity g s (whole d c) = counted g (takeLine capacity (g .lot) d c)
 readOn capacity g s malformed = record { lot = g .lot; lines = g .lines; line = s; ending = Refused }
 readOn capacity g s blank = record { lot = g .lot; lines = g .lines; line = s; ending = Going }
 readOn capacity g s (letter d c) = record { lot = g .lot; lines = g .lines; line = s; ending = Going }
 readOn capacity g s (space d c) = record { lot = g .lot; lines = g .lines; line = s; ending = Going }
-readOn capacity g s (number d c n) = record { lot = g .lot; lines = g .lines; line = s; ending = Going }
+readOn capacity g s (numeral d c n) = record { lot = g .lot; lines = g .lines; line = s; ending = Going }
 
 abbrev pub whileGoing : Ending → Log → Log → Log
 whileGoing Going a b = a
@@ -71,7 +71,7 @@ whileGoing Full a b = b
 
 -- one byte; "then it stops": a log that ended takes no more
 unfoldable pub logByte : ℕ → Log → ℕ → Log
-logByte capacity g b = whileGoing (g .ending) (readOn capacity g (step (g .line) b) (step (g .line) b .progress)) g
+logByte capacity g b = whileGoing (g .ending) (readOn capacity g (nextByte (g .line) b) (nextByte (g .line) b .progress)) g
 
 abbrev pub feed : ℕ → Log → List ℕ → Log
 feed capacity g bytes = foldl (logByte capacity) g bytes
@@ -83,24 +83,24 @@ capped n = min n most
 -- "the size of the passed family P, the returned R, Intsec(P, R) and Diff(R, P)", or "`report full` in the closing sums"
 unfoldable pub closing : ℕ → Lot → List ℕ
 closing capacity l =
-    let both = placed capacity (l .book) (intsec (l .passed) (l .returned)) in
-    let only = placed capacity (both .book) (diff (l .returned) (l .passed)) in
+    let both = called capacity (l .book) (intsec (l .passed) (l .returned)) in
+    let only = called capacity (both .book) (diff (l .returned) (l .passed)) in
     cond (both .full) reportFull
     (cond (only .full) reportFull
     (sumsText (capped (size (l .passed))) (capped (size (l .returned))) (capped (size (intsec (l .passed) (l .returned)))) (capped (size (diff (l .returned) (l .passed))))))
 
 -- "a last line without newline counts as malformed"
-abbrev pub lastOf : ℕ → Log → Progress → List ℕ
-lastOf capacity g blank = closing capacity (g .lot)
-lastOf capacity g (letter d c) = lineText (capped (suc (g .lines))) refusedWord
-lastOf capacity g (space d c) = lineText (capped (suc (g .lines))) refusedWord
-lastOf capacity g (number d c n) = lineText (capped (suc (g .lines))) refusedWord
-lastOf capacity g (whole d c) = lineText (capped (suc (g .lines))) refusedWord
-lastOf capacity g malformed = lineText (capped (suc (g .lines))) refusedWord
+abbrev pub lastLine : ℕ → Log → Progress → List ℕ
+lastLine capacity g blank = closing capacity (g .lot)
+lastLine capacity g (letter d c) = lineText (capped (suc (g .lines))) refusedWord
+lastLine capacity g (space d c) = lineText (capped (suc (g .lines))) refusedWord
+lastLine capacity g (numeral d c n) = lineText (capped (suc (g .lines))) refusedWord
+lastLine capacity g (whole d c) = lineText (capped (suc (g .lines))) refusedWord
+lastLine capacity g malformed = lineText (capped (suc (g .lines))) refusedWord
 
 -- what is printed of a log at its end: the sums, or one line alone
 abbrev pub endOf : ℕ → Log → Ending → List ℕ
-endOf capacity g Going = lastOf capacity g (g .line .progress)
+endOf capacity g Going = lastLine capacity g (g .line .progress)
 endOf capacity g Refused = lineText (capped (suc (g .lines))) refusedWord
 endOf capacity g Full = lineText (capped (suc (g .lines))) fullWord
 

@@ -2,7 +2,7 @@
 ghost use mathlib.Core.Path.{_≡_};
 ghost use mathlib.Core.List.{[], _∷_};
 ghost use Rattle.report_log.specs.Log.{TakeCall};
-ghost use Rattle.report_log.specs.Inner.{familyOf, LineEnd};
+ghost use Rattle.report_log.specs.Inner.{sideHandle, LineEnd};
 use report_add::add;
 use report_line::Side;
 use report_line::Stage;
@@ -15,7 +15,7 @@ use store::record::Placed;
 
 // The family that a line of this side goes to.
 fn family_of(t: Tally, side: Side) -> u32
-    ensures { λ r. ⌜ r ≡ familyOf side t ⌝ }
+    ensures { λ r. ⌜ r ≡ sideHandle side t ⌝ }
 {
     match side {
         Side::Passed => t.passed,
