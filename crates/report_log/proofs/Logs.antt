@@ -37,9 +37,10 @@ use Rattle.report_log.specs.declared.tally.Ending.the-variants.{Going, R
 use Rattle.report_log.specs.declared.tally.Tally.{Tally}
 use Rattle.report_log.proofs.tally.Ending.{the-type as the-ending}
 use Rattle.report_line.specs.Line.{LineState, begin, nextByte, progressOf, stateOf}
-use Rattle.report_add.specs.Promise.{Added, next, lineMade, added, After, AddCall}
-use Rattle.report_log.specs.Log.{withPassed, withReturned, Log, opening, counted, readOn, whileGoing, logByte, feed, capped, Keeps, OpenCall, TakeCall}
-use Rattle.report_log.specs.Inner.{TallyIs, sideHandle, LineEnd, LineIt}
+use Rattle.report_add.specs.Promise.{Added, lineMade, added, After, AddCall}
+use Rattle.report_log.specs.Log.{ofSide, putSide, withSide, Log, opening, counted, readOn, whileGoing, logByte, feed, capped}
+use Rattle.report_log.specs.Promise.{Keeps, OpenCall, TakeCall}
+use Rattle.report_log.specs.Inner.{TallyIs, ReadOnIs, sideHandle, passedWith, returnedWith, LineEnd, LineIt}
 use Rattle.report_add.proofs.Makings.{gives, refused-full, next-grown, made-grown}
 
 -- opening
@@ -83,21 +84,20 @@ opened {nodes} {lookup} {cache} {f} {nodes′} {lookup′} {cache′} C {s} {p} 
         en₀ = en
 
 -- the line read on, the lot as it was
-pub read-keeps : {capacity : ℕ} {t : Tally} {nodes lookup cache : List ℕ} {g : Log} → Keeps capacity t nodes lookup cache g → {s : LineState} {e : Ending} (r : Tally)
-    → r .store ≡ t .store → r .passed ≡ t .passed → r .returned ≡ t .returned → r .lines ≡ t .lines → stateOf (r .reading) ≡ s → r .ending ≡ e
-    → Keeps capacity r nodes lookup cache (record { lot = g .lot; lines = g .lines; line = s; ending = e })
-read-keeps {nodes = nodes} K r a b c d f h =
+read-keeps : {capacity : ℕ} {t : Tally} {nodes lookup cache : List ℕ} {g : Log} → Keeps capacity t nodes lookup cache g → {s : LineState} {next : Reading} {e : Ending} {r : Tally}
+    → ReadOnIs t next e r → stateOf next ≡ s → Keeps capacity r nodes lookup cache (record { lot = g .lot; lines = g .lines; line = s; ending = e })
+read-keeps {nodes = nodes} K O f =
     record {
-      sound = rw a (K .sound);
-      capacity-is = ap (λ x. x .capacity) a ∙ K .capacity-is;
-      book-is = ap (λ x. bookOf nodes (x .count)) a ∙ K .book-is;
-      passed-held = rw (a, b) (K .passed-held);
-      passed-is = rw (a, b) (K .passed-is);
-      returned-held = rw (a, c) (K .returned-held);
-      returned-is = rw (a, c) (K .returned-is);
-      lines-is = d ∙ K .lines-is;
-      line-is = f;
-      ending-is = h;
+      sound = rw (O .store-is) (K .sound);
+      capacity-is = ap (λ x. x .capacity) (O .store-is) ∙ K .capacity-is;
+      book-is = ap (λ x. bookOf nodes (x .count)) (O .store-is) ∙ K .book-is;
+      passed-held = rw (O .store-is, O .passed-is) (K .passed-held);
+      passed-is = rw (O .store-is, O .passed-is) (K .passed-is);
+      returned-held = rw (O .store-is, O .returned-is) (K .returned-held);
+      returned-is = rw (O .store-is, O .returned-is) (K .returned-is);
+      lines-is = O .lines-is ∙ K .lines-is;
+      line-is = ap stateOf (O .reading-is) ∙ f;
+      ending-is = O .ending-is;
     }
 
 -- a line added
@@ -119,11 +119,9 @@ stays S A g q F l e =
 
 module _ {capacity : ℕ} {t : Tally} {nodes lookup cache : List ℕ} {g : Log} (K : Keeps capacity t nodes lookup cache g) {m : Placed} {nodes′ lookup′ cache′ : List ℕ} where
   -- the promise of adding, on the log's own book and families
-  for-passed : {c : List ℕ} → AddCall (t .store) nodes lookup cache (t .passed) c m nodes′ lookup′ cache′ → After capacity m nodes′ lookup′ cache′ (added capacity (g .lot .book) (g .lot .passed) c)
-  for-passed C = rw (K .capacity-is, K .passed-is, K .book-is) at (C .on-sound (K .sound) (K .passed-held))
-
-  for-returned : {c : List ℕ} → AddCall (t .store) nodes lookup cache (t .returned) c m nodes′ lookup′ cache′ → After capacity m nodes′ lookup′ cache′ (added capacity (g .lot .book) (g .lot .returned) c)
-  for-returned C = rw (K .capacity-is, K .returned-is, K .book-is) at (C .on-sound (K .sound) (K .returned-held))
+  for-side : (d : Side) {c : List ℕ} → AddCall (t .store) nodes lookup cache (sideHandle d t) c m nodes′ lookup′ cache′ → After capacity m nodes′ lookup′ cache′ (added capacity (g .lot .book) (ofSide d (g .lot)) c)
+  for-side Passed C = rw (K .capacity-is, K .passed-is, K .book-is) at (C .on-sound (K .sound) (K .passed-held))
+  for-side Returned C = rw (K .capacity-is, K .returned-is, K .book-is) at (C .on-sound (K .sound) (K .returned-held))
 
   module _ {a : Added} (A : After capacity m nodes′ lookup′ cache′ a) (w : Grown (g .lot .book) (a .book)) where
     same : (q : ℕ) (F : Family) → q ≤ t .store .count + 1 → at (bookOf nodes (t .store .count)) q ≡ F → Stays (m .store .count) (bookOf nodes′ (m .store .count)) q F
@@ -148,11 +146,11 @@ module _ {capacity : ℕ} {t : Tally} {nodes lookup cache : List ℕ} {g : Log} 
           ending-is = T .ending-is;
         }
 
-    -- one line more: the handles of the two families, whichever changed
-    pub more-keeps : {r : Tally} {p q n : ℕ} {P R : Family} → Stays (m .store .count) (bookOf nodes′ (m .store .count)) p P → Stays (m .store .count) (bookOf nodes′ (m .store .count)) q R
+    -- the two handles behind a line, whichever changed
+    both-keep : {r : Tally} {p q n : ℕ} {P R : Family} → Stays (m .store .count) (bookOf nodes′ (m .store .count)) p P → Stays (m .store .count) (bookOf nodes′ (m .store .count)) q R
         → n ≡ capped (suc (t .lines)) → TallyIs (m .store) p q n Going r
         → Keeps capacity r nodes′ lookup′ cache′ (record { lot = record { book = a .book; passed = P; returned = R }; lines = suc (g .lines); line = begin; ending = Going })
-    more-keeps p q e T =
+    both-keep p q e T =
         record {
           sound = rw (T .store-is) (A .sound);
           capacity-is = ap (λ x. x .capacity) (T .store-is) ∙ A .capacity-is;
@@ -166,79 +164,56 @@ module _ {capacity : ℕ} {t : Tally} {nodes lookup cache : List ℕ} {g : Log} 
           ending-is = T .ending-is;
         }
 
-    pub given-stays : (h : ℕ) → m .answer ≡ Handle h → Stays (m .store .count) (bookOf nodes′ (m .store .count)) h (a .family)
-    given-stays h e = let G = gives A h e in record { held = G .inside; means = G .means }
+    -- one line more of a side: its handle is the one given, the other stays
+    more-keeps : (d : Side) {h n : ℕ} {r : Tally} → m .answer ≡ Handle h → n ≡ capped (suc (t .lines)) → TallyIs (m .store) (passedWith d t h) (returnedWith d t h) n Going r
+        → Keeps capacity r nodes′ lookup′ cache′ (record { lot = putSide d (g .lot) (a .book) (a .family); lines = suc (g .lines); line = begin; ending = Going })
+    more-keeps d {h} {n} {r} e en T = go d T
+      where
+        given : Stays (m .store .count) (bookOf nodes′ (m .store .count)) h (a .family)
+        given = let G = gives A h e in record { held = G .inside; means = G .means }
+
+        go : (d : Side) → TallyIs (m .store) (passedWith d t h) (returnedWith d t h) n Going r
+            → Keeps capacity r nodes′ lookup′ cache′ (record { lot = putSide d (g .lot) (a .book) (a .family); lines = suc (g .lines); line = begin; ending = Going })
+        go Passed T = both-keep given (same (t .returned) (g .lot .returned) (K .returned-held) (K .returned-is)) en T
+        go Returned T = both-keep (same (t .passed) (g .lot .passed) (K .passed-held) (K .passed-is)) given en T
 
 -- what is counted, by whether the store was full
 module _ (g : Log) (a : Added) where
-  passed-full : a .full ≡ true
-      → record { lot = record { book = a .book; passed = g .lot .passed; returned = g .lot .returned }; lines = g .lines; line = begin; ending = Full } ≡ counted g (withPassed (g .lot) a)
-  passed-full e = rw e
+  pub side-full : (d : Side) → a .full ≡ true
+      → record { lot = record { book = a .book; passed = g .lot .passed; returned = g .lot .returned }; lines = g .lines; line = begin; ending = Full } ≡ counted g (withSide d (g .lot) a)
+  side-full Passed e = rw e
+  side-full Returned e = rw e
 
-  passed-more : a .full ≡ false
-      → record { lot = record { book = a .book; passed = a .family; returned = g .lot .returned }; lines = suc (g .lines); line = begin; ending = Going } ≡ counted g (withPassed (g .lot) a)
-  passed-more e = rw e
+  pub side-more : (d : Side) → a .full ≡ false → record { lot = putSide d (g .lot) (a .book) (a .family); lines = suc (g .lines); line = begin; ending = Going } ≡ counted g (withSide d (g .lot) a)
+  side-more d e = rw e
 
-  returned-full : a .full ≡ true
-      → record { lot = record { book = a .book; passed = g .lot .passed; returned = g .lot .returned }; lines = g .lines; line = begin; ending = Full } ≡ counted g (withReturned (g .lot) a)
-  returned-full e = rw e
-
-  returned-more : a .full ≡ false
-      → record { lot = record { book = a .book; passed = g .lot .passed; returned = a .family }; lines = suc (g .lines); line = begin; ending = Going } ≡ counted g (withReturned (g .lot) a)
-  returned-more e = rw e
-
-module _ {t : Tally} {nodes lookup cache c : List ℕ} {m : Placed} {nodes′ lookup′ cache′ : List ℕ} {r : Tally} where
-  take-passed-full : AddCall (t .store) nodes lookup cache (t .passed) c m nodes′ lookup′ cache′ → (x : Refusal) → m .answer ≡ NoHandle x → TallyIs (m .store) (t .passed) (t .returned) (t .lines) Full r
-      → LineIt t nodes lookup cache Passed c r nodes′ lookup′ cache′
-  take-passed-full C x e T =
+-- the tally behind a line of a side, by what adding it gave
+module _ {t : Tally} (d : Side) {m : Placed} {r : Tally} where
+  pub end-full : (x : Refusal) → m .answer ≡ NoHandle x → TallyIs (m .store) (t .passed) (t .returned) (t .lines) Full r → LineEnd t d m r
+  end-full x e T =
       record {
-        keeps = λ capacity g K.
-            let A = for-passed K C in
-            subst (λ y. Keeps capacity r nodes′ lookup′ cache′ y) (passed-full g (added capacity (g .lot .book) (g .lot .passed) c) (refused-full A x e)) (full-keeps K A (added-grown capacity (g .lot .book) (g .lot .passed) c) T);
+        is = λ nodes lookup cache c nodes′ lookup′ cache′ C. record {
+          keeps = λ capacity g K.
+              let A = for-side K d C in
+              let w = added-grown capacity (g .lot .book) (ofSide d (g .lot)) c in
+              subst (λ y. Keeps capacity r nodes′ lookup′ cache′ y) (side-full g (added capacity (g .lot .book) (ofSide d (g .lot)) c) d (refused-full A x e)) (full-keeps K A w T);
+        };
       }
 
-  take-returned-full : AddCall (t .store) nodes lookup cache (t .returned) c m nodes′ lookup′ cache′ → (x : Refusal) → m .answer ≡ NoHandle x → TallyIs (m .store) (t .passed) (t .returned) (t .lines) Full r
-      → LineIt t nodes lookup cache Returned c r nodes′ lookup′ cache′
-  take-returned-full C x e T =
+  pub end-more : {h n : ℕ} → m .answer ≡ Handle h → n ≡ capped (suc (t .lines)) → TallyIs (m .store) (passedWith d t h) (returnedWith d t h) n Going r → LineEnd t d m r
+  end-more {h} e en T =
       record {
-        keeps = λ capacity g K.
-            let A = for-returned K C in
-            subst (λ y. Keeps capacity r nodes′ lookup′ cache′ y) (returned-full g (added capacity (g .lot .book) (g .lot .returned) c) (refused-full A x e)) (full-keeps K A (added-grown capacity (g .lot .book) (g .lot .returned) c) T);
+        is = λ nodes lookup cache c nodes′ lookup′ cache′ C. record {
+          keeps = λ capacity g K.
+              let A = for-side K d C in
+              let w = added-grown capacity (g .lot .book) (ofSide d (g .lot)) c in
+              subst (λ y. Keeps capacity r nodes′ lookup′ cache′ y) (side-more g (added capacity (g .lot .book) (ofSide d (g .lot)) c) d (gives A h e .going)) (more-keeps K A w d e en T);
+        };
       }
 
-  take-passed-more : AddCall (t .store) nodes lookup cache (t .passed) c m nodes′ lookup′ cache′ → {h n : ℕ} → m .answer ≡ Handle h → n ≡ capped (suc (t .lines)) → TallyIs (m .store) h (t .returned) n Going r
-      → LineIt t nodes lookup cache Passed c r nodes′ lookup′ cache′
-  take-passed-more C {h} e en T =
-      record {
-        keeps = λ capacity g K.
-            let A = for-passed K C in
-            let w = added-grown capacity (g .lot .book) (g .lot .passed) c in
-            subst (λ y. Keeps capacity r nodes′ lookup′ cache′ y) (passed-more g (added capacity (g .lot .book) (g .lot .passed) c) (gives A h e .going))
-            (more-keeps K A w (given-stays K A w h e) (same K A w (t .returned) (g .lot .returned) (K .returned-held) (K .returned-is)) en T);
-      }
-
-  take-returned-more : AddCall (t .store) nodes lookup cache (t .returned) c m nodes′ lookup′ cache′ → {h n : ℕ} → m .answer ≡ Handle h → n ≡ capped (suc (t .lines)) → TallyIs (m .store) (t .passed) h n Going r
-      → LineIt t nodes lookup cache Returned c r nodes′ lookup′ cache′
-  take-returned-more C {h} e en T =
-      record {
-        keeps = λ capacity g K.
-            let A = for-returned K C in
-            let w = added-grown capacity (g .lot .book) (g .lot .returned) c in
-            subst (λ y. Keeps capacity r nodes′ lookup′ cache′ y) (returned-more g (added capacity (g .lot .book) (g .lot .returned) c) (gives A h e .going))
-            (more-keeps K A w (same K A w (t .passed) (g .lot .passed) (K .passed-held) (K .passed-is)) (given-stays K A w h e) en T);
-      }
-
--- the tally behind a line, by what adding it gave
-module _ {t : Tally} {m : Placed} {r : Tally} where
-  pub end-full : (d : Side) (x : Refusal) → m .answer ≡ NoHandle x → TallyIs (m .store) (t .passed) (t .returned) (t .lines) Full r → LineEnd t d m r
-  end-full Passed x e T = record { is = λ nodes lookup cache c nodes′ lookup′ cache′ C. take-passed-full C x e T }
-  end-full Returned x e T = record { is = λ nodes lookup cache c nodes′ lookup′ cache′ C. take-returned-full C x e T }
-
-  pub end-passed : {d : Side} {h n : ℕ} → d ≡ Passed → m .answer ≡ Handle h → n ≡ capped (suc (t .lines)) → TallyIs (m .store) h (t .returned) n Going r → LineEnd t d m r
-  end-passed ed e en T = rw ed record { is = λ nodes lookup cache c nodes′ lookup′ cache′ C. take-passed-more C e en T }
-
-  pub end-returned : {d : Side} {h n : ℕ} → d ≡ Returned → m .answer ≡ Handle h → n ≡ capped (suc (t .lines)) → TallyIs (m .store) (t .passed) h n Going r → LineEnd t d m r
-  end-returned ed e en T = rw ed record { is = λ nodes lookup cache c nodes′ lookup′ cache′ C. take-returned-more C e en T }
+-- the side by what the match told
+pub end-at : {t : Tally} {d e : Side} {m : Placed} {r : Tally} → d ≡ e → LineEnd t e m r → LineEnd t d m r
+end-at p E = rw p E
 
 pub line-added : {t : Tally} {nodes lookup cache : List ℕ} {f : ℕ} {c : List ℕ} {m : Placed} {r : Tally} {nodes′ lookup′ cache′ : List ℕ} (d : Side) → f ≡ sideHandle d t
     → AddCall (t .store) nodes lookup cache f c m nodes′ lookup′ cache′ → LineEnd t d m r → LineIt t nodes lookup cache d c r nodes′ lookup′ cache′
@@ -260,7 +235,7 @@ module _ {t : Tally} {nodes lookup cache : List ℕ} (b : ℕ) (next : Reading) 
       record { keeps = λ capacity g K. subst (λ p. Keeps capacity r nodes′ lookup′ cache′ (readOn capacity g (nextByte (g .line) b) p)) (sym (staged K d)) (L .keeps capacity g K) }
 
 pub next-read : {t : Tally} {nodes lookup cache : List ℕ} (b : ℕ) (next : Reading) → stateOf next ≡ nextByte (stateOf (t .reading)) b → {st : Stage} → next .stage ≡ st → {r : Tally} (end : Ending)
-    → (r .store ≡ t .store) × (r .passed ≡ t .passed) × (r .returned ≡ t .returned) × (r .lines ≡ t .lines) × (r .reading ≡ next) × (r .ending ≡ end)
+    → ReadOnIs t next end r
     → ((capacity : ℕ) (g : Log) (s : LineState) (d : Side) (c : List ℕ) (n : ℕ) → readOn capacity g s (progressOf st d c n) ≡ record { lot = g .lot; lines = g .lines; line = s; ending = end })
     → NextIt t nodes lookup cache b r nodes lookup cache
 next-read {t} {nodes} {lookup} {cache} b next e {st} d {r} end f h =
@@ -268,7 +243,7 @@ next-read {t} {nodes} {lookup} {cache} b next e {st} d {r} end f h =
       keeps = λ capacity g K.
           subst (λ x. Keeps capacity r nodes lookup cache x)
           (sym (h capacity g (nextByte (g .line) b) (next .side) (itemsOf (next .items .words)) (next .item)) ∙ sym (ap (λ p. readOn capacity g (nextByte (g .line) b) p) (staged b next e K d)))
-          (read-keeps K r (f .0) (f .1) (f .2) (f .3) (ap stateOf (f .4) ∙ read-is b next e K) (f .5));
+          (read-keeps K f (read-is b next e K));
     }
 
 -- the stages at which a line goes on: blank, letter, space, number
@@ -285,7 +260,7 @@ going-on Stage.Whole k capacity g s d c n = absurd (miss going 4 tt k)
 going-on Stage.Malformed k capacity g s d c n = absurd (miss going 5 tt k)
 
 pub next-going : {t : Tally} {nodes lookup cache : List ℕ} (b : ℕ) (next : Reading) → stateOf next ≡ nextByte (stateOf (t .reading)) b → OneOf going (tagOf the-stage (next .stage)) → {r : Tally}
-    → (r .store ≡ t .store) × (r .passed ≡ t .passed) × (r .returned ≡ t .returned) × (r .lines ≡ t .lines) × (r .reading ≡ next) × (r .ending ≡ Going) → NextIt t nodes lookup cache b r nodes lookup cache
+    → ReadOnIs t next Going r → NextIt t nodes lookup cache b r nodes lookup cache
 next-going b next e k f = next-read b next e refl Going f (going-on (next .stage) k)
 
 stopped : (x : Ending) → OneOf (1 ∷ 2 ∷ []) (tagOf the-ending x) → (u w : Log) → whileGoing x u w ≡ w

@@ -1,22 +1,16 @@
 -- A log taken byte by byte, and what the program prints at its end: document 01, 'Report program'.
-use Prim.Native.Nat.{ℕ, suc, _+_, _≤_, min}
-use mathlib.Core.Path.{_≡_}
+use Prim.Native.Nat.{ℕ, suc, min}
 use mathlib.Core.Bool.{Bool, cond}
 use mathlib.Core.List.{List, foldl}
-use lib.ListN.{length, take}
 use Rattle.family.specs.Family.{Family, empty, size}
 use Rattle.family.specs.Operation.{intsec, diff}
-use Rattle.family.specs.Book.{start, at}
-use Rattle.store.specs.Capacity.{capacityOf}
-use Rattle.store.specs.Words.{bookOf}
-use Rattle.store.specs.Sound.{Sound}
+use Rattle.family.specs.Book.{start}
 use Rattle.query_sizes.specs.NodeSizes.{most}
 use Rattle.report_line.specs.declared.Side.{Side}
 use Rattle.report_line.specs.declared.Side.the-variants.{Passed, Returned}
 use Rattle.report_log.specs.declared.tally.Ending.{Ending}
 use Rattle.report_log.specs.declared.tally.Ending.the-variants.{Going, Refused, Full}
-use Rattle.report_log.specs.declared.tally.Tally.{Tally}
-use Rattle.report_line.specs.Line.{Progress, blank, letter, space, numeral, whole, malformed, LineState, begin, nextByte, stateOf}
+use Rattle.report_line.specs.Line.{Progress, blank, letter, space, numeral, whole, malformed, LineState, begin, nextByte}
 use Rattle.report_add.specs.Promise.{Added, called, added}
 use Rattle.report_text.specs.Text.{lineText, refusedWord, fullWord, reportFull, sumsText}
 
@@ -31,15 +25,21 @@ pub record LineTaken : Type 0 where
   pub full : Bool
   pub lot : Lot
 
-abbrev pub withPassed : Lot → Added → LineTaken
-withPassed l a = record { full = a .full; lot = record { book = a .book; passed = cond (a .full) (l .passed) (a .family); returned = l .returned } }
+-- the family of a side, and the lot with another book and another family there
+abbrev pub ofSide : Side → Lot → Family
+ofSide Passed l = l .passed
+ofSide Returned l = l .returned
 
-abbrev pub withReturned : Lot → Added → LineTaken
-withReturned l a = record { full = a .full; lot = record { book = a .book; passed = l .passed; returned = cond (a .full) (l .returned) (a .family) } }
+abbrev pub putSide : Side → Lot → List Family → Family → Lot
+putSide Passed l B F = record { book = B; passed = F; returned = l .returned }
+putSide Returned l B F = record { book = B; passed = l .passed; returned = F }
+
+-- the lot by what adding a line of a side left; a full store leaves the families
+abbrev pub withSide : Side → Lot → Added → LineTaken
+withSide d l a = record { full = a .full; lot = putSide d l (a .book) (cond (a .full) (ofSide d l) (a .family)) }
 
 abbrev pub takeLine : ℕ → Lot → Side → List ℕ → LineTaken
-takeLine capacity l Passed c = withPassed l (added capacity (l .book) (l .passed) c)
-takeLine capacity l Returned c = withReturned l (added capacity (l .book) (l .returned) c)
+takeLine capacity l d c = withSide d l (added capacity (l .book) (ofSide d l) c)
 
 -- A log: the lot, the number of lines taken, the line begun, and whether it goes on.
 pub record Log : Type 0 where
@@ -106,29 +106,3 @@ endOf capacity g Full = lineText (capped (suc (g .lines))) fullWord
 
 unfoldable pub outputOf : ℕ → Log → List ℕ
 outputOf capacity g = endOf capacity g (g .ending)
-
--- The tally and the lent words keep a log: the store is sound and holds the log's book, the two handles are its families', the line read is its line.
-pub record Keeps (capacity : ℕ) (t : Tally) (nodes lookup cache : List ℕ) (g : Log) : Type 0 where
-  pub sound : Sound (t .store) nodes lookup cache
-  pub capacity-is : t .store .capacity ≡ capacity
-  pub book-is : bookOf nodes (t .store .count) ≡ g .lot .book
-  pub passed-held : t .passed ≤ t .store .count + 1
-  pub passed-is : at (bookOf nodes (t .store .count)) (t .passed) ≡ g .lot .passed
-  pub returned-held : t .returned ≤ t .store .count + 1
-  pub returned-is : at (bookOf nodes (t .store .count)) (t .returned) ≡ g .lot .returned
-  pub lines-is : t .lines ≡ capped (g .lines)
-  pub line-is : stateOf (t .reading) ≡ g .line
-  pub ending-is : t .ending ≡ g .ending
-
--- Opening a log: fresh words, of which there are enough for a node and a longer lookup, keep the log of no byte.
-pub record OpenCall (nodes lookup : List ℕ) (t : Tally) (nodes′ lookup′ cache′ : List ℕ) : Type 0 where
-  pub keeps : 3 ≤ length nodes → capacityOf (length nodes) + 1 ≤ length lookup → Keeps (capacityOf (length nodes)) t nodes′ lookup′ cache′ opening
-
--- Taking bytes: words that keep a log keep it afterwards with the bytes behind it.
-pub record TakeCall (t : Tally) (nodes lookup cache bytes : List ℕ) (t′ : Tally) (nodes′ lookup′ cache′ : List ℕ) : Type 0 where
-  pub keeps : (capacity : ℕ) (g : Log) → Keeps capacity t nodes lookup cache g → Keeps capacity t′ nodes′ lookup′ cache′ (feed capacity g bytes)
-
--- Closing: what is written is what the log's end prints; the scratch has a word for each node of the capacity.
-pub record CloseCall (t : Tally) (nodes lookup cache sizes : List ℕ) (r : ℕ) (out′ : List ℕ) : Type 0 where
-  pub inside : r ≤ length out′
-  pub written : (capacity : ℕ) (g : Log) → Keeps capacity t nodes lookup cache g → capacity ≤ length sizes → take r out′ ≡ outputOf capacity g
