@@ -18,6 +18,7 @@ use Rattle.op_cache.specs.declared.Recalled.the-variants.{Hit, Miss}
 use Rattle.op_families.specs.Inner.{OrderedAs, Shortcut, Proper, ShortcutOf, known, unknown}
 use Rattle.store.proofs.Plain.{plain-handle, plain-ran}
 use Rattle.op_step.proofs.Steps.{of}
+use Rattle.op_step.proofs.Outcomes.{ran-same}
 
 shortcut-known : {call : Call} {h : ℕ} {x : Recalled} → x ≡ Hit h → ShortcutOf call x → Shortcut call h
 shortcut-known e S = out (rw e at S)

@@ -11,6 +11,7 @@ use Rattle.op_cache.specs.declared.Call.{Call}
 use Rattle.op_families.specs.Inner.{Forked}
 use Rattle.store.proofs.Naming.{named-families, families-step, families-within}
 use Rattle.op_step.proofs.Steps.{of, Taken, Split}
+use Rattle.store.proofs.Held.{low-at}
 
 module _ (call : Call) (n : ℕ) (nodes : List ℕ) (level : ℕ) (lp : call .p ≤ n + 1) where
   -- two families

@@ -13,10 +13,6 @@ use Rattle.op_cache.specs.declared.Call.{Call}
 use Rattle.op_families.specs.declared.recursion.Fork.{Fork}
 use Rattle.op_families.specs.declared.recursion.Fork.the-variants.{Two, Broken}
 
-pub data ForkOf (nodes : List ℕ) (n : ℕ) (call : Call) (level : ℕ) : Fork → Type 0 where
-  two : {p₀ q₀ top₀ p₁ q₁ top₁ : ℕ} → Forked nodes n call level p₀ q₀ top₀ p₁ q₁ top₁ → ForkOf nodes n call level (Two p₀ q₀ top₀ p₁ q₁ top₁)
-  broken : ((B : List Family) (lookup : List ℕ) → Holds B n nodes lookup → ⊥) → ForkOf nodes n call level Broken
-
 -- the operands of an operation on two families, in an order that names the same family
 pub record OrderedAs (call other : Call) : Type 0 where
   pub op-is : other .op ≡ call .op
@@ -49,3 +45,7 @@ pub record Forked (nodes : List ℕ) (n : ℕ) (call : Call) (level p₀ q₀ to
   pub second : TwoSides nodes n (call .q) level q₀ q₁ b₀ b₁
   pub top₀-is : top₀ ≡ max a₀ b₀
   pub top₁-is : top₁ ≡ max a₁ b₁
+
+pub data ForkOf (nodes : List ℕ) (n : ℕ) (call : Call) (level : ℕ) : Fork → Type 0 where
+  two : {p₀ q₀ top₀ p₁ q₁ top₁ : ℕ} → Forked nodes n call level p₀ q₀ top₀ p₁ q₁ top₁ → ForkOf nodes n call level (Two p₀ q₀ top₀ p₁ q₁ top₁)
+  broken : ((B : List Family) (lookup : List ℕ) → Holds B n nodes lookup → ⊥) → ForkOf nodes n call level Broken

@@ -50,17 +50,17 @@ module _ (call : Call) (s : Store) (nodes lookup : List ℕ) (R : Roomy s nodes 
     is-top : {B : List Family} → Holds B (s .count) nodes lookup → top (at B (call .p)) ≡ call .q
     is-top H = sym (top-at H (call .p) (omega arith)) ∙ here
 
-    pub at-one : (r : Placed) → r .store ≡ s → r .answer ≡ Handle o → call .op ≡ 1 → RanPlain (λ B. named (call .op) B (call .p) (call .q)) s nodes lookup r nodes lookup
-    at-one r es ea e =
+    pub top-one : (r : Placed) → r .store ≡ s → r .answer ≡ Handle o → call .op ≡ 1 → RanPlain (λ B. named (call .op) B (call .p) (call .q)) s nodes lookup r nodes lookup
+    top-one r es ea e =
         plain-handle F s nodes lookup R r o es ea (T .one-within) (λ B H. T .holds B lookup H ∙ sym (item B ∙ at-subset1 (call .op) (call .q) (at B (call .p)) v (is-top H) e))
 
-    pub at-zero : (r : Placed) → r .store ≡ s → r .answer ≡ Handle z → call .op ≡ 2 → RanPlain (λ B. named (call .op) B (call .p) (call .q)) s nodes lookup r nodes lookup
-    at-zero r es ea e =
+    pub top-zero : (r : Placed) → r .store ≡ s → r .answer ≡ Handle z → call .op ≡ 2 → RanPlain (λ B. named (call .op) B (call .p) (call .q)) s nodes lookup r nodes lookup
+    top-zero r es ea e =
         plain-handle F s nodes lookup R r z es ea (T .zero-within) (λ B H. T .lacks B lookup H ∙ sym (item B ∙ at-subset0 (call .op) (call .q) (at B (call .p)) v (is-top H) e))
 
-    pub at-node : (r : Placed) {nodes′ lookup′ : List ℕ} → (call .op ≡ 1 → ⊥) → (call .op ≡ 2 → ⊥) → NodeIt s nodes lookup (call .q) o z r nodes′ lookup′
+    pub top-node : (r : Placed) {nodes′ lookup′ : List ℕ} → (call .op ≡ 1 → ⊥) → (call .op ≡ 2 → ⊥) → NodeIt s nodes lookup (call .q) o z r nodes′ lookup′
         → RanPlain (λ B. named (call .op) B (call .p) (call .q)) s nodes lookup r nodes′ lookup′
-    at-node r n k N =
+    top-node r n k N =
         plain-node F s nodes lookup (call .q) o z (T .one-within) (T .zero-within) r N
         (λ B H. (
           item B ∙ at-change (call .op) (call .q) (at B (call .p)) v (is-top H) n k ∙ rw (T .lacks B lookup H, T .holds B lookup H),

@@ -8,7 +8,7 @@ use Rattle.family.specs.Family.{top}
 use Rattle.family.specs.Book.{at}
 use Rattle.store.specs.Words.{itemLimit, topAt}
 use Rattle.store.specs.Inner.{TwoSides}
-use Rattle.store.proofs.Held.{top-at}
+use Rattle.store.proofs.Held.{top-at, low-at}
 use Rattle.op_cache.specs.declared.Call.{Call}
 use Rattle.store.proofs.Naming.{named-item, restrict-step, restrict-within}
 use Rattle.op_step.proofs.Steps.{of, Taken, Split}

@@ -12,16 +12,15 @@ use Rattle.op_promise.proofs.tested.Statement.{statement}
 use Rattle.op_promise.proofs.tested.Tie as tie
 
 -- what is known behind the first two tests
-fit : (c : tie.Else2)
-    → fitting (at-start .args .store .capacity) (at-start .args .store .count) (at-start .args .nodes) (at-start .args .lookup) ≡ true
-fit c =
-    let at-start : tie.Start = search in
-    test-passed ((c .before .before .before) .fits2 .ensures) ((c .before .before) .if1 .left)
+abbrev start·Else2 : tie.Else2 → tie.Start
+start·Else2 c = c .before .before .before .before
 
-held : (c : tie.Else2) → at-start .args .p ≤ at-start .args .store .count + 1
-held c =
-    let at-start : tie.Start = search in
-    handle-passed _ _ ((c .before) .holds .ensures) (c .if2 .left)
+fit : (c : tie.Else2)
+    → fitting ((start·Else2 c) .args .store .capacity) ((start·Else2 c) .args .store .count) ((start·Else2 c) .args .nodes) ((start·Else2 c) .args .lookup) ≡ true
+fit c = test-passed ((c .before .before .before) .fits2 .ensures) ((c .before .before) .if1 .left)
+
+held : (c : tie.Else2) → (start·Else2 c) .args .p ≤ (start·Else2 c) .args .store .count + 1
+held c = handle-passed _ _ ((c .before) .holds .ensures) (c .if2 .left)
 
 fits-requires : tie.Need-fits-requires
 fits-requires c κs = search needs

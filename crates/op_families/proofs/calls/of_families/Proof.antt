@@ -7,11 +7,33 @@ use borrow.Author.Needs.{needs}
 use Rattle.op_families.proofs.calls.of_families.Statement.{statement}
 use Rattle.op_families.proofs.calls.of_families.Tie as tie
 
+abbrev start·After-enum-told : tie.After-enum-told → tie.Start
+start·After-enum-told c = c .before .before .before .before .before .before
+
 -- what the tests say where they pass
-passed : (c : tie.After-enum-told) → (let a = at-start .args in Passed (a .op) (a .p) (a .q) (a .store) (a .nodes .now) (a .lookup .now))
-passed c =
-    let at-start : tie.Start = search in
-    passed-tests _ _ _ _ _ _ ((c .before .before) .tested .ensures) (c .enum-told .given .1)
+passed : (c : tie.After-enum-told) → (let a = (start·After-enum-told c) .args in Passed (a .op) (a .p) (a .q) (a .store) (a .nodes .now) (a .lookup .now))
+passed c = passed-tests _ _ _ _ _ _ ((c .before .before) .tested .ensures) (c .enum-told .given .1)
+
+abbrev told·After-larger : tie.After-larger → tie.After-enum-told
+told·After-larger c = c .before .before .before .before .before
+
+abbrev larger·After-apply-arg3 : tie.After-apply-arg3 → tie.After-larger
+larger·After-apply-arg3 c = c .before .before .before .before
+
+abbrev apply·After-finish-arg3 : tie.After-finish-arg3 → tie.After-apply
+apply·After-finish-arg3 c = c .before .before .before .before .before .before .before .before .before
+
+abbrev told·After-finish-arg3 : tie.After-finish-arg3 → tie.After-enum-told
+told·After-finish-arg3 c = c .before .before .before .before .before .before .before .before .before .before .before .before .before .before .before .before .before .before .before
+
+abbrev apply·After-slice-known9 : tie.After-slice-known9 → tie.After-apply
+apply·After-slice-known9 c = c .before .before .before .before .before .before .before .before .before .before .before .before .before .before .before .before
+
+abbrev finish·After-slice-known9 : tie.After-slice-known9 → tie.After-finish
+finish·After-slice-known9 c = c .before .before .before .before .before .before
+
+abbrev told·After-slice-known9 : tie.After-slice-known9 → tie.After-enum-told
+told·After-slice-known9 c = c .before .before .before .before .before .before .before .before .before .before .before .before .before .before .before .before .before .before .before .before .before .before .before .before .before .before
 
 tested-requires : tie.Need-tested-requires
 tested-requires c κs = search needs
@@ -71,10 +93,8 @@ apply-requires c κs =
 
 finish-requires : tie.Need-finish-requires
 finish-requires c κs =
-    let at-apply : tie.After-apply = search in
-    let at-told : tie.After-enum-told = search in
-    let K = at-apply .apply .ensures .kept in
-    (kept-roomy K (passed at-told .roomy), K .grows)
+    let K = (apply·After-finish-arg3 c) .apply .ensures .kept in
+    (kept-roomy K (passed (told·After-finish-arg3 c) .roomy), K .grows)
 
 same-length-2 : tie.Need-same-length-2
 same-length-2 c = search needs
@@ -87,10 +107,7 @@ same-length-4 c = search needs
 
 returns-3 : tie.Need-returns-3
 returns-3 c =
-    let at-finish : tie.After-finish = search in
-    let at-apply : tie.After-apply = search in
-    let at-told : tie.After-enum-told = search (at-apply) in
-    done _ _ _ _ _ _ (passed at-told) _ (at-apply .apply .ensures) (at-finish .finish .ensures)
+    done _ _ _ _ _ _ (passed (told·After-slice-known9 c)) _ ((apply·After-slice-known9 c) .apply .ensures) ((finish·After-slice-known9 c) .finish .ensures)
 
 pub of-families-spec : {M : Type 1} → statement M
 of-families-spec =

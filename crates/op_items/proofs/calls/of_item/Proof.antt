@@ -7,11 +7,30 @@ use borrow.Author.Needs.{needs}
 use Rattle.op_items.proofs.calls.of_item.Statement.{statement}
 use Rattle.op_items.proofs.calls.of_item.Tie as tie
 
+abbrev start·After-enum-told : tie.After-enum-told → tie.Start
+start·After-enum-told c = c .before .before .before .before .before .before
+
 -- what the tests say where they pass
-passed : (c : tie.After-enum-told) → (let a = at-start .args in Passed (a .op) (a .p) (a .item) (a .store) (a .nodes .now) (a .lookup .now))
-passed c =
-    let at-start : tie.Start = search in
-    passed-tests _ _ _ _ _ _ ((c .before .before) .tested .ensures) (c .enum-told .given .1)
+passed : (c : tie.After-enum-told) → (let a = (start·After-enum-told c) .args in Passed (a .op) (a .p) (a .item) (a .store) (a .nodes .now) (a .lookup .now))
+passed c = passed-tests _ _ _ _ _ _ ((c .before .before) .tested .ensures) (c .enum-told .given .1)
+
+abbrev told·After-restrict-arg3 : tie.After-restrict-arg3 → tie.After-enum-told
+told·After-restrict-arg3 c = c .before .before .before .before .before .before
+
+abbrev restrict·After-finish-arg3 : tie.After-finish-arg3 → tie.After-restrict
+restrict·After-finish-arg3 c = c .before .before .before .before .before .before .before .before .before
+
+abbrev told·After-finish-arg3 : tie.After-finish-arg3 → tie.After-enum-told
+told·After-finish-arg3 c = c .before .before .before .before .before .before .before .before .before .before .before .before .before .before .before .before
+
+abbrev restrict·After-slice-known9 : tie.After-slice-known9 → tie.After-restrict
+restrict·After-slice-known9 c = c .before .before .before .before .before .before .before .before .before .before .before .before .before .before .before .before
+
+abbrev finish·After-slice-known9 : tie.After-slice-known9 → tie.After-finish
+finish·After-slice-known9 c = c .before .before .before .before .before .before
+
+abbrev told·After-slice-known9 : tie.After-slice-known9 → tie.After-enum-told
+told·After-slice-known9 c = c .before .before .before .before .before .before .before .before .before .before .before .before .before .before .before .before .before .before .before .before .before .before .before
 
 tested-requires : tie.Need-tested-requires
 tested-requires c κs = search needs
@@ -46,18 +65,15 @@ returns-2 c =
 
 restrict-requires : tie.Need-restrict-requires
 restrict-requires c κs =
-    let at-told : tie.After-enum-told = search in
-    let P = passed at-told in
-    let pre = (start·After-enum-told at-told) .pre in
+    let P = passed (told·After-restrict-arg3 c) in
+    let pre = (start·After-enum-told (told·After-restrict-arg3 c)) .pre in
     let item = P .item (pre .1) in
     (P .roomy, ((pre .0, pre .1, P .first, item .0, item .1), ((c .before .before .before .before) .top-of .ensures, omega (arith, (c .before .before .before) .if1 .left))))
 
 finish-requires : tie.Need-finish-requires
 finish-requires c κs =
-    let at-restrict : tie.After-restrict = search in
-    let at-told : tie.After-enum-told = search in
-    let K = at-restrict .restrict .ensures .kept in
-    (kept-roomy K (passed at-told .roomy), K .grows)
+    let K = (restrict·After-finish-arg3 c) .restrict .ensures .kept in
+    (kept-roomy K (passed (told·After-finish-arg3 c) .roomy), K .grows)
 
 same-length-2 : tie.Need-same-length-2
 same-length-2 c = search needs
@@ -70,10 +86,7 @@ same-length-4 c = search needs
 
 returns-3 : tie.Need-returns-3
 returns-3 c =
-    let at-finish : tie.After-finish = search in
-    let at-restrict : tie.After-restrict = search in
-    let at-told : tie.After-enum-told = search in
-    done _ _ _ _ _ _ (passed at-told) _ (at-restrict .restrict .ensures) (at-finish .finish .ensures)
+    done _ _ _ _ _ _ (passed (told·After-slice-known9 c)) _ ((restrict·After-slice-known9 c) .restrict .ensures) ((finish·After-slice-known9 c) .finish .ensures)
 
 pub of-item-spec : {M : Type 1} → statement M
 of-item-spec =

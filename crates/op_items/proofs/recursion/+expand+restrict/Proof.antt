@@ -152,22 +152,25 @@ expand-same-length-5 : (t : ℕ) → expand-lts.Need-same-length-5 (expand-claim
 expand-same-length-5 t c =
     let at-join : expand-lts.After-join (expand-claims t) (expand-at t) expand.Post = search in
     let at-restrict2 : expand-lts.After-restrict2 (expand-claims t) (expand-at t) expand.Post = search in
-    let at-restrict : expand-lts.After-restrict (expand-claims t) (expand-at t) expand.Post = search (at-restrict2) in
-    at-join .join .kept .1 .0 ∙ at-restrict2 .restrict2 .kept .1 .1 .1 .0 ∙ at-restrict .restrict .kept .1 .1 .1 .0
+    let at-answer : expand-lts.After-answer (expand-claims t) (expand-at t) expand.Post = search in
+    let at-restrict : expand-lts.After-restrict (expand-claims t) (expand-at t) expand.Post = search (at-answer) in
+    cc
 
 expand-same-length-6 : (t : ℕ) → expand-lts.Need-same-length-6 (expand-claims t) (expand-at t) expand.Post
 expand-same-length-6 t c =
     let at-join : expand-lts.After-join (expand-claims t) (expand-at t) expand.Post = search in
     let at-restrict2 : expand-lts.After-restrict2 (expand-claims t) (expand-at t) expand.Post = search in
-    let at-restrict : expand-lts.After-restrict (expand-claims t) (expand-at t) expand.Post = search (at-restrict2) in
-    at-join .join .kept .1 .1 .0 ∙ at-restrict2 .restrict2 .kept .1 .1 .1 .1 .0 ∙ at-restrict .restrict .kept .1 .1 .1 .1 .0
+    let at-answer : expand-lts.After-answer (expand-claims t) (expand-at t) expand.Post = search in
+    let at-restrict : expand-lts.After-restrict (expand-claims t) (expand-at t) expand.Post = search (at-answer) in
+    cc
 
 expand-same-length-7 : (t : ℕ) → expand-lts.Need-same-length-7 (expand-claims t) (expand-at t) expand.Post
 expand-same-length-7 t c =
     let at-join : expand-lts.After-join (expand-claims t) (expand-at t) expand.Post = search in
     let at-restrict2 : expand-lts.After-restrict2 (expand-claims t) (expand-at t) expand.Post = search in
-    let at-restrict : expand-lts.After-restrict (expand-claims t) (expand-at t) expand.Post = search (at-restrict2) in
-    at-join .join .kept .1 .1 .1 .0 ∙ at-restrict2 .restrict2 .kept .1 .1 .1 .1 .1 .0 ∙ at-restrict .restrict .kept .1 .1 .1 .1 .1 .0
+    let at-answer : expand-lts.After-answer (expand-claims t) (expand-at t) expand.Post = search in
+    let at-restrict : expand-lts.After-restrict (expand-claims t) (expand-at t) expand.Post = search (at-answer) in
+    cc
 
 expand-returns-3 : (t : ℕ) → expand-lts.Need-returns-3 (expand-claims t) (expand-at t) expand.Post
 expand-returns-3 t c =

@@ -2,7 +2,7 @@
 -- Each way out is one law of restricting; where a split fails, the words hold no book.
 use Rattle.store.proofs.Sides.{sides-two, sides-broken}
 use Rattle.store.proofs.Plain.{plain-broken}
-use Rattle.op_items.proofs.Restricting.{at-one, at-zero, at-node}
+use Rattle.op_items.proofs.Restricting.{top-one, top-zero, top-node}
 use borrow.Author.Needs.{needs}
 use Rattle.op_items.proofs.terminal.at_top.Statement.{statement}
 use Rattle.op_items.proofs.terminal.at_top.Tie as tie
@@ -32,7 +32,7 @@ returns c =
     let at-start : tie.Start = search in
     let a = at-start .args in
     let p = at-start .pre in
-    at-one (a .call) (a .store) (a .nodes .now) (a .lookup .now) (p .0) (p .1 .0 .0) (p .1 .0 .1) (p .1 .0 .2) (p .1 .0 .3) (p .1 .1)
+    top-one (a .call) (a .store) (a .nodes .now) (a .lookup .now) (p .0) (p .1 .0 .0) (p .1 .0 .1) (p .1 .0 .2) (p .1 .0 .3) (p .1 .1)
     (sides-two (at-zero .zero .given .1) (at-sides-at .sides-at .ensures)) (c .placed .result) (c .placed .ensures .0) (c .placed .ensures .1) ((c .before) .if1 .taken)
 
 placed-requires-2 : tie.Need-placed-requires-2
@@ -48,7 +48,7 @@ returns-2 c =
     let at-start : tie.Start = search in
     let a = at-start .args in
     let p = at-start .pre in
-    at-zero (a .call) (a .store) (a .nodes .now) (a .lookup .now) (p .0) (p .1 .0 .0) (p .1 .0 .1) (p .1 .0 .2) (p .1 .0 .3) (p .1 .1)
+    top-zero (a .call) (a .store) (a .nodes .now) (a .lookup .now) (p .0) (p .1 .0 .0) (p .1 .0 .1) (p .1 .0 .2) (p .1 .0 .3) (p .1 .1)
     (sides-two (at-zero .zero .given .1) (at-sides-at .sides-at .ensures)) (c .placed2 .result) (c .placed2 .ensures .0) (c .placed2 .ensures .1) ((c .before) .if2 .taken)
 
 get-node-requires : tie.Need-get-node-requires
@@ -87,7 +87,7 @@ returns-4 c =
     let at-start : tie.Start = search in
     let a = at-start .args in
     let p = at-start .pre in
-    at-node (a .call) (a .store) (a .nodes .now) (a .lookup .now) (p .0) (p .1 .0 .0) (p .1 .0 .1) (p .1 .0 .2) (p .1 .0 .3) (p .1 .1)
+    top-node (a .call) (a .store) (a .nodes .now) (a .lookup .now) (p .0) (p .1 .0 .0) (p .1 .0 .1) (p .1 .0 .2) (p .1 .0 .3) (p .1 .1)
     (sides-two (at-zero .zero .given .1) (at-sides-at .sides-at .ensures)) (at-get-node .get-node .result)
     (at-if1 .if1 .left) (at-if2 .if2 .left) (at-get-node .get-node .ensures)
 
