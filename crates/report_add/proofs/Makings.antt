@@ -28,7 +28,7 @@ use Rattle.store.proofs.Decoding.{sound-holds}
 use Rattle.store.proofs.Calls.{refusal-some}
 use Rattle.op_promise.specs.Promise.{OperationCall}
 use Rattle.report_add.specs.Promise.{Added, called, nextCall, lineMade, lastAnswer, After, AddCall}
-use Rattle.report_add.specs.Inner.{changedBy, ChangeIt, MakeIt}
+use Rattle.report_add.specs.Inner.{InRange, changedBy, ChangeIt, MakeIt}
 use Rattle.report_add.proofs.Placings.{handle-inside, change-after, combine-after}
 
 -- what an answer says of the calls
@@ -76,14 +76,14 @@ module _ (m : Placed) (nodes lookup cache : List ℕ) (c : List ℕ) (v : ℕ) w
   turn-refused x e =
       record { after = λ capacity a A. by-test (holds v c) (λ t. rw (t, next-full capacity (change v) a (refused-full A x e)) A) (λ t. rw t A) }
 
-  pub turn-changed : {t : Bool} {h : ℕ} {r : Placed} {nodes′ lookup′ cache′ : List ℕ} → t ≡ holds v c → not t ≡ false → 1 ≤ v → v ≤ 512 → m .answer ≡ Handle h
+  pub turn-changed : {t : Bool} {h : ℕ} {r : Placed} {nodes′ lookup′ cache′ : List ℕ} → t ≡ holds v c → not t ≡ false → InRange v → m .answer ≡ Handle h
       → OperationCall 3 h v (m .store) nodes lookup cache r nodes′ lookup′ cache′ → ChangeIt m nodes lookup cache c v r nodes′ lookup′ cache′
-  turn-changed {h = h} {r = r} {nodes′} {lookup′} {cache′} e d n l eh P = record { after = go }
+  turn-changed {h = h} {r = r} {nodes′} {lookup′} {cache′} e d i eh P = record { after = go }
     where
       go : (capacity : ℕ) (a : Added) → After capacity m nodes lookup cache a → After capacity r nodes′ lookup′ cache′ (changedBy capacity c v a)
       go capacity a A =
           let G = gives A h eh in
-          let Q = change-after (A .sound) h (G .inside) v n l P in
+          let Q = change-after (A .sound) h (G .inside) v (i .low) (i .high) P in
           rw (sym e ∙ not-false _ d, next-going capacity (change v) a (G .going), ← A .capacity-is, ← A .book-is, ← G .means) Q
 
 -- the loop over the items: before each turn, the combination of the smaller items is made

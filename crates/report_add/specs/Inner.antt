@@ -1,5 +1,5 @@
 -- What the functions below the public ones promise each other. A reader of the promises can pass this page over.
-use Prim.Native.Nat.{ℕ}
+use Prim.Native.Nat.{ℕ, _≤_}
 use mathlib.Core.Bool.{cond}
 use mathlib.Core.List.{List}
 use Rattle.family.specs.Operation.{change}
@@ -9,6 +9,11 @@ use Rattle.store.specs.declared.record.Placed.{Placed}
 use Rattle.store.specs.Words.{bookOf}
 use Rattle.store.specs.Sound.{Sound}
 use Rattle.report_add.specs.Promise.{Added, nextCall, lineMade, After}
+
+-- an item to change by
+pub record InRange (v : ℕ) : Type 0 where
+  pub low : 1 ≤ v
+  pub high : v ≤ 512
 
 -- one Change more, where a combination holds the item
 abbrev pub changedBy : ℕ → List ℕ → ℕ → Added → Added

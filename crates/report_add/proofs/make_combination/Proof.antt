@@ -26,7 +26,7 @@ loop-holds c = making-start _ _ _ _ _ _ 1 (c .placed .ensures .1) ((c .before) .
 change-by-requires : tie.Need-change-by-requires Inv-loop μ-loop
 change-by-requires c κs =
     let at-loop : tie.At-loop Inv-loop μ-loop = search in
-    (at-loop .loop .inv .low, (c .before .before .before) .loop-test .taken)
+    record { low = at-loop .loop .inv .low; high = (c .before .before .before) .loop-test .taken }
 
 add-item : tie.Need-add-item Inv-loop μ-loop
 add-item c = search needs
@@ -35,11 +35,7 @@ loop-less : tie.Need-loop-less Inv-loop μ-loop
 loop-less c = search needs
 
 loop-again : tie.Need-loop-again Inv-loop μ-loop
-loop-again c =
-    let at-change-by : tie.After-change-by Inv-loop μ-loop = search in
-    let at-loop-test : tie.In-loop Inv-loop μ-loop = search in
-    let at-loop : tie.At-loop Inv-loop μ-loop = search in
-    making-again (at-loop .loop .inv) (at-loop-test .loop-test .taken) (at-change-by .change-by .ensures) (at-change-by .change-by .kept .1 .0) (at-change-by .change-by .kept .1 .1 .0) (at-change-by .change-by .kept .1 .1 .1 .0)
+loop-again c = search making-again
 
 same-length : tie.Need-same-length Inv-loop μ-loop
 same-length c = (c .before) .loop .inv .long
