@@ -26,7 +26,8 @@ loop-holds c = making-start _ _ _ _ _ _ 1 (c .placed .ensures .1) ((c .before) .
 change-by-requires : tie.Need-change-by-requires Inv-loop μ-loop
 change-by-requires c κs =
     let at-loop : tie.At-loop Inv-loop μ-loop = search in
-    record { low = at-loop .loop .inv .low; high = (c .before .before .before) .loop-test .taken }
+    let at-loop-test : tie.In-loop Inv-loop μ-loop = search in
+    record { low = at-loop .loop .inv .low; high = omega (arith, at-loop-test .loop-test .taken) }
 
 add-item : tie.Need-add-item Inv-loop μ-loop
 add-item c = search needs
@@ -49,7 +50,7 @@ same-length-3 c = (c .before) .loop .inv .long-cache
 returns : tie.Need-returns Inv-loop μ-loop
 returns c =
     let at-start : tie.Start Inv-loop μ-loop = search in
-    making-end ((c .before) .loop .inv) (at-start .args .store) ((c .before .before) .placed .ensures .0) (c .loop-test .left)
+    making-end ((c .before) .loop .inv) (at-start .args .store) ((c .before .before) .placed .ensures .0) (omega (arith, c .loop-test .left))
 
 pub make-combination-spec : {M : Type 1} → statement M
 make-combination-spec =

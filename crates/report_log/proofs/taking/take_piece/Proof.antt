@@ -28,17 +28,13 @@ add-i : tie.Need-add-i Inv-loop μ-loop
 add-i c =
     let at-loop-test : tie.In-loop Inv-loop μ-loop = search in
     let at-start : tie.Start Inv-loop μ-loop = search in
-    record { fits = omega (arith, at-start .good .1 .1 .1 .1 .0, at-loop-test .loop-test .taken) }
+    search (needs, at-start, at-loop-test)
 
 loop-less : tie.Need-loop-less Inv-loop μ-loop
 loop-less c = search needs
 
 loop-again : tie.Need-loop-again Inv-loop μ-loop
-loop-again c =
-    let at-take-byte : tie.After-take-byte Inv-loop μ-loop = search in
-    let at-loop-test : tie.In-loop Inv-loop μ-loop = search in
-    let at-loop : tie.At-loop Inv-loop μ-loop = search in
-    taking-again (at-loop .loop .inv) (at-loop-test .loop-test .taken) (at-take-byte .take-byte .ensures) (at-take-byte .take-byte .kept .1 .0) (at-take-byte .take-byte .kept .1 .1 .0) (at-take-byte .take-byte .kept .1 .1 .1 .0)
+loop-again c = search taking-again
 
 same-length : tie.Need-same-length Inv-loop μ-loop
 same-length c = (c .before) .loop .inv .long
@@ -50,7 +46,7 @@ same-length-3 : tie.Need-same-length-3 Inv-loop μ-loop
 same-length-3 c = (c .before) .loop .inv .long-cache
 
 returns : tie.Need-returns Inv-loop μ-loop
-returns c = taking-end ((c .before) .loop .inv) (c .loop-test .left)
+returns c = search taking-end
 
 pub take-piece-spec : {M : Type 1} → statement M
 take-piece-spec =
