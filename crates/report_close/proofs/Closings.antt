@@ -41,8 +41,11 @@ use Rattle.report_log.proofs.tally.Ending.{the-type as the-ending}
 use Rattle.report_log.specs.declared.tally.Tally.{Tally}
 use Rattle.report_line.specs.Line.{progressOf}
 use Rattle.report_add.specs.Promise.{Added, called, After}
-use Rattle.report_text.specs.Text.{reportFull, lineText, sumsText, Wrote}
-use Rattle.report_log.specs.Log.{Log, capped, closing, lastLine, endOf, outputOf, Keeps, CloseCall}
+use Rattle.report_text.specs.Text.{reportFull, lineText, sumsText}
+use Rattle.report_text.specs.Promise.{Wrote}
+use Rattle.report_log.specs.Log.{Log, capped, closing, lastLine, endOf, outputOf}
+use Rattle.report_log.specs.Promise.{Keeps}
+use Rattle.report_close.specs.Promise.{CloseCall}
 use Rattle.report_close.specs.Inner.{SizeIt, SizesIt, SumsIt, endText, EndIs}
 use Rattle.report_add.proofs.Placings.{combine-after}
 use Rattle.report_add.proofs.Makings.{gives, refused-full, placed-grown}
@@ -95,17 +98,15 @@ module _ {s : Store} {nodes lookup : List ℕ} {p : ℕ} {sizes : List ℕ} {m :
   pub size-brimmed : (x : Refusal) → m .answer ≡ NoSize x → SizeIt s nodes lookup p (length sizes) most
   size-brimmed x e = record { is = λ S l w. brimmed S l w x e }
 
--- the scratch keeps its length
-pub as-long : {s : Store} {nodes lookup : List ℕ} {p words words′ r : ℕ} → words ≡ words′ → SizeIt s nodes lookup p words r → SizeIt s nodes lookup p words′ r
-as-long e Z = rw (← e) Z
-
-pub sizes-written : {s : Store} {nodes lookup : List ℕ} {h : Handles} {words a b c d : ℕ} {out : List ℕ} {r : ℕ} {out′ : List ℕ}
-    → SizeIt s nodes lookup (h .passed) words a → SizeIt s nodes lookup (h .returned) words b → SizeIt s nodes lookup (h .both) words c → SizeIt s nodes lookup (h .only) words d
-    → Wrote out 0 (sumsText a b c d) r out′ → SizesIt s nodes lookup h words r out′
-sizes-written A B C D W =
+-- four sizes, written; the scratch keeps its length
+pub sizes-written : {s : Store} {nodes lookup : List ℕ} {h : Handles} {words words₁ words₂ words₃ a b c d : ℕ} {out : List ℕ} {r : ℕ} {out′ : List ℕ}
+    → SizeIt s nodes lookup (h .passed) words a → words₁ ≡ words → SizeIt s nodes lookup (h .returned) words₁ b → words₂ ≡ words₁ → SizeIt s nodes lookup (h .both) words₂ c → words₃ ≡ words₂
+    → SizeIt s nodes lookup (h .only) words₃ d → Wrote out 0 (sumsText a b c d) r out′ → SizesIt s nodes lookup h words r out′
+sizes-written A e₁ B e₂ C e₃ D W =
     record {
       inside = W .inside;
-      written = λ S H w. W .is ∙ (λ i. sumsText (A .is S (H .passed) w i) (B .is S (H .returned) w i) (C .is S (H .both) w i) (D .is S (H .only) w i));
+      written = λ S H w. W .is
+          ∙ (λ i. sumsText (A .is S (H .passed) w i) (B .is S (H .returned) (omega arith) i) (C .is S (H .both) (omega arith) i) (D .is S (H .only) (omega arith) i));
     }
 
 -- what the closing sums come to, by the two calls

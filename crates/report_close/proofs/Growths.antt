@@ -22,7 +22,8 @@ use Rattle.report_log.specs.declared.tally.Ending.{Ending}
 use Rattle.report_log.specs.declared.tally.Ending.the-variants.{Going, Refused, Full}
 use Rattle.report_line.specs.Line.{Progress, blank, letter, space, numeral, whole, malformed, gap, isDigit, closed, advance, LineState, begin, nextByte, lineOf}
 use Rattle.report_add.specs.Promise.{Added, added}
-use Rattle.report_log.specs.Log.{withPassed, withReturned, takeLine, Log, opening, counted, readOn, whileGoing, logByte, feed, capped}
+use Rattle.report_log.specs.Log.{ofSide, putSide, withSide, takeLine, Log, opening, counted, readOn, whileGoing, logByte, feed, capped}
+use Rattle.report_log.proofs.Logs.{side-full, side-more}
 use Rattle.report_close.proofs.Meanings.{added-single, union-size, intsec-size, diff-size}
 
 -- the items taken of a line are a combination
@@ -104,21 +105,22 @@ pub record Sane (g : Log) : Type 0 where
   pub returned : Few (g .lines) (g .lot .returned)
 
 module _ (capacity : ℕ) (g : Log) (h : Sane g) where
-  sane-passed : (a : Added) → (a .full ≡ false → Few (suc (g .lines)) (a .family)) → Sane (counted g (withPassed (g .lot) a))
-  sane-passed a f =
+  sane-side : (d : Side) (a : Added) → (a .full ≡ false → Few (suc (g .lines)) (a .family)) → Sane (counted g (withSide d (g .lot) a))
+  sane-side d a f =
       by-test (a .full)
-      (λ t. rw t record { line = of-blank; passed = h .passed; returned = h .returned })
-      (λ t. rw t record { line = of-blank; passed = f t; returned = few-more (h .returned) })
-
-  sane-returned : (a : Added) → (a .full ≡ false → Few (suc (g .lines)) (a .family)) → Sane (counted g (withReturned (g .lot) a))
-  sane-returned a f =
-      by-test (a .full)
-      (λ t. rw t record { line = of-blank; passed = h .passed; returned = h .returned })
-      (λ t. rw t record { line = of-blank; passed = few-more (h .passed); returned = f t })
+      (λ t. subst Sane (side-full g a d t) (record { line = of-blank; passed = h .passed; returned = h .returned }))
+      (λ t. subst Sane (side-more g a d t) (more-sane d (f t)))
+    where
+      more-sane : (d : Side) → Few (suc (g .lines)) (a .family) → Sane (record { lot = putSide d (g .lot) (a .book) (a .family); lines = suc (g .lines); line = begin; ending = Going })
+      more-sane Passed x = record { line = of-blank; passed = x; returned = few-more (h .returned) }
+      more-sane Returned x = record { line = of-blank; passed = few-more (h .passed); returned = x }
 
   sane-line : (d : Side) (c : List ℕ) → Combined 512 c → Sane (counted g (takeLine capacity (g .lot) d c))
-  sane-line Passed c k = sane-passed (added capacity (g .lot .book) (g .lot .passed) c) (few-added capacity (g .lot .book) (g .lot .passed) c k (h .passed))
-  sane-line Returned c k = sane-returned (added capacity (g .lot .book) (g .lot .returned) c) (few-added capacity (g .lot .book) (g .lot .returned) c k (h .returned))
+  sane-line d c k = sane-side d (added capacity (g .lot .book) (ofSide d (g .lot)) c) (few-added capacity (g .lot .book) (ofSide d (g .lot)) c k (few d))
+    where
+      few : (d : Side) → Few (g .lines) (ofSide d (g .lot))
+      few Passed = h .passed
+      few Returned = h .returned
 
   sane-read : (s : LineState) (p : Progress) → s .progress ≡ p → Good p → Sane (readOn capacity g s p)
   sane-read s (whole d c) e (of-whole k) = sane-line d c k

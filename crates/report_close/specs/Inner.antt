@@ -13,7 +13,8 @@ use Rattle.report_log.specs.declared.tally.Ending.{Ending}
 use Rattle.report_log.specs.declared.tally.Ending.the-variants.{Going, Refused, Full}
 use Rattle.report_log.specs.declared.tally.Tally.{Tally}
 use Rattle.report_text.specs.Text.{refusedWord, fullWord, lineText, sumsText}
-use Rattle.report_log.specs.Log.{Log, capped, closing, outputOf, Keeps}
+use Rattle.report_log.specs.Log.{Log, capped, closing, outputOf}
+use Rattle.report_log.specs.Promise.{Keeps}
 
 -- the size of a handle that is held, with enough scratch
 pub record SizeIt (s : Store) (nodes lookup : List ℕ) (p words r : ℕ) : Type 0 where

@@ -1,7 +1,7 @@
 // The end of a report: the closing sums, or the line that ended the log.
 ghost use Prim.Native.Nat.{_≤_};
 ghost use lib.ListN.{length};
-ghost use Rattle.report_log.specs.Log.{CloseCall};
+ghost use Rattle.report_close.specs.Promise.{CloseCall};
 ghost use Rattle.report_close.specs.Inner.{SizeIt, SizesIt, SumsIt, EndIs};
 use query_size::SizeAnswer;
 use query_size::size;

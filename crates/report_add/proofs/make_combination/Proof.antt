@@ -1,7 +1,7 @@
 -- Every item from 1 to 512 that the combination holds is put in by one Change, the smallest first.
 -- Before each turn the combination of the smaller items is made.
 use borrow.Author.Needs.{needs}
-use Prim.Native.Nat.{_-_}
+use Prim.Native.Nat.{_-_, _≤_}
 use mathlib.Core.Path.{refl}
 use native.Mathlib.Omega.{arith}
 use Rattle.report_add.proofs.Makings.{Making, making-start, making-again, making-end}
@@ -36,7 +36,11 @@ loop-less : tie.Need-loop-less Inv-loop μ-loop
 loop-less c = search needs
 
 loop-again : tie.Need-loop-again Inv-loop μ-loop
-loop-again c = search making-again
+loop-again c =
+    let at-loop-test : tie.In-loop Inv-loop μ-loop = search in
+    let at-loop : tie.At-loop Inv-loop μ-loop = search in
+    let low : at-loop .loop .item ≤ 512 = omega (arith, at-loop-test .loop-test .taken) in
+    search making-again
 
 same-length : tie.Need-same-length Inv-loop μ-loop
 same-length c = (c .before) .loop .inv .long
