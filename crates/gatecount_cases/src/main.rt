@@ -7,7 +7,9 @@ fn report_on(i: usize) {
     io::write_all(STDOUT_FILENO, &path[..length]);
     io::write_all(STDOUT_FILENO, b":\n");
     let fd = os::open_read(&path[..length]);
-    if !report_run::report::report_on(fd, 7) {
+    let mut out = [0u8; 128];
+    let run = report_run::report::report_on(fd, 7, &mut out);
+    if !run.written {
         os::fail(&path[..length]);
     }
     libc::close(fd);

@@ -3,9 +3,11 @@
 use Prim.Native.Nat.{ℕ}
 use mathlib.Core.Path.{_≡_, refl, sym, ap, subst, _∙_}
 use mathlib.Core.Bool.{Bool, false}
-use mathlib.Core.List.{List, []}
+use mathlib.Core.List.{List, [], _∷_}
 use native.Mathlib.Omega.{arith}
 use lib.ListN.{length, take}
+use types.Run.{OneOf, miss}
+use denote.Enum.Declared.{tagOf}
 use Rattle.store.specs.Capacity.{capacityOf}
 use Rattle.report_log.specs.declared.tally.Tally.{Tally}
 use Rattle.report_log.specs.Log.{opening, feed}
@@ -20,7 +22,12 @@ use Rattle.report_run.specs.declared.report.Run.{Run}
 use Rattle.report_run.specs.Reads.{inputOf}
 use Rattle.report_run.specs.Promise.{ReadAllCall, ReportOf, ReportCall}
 use Rattle.report_run.specs.Inner.{Reported, HasReport}
+use Rattle.report_run.proofs.feeding.Input.{the-type as the-input}
 use Rattle.report_run.proofs.Feedings.{reads-keep, reads-heard}
+
+-- an input that is not done
+pub not-done : (x : Input) → OneOf (0 ∷ 2 ∷ []) (tagOf the-input x) → x ≡ Done → ⊥
+not-done x k e = miss (0 ∷ 2 ∷ []) 1 tt (subst (λ y. OneOf (0 ∷ 2 ∷ []) (tagOf the-input y)) e k)
 
 module _ {nodes₀ lookup₀ : List ℕ} {t : Tally} {nodes lookup cache : List ℕ} (en : length nodes₀ ≡ 1500) (el : length lookup₀ ≡ 1001) (O : OpenCall nodes₀ lookup₀ t nodes lookup cache) where
   opened : Keeps 500 t nodes lookup cache opening

@@ -16,9 +16,9 @@ pub record OneRead (t : Tally) (nodes lookup cache : List ℕ) (r : Fed) (nodes�
   pub taken : ReadCall t nodes lookup cache (answer .buffer) (answer .got) r nodes′ lookup′ cache′
 
 -- "(500 nodes, 1,001 lookup words, 1,024 cache words)": a report, on words of these lengths
-pub record Reported (lookup′ cache′ : List ℕ) (r : Report) (out′ : List ℕ) : Type 0 where
-  pub lookup-words : length lookup′ ≡ 1001
-  pub cache-words : length cache′ ≡ 1024
+pub record Reported (lookup cache : List ℕ) (r : Report) (out′ : List ℕ) : Type 0 where
+  pub lookup-words : length lookup ≡ 1001
+  pub cache-words : length cache ≡ 1024
   pub report : ReportOf r out′
 
 -- a text that is a report, on some input

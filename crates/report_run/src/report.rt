@@ -33,7 +33,7 @@ fn make_report(
     cache: &mut [u32; CACHE_WORDS],
     out: &mut [u8; 128],
 ) -> Report
-    ensures { λ r. ⌜ Reported (now (lookup .exit)) (now (cache .exit)) r (now (out .exit)) ⌝ }
+    ensures { λ r. ⌜ Reported (now (lookup .entry)) (now (cache .entry)) r (now (out .exit)) ⌝ }
 {
     let t = open_log(nodes, lookup, cache);
     let fed = read_all(fd, most, t, nodes, lookup, cache);
