@@ -9,17 +9,17 @@ use lib.ListN.{replicate}
 use borrow.Author.Tests.{eq-eqb, ne-eqb, le-leb, lt-leb}
 use Rattle.family.specs.Combination.{isFree, including, itemsOf}
 use Rattle.family.proofs.Words.{one-record, is-including}
-use Rattle.combination.specs.declared.Combination.{Combination}
 use Rattle.report_line.specs.declared.Side.{Side}
 use Rattle.report_line.specs.declared.Side.the-variants.{Passed, Returned}
 use Rattle.report_line.specs.declared.Stage.{Stage}
 use Rattle.report_line.specs.declared.Reading.{Reading}
+use Rattle.report_line.specs.Inner.{AtStage}
 use Rattle.report_line.specs.Line.{Progress, letter, space, numeral, whole, malformed, firstByte, gap, opened, grown, closed, advance, LineState, nextByte, progressOf, stateOf}
 
--- the state of a reading, by its fields
-pub state-is : {r : Reading} {st : Stage} {sd : Side} {c : Combination} {n l : ℕ} → r .stage ≡ st → r .side ≡ sd → r .items ≡ c → r .item ≡ n → r .left ≡ l
-    → stateOf r ≡ record { progress = progressOf st sd (itemsOf (c .words)) n; left = l }
-state-is a b c d e = λ i. record { progress = progressOf (a i) (b i) (itemsOf (c i .words)) (d i); left = e i }
+-- the state of a line at another stage
+pub staged-state : {line : Reading} {st : Stage} {r : Reading} → AtStage line st r
+    → stateOf r ≡ record { progress = progressOf st (line .side) (itemsOf (line .items .words)) (line .item); left = line .left }
+staged-state A = λ i. record { progress = progressOf (A .stage-is i) (A .side-is i) (itemsOf (A .items-is i .words)) (A .item-is i); left = A .left-is i }
 
 -- the same state, its progress named otherwise
 pub progress-is : {s : LineState} {p q : Progress} {l : ℕ} → s ≡ record { progress = p; left = l } → q ≡ p → s ≡ record { progress = q; left = l }

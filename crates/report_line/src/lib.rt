@@ -5,6 +5,7 @@ ghost use Prim.Native.Nat.{_+_, _*_, _≤_};
 ghost use Rattle.family.specs.Combination.{including, itemsOf};
 ghost use Rattle.report_line.specs.Line.{letter, numeral, malformed, firstByte, gap, opened, grown, closed, advance, stateOf};
 ghost use Rattle.report_line.specs.Promise.{NewLine, ByteTaken};
+ghost use Rattle.report_line.specs.Inner.{AtStage};
 use combination::Combination;
 
 // Which family a line is for.
@@ -49,7 +50,7 @@ impl Reading {
 
     // The same line at another stage.
     fn at_stage(self, stage: Stage) -> Reading
-        ensures { λ r. ⌜ (r .stage ≡ stage) × (r .side ≡ self .side) × (r .items ≡ self .items) × (r .item ≡ self .item) × (r .left ≡ self .left) ⌝ }
+        ensures { λ r. ⌜ AtStage self stage r ⌝ }
     {
         let side = self.side;
         let items = self.items;

@@ -1,6 +1,6 @@
 -- What the reads of a log leave: by the answer of each, and turn by turn.
 -- A read's answer has three cases; the bytes of all reads are one run, since feeding two runs is feeding the one behind the other.
-use Prim.Native.Nat.{ℕ, zero, suc, _≤_, _<_, min}
+use Prim.Native.Nat.{ℕ, zero, suc, _<_, min}
 use mathlib.Core.Path.{_≡_, refl, sym, ap, subst, _∙_}
 use mathlib.Core.Bool.{true, false}
 use mathlib.Core.List.{List, [], _∷_, _++_, foldl-append, append-assoc, append-nil}

@@ -1,11 +1,10 @@
 -- The report of what was read, on a store of 500 nodes; and what became of it.
 -- Fresh words keep the log of no byte, the reads keep the log of what they brought, and closing writes what it prints.
 use Prim.Native.Nat.{ℕ}
-use mathlib.Core.Path.{_≡_, refl, sym, ap, subst, _∙_}
-use mathlib.Core.Bool.{Bool, false}
+use mathlib.Core.Path.{_≡_, ap, subst, _∙_}
 use mathlib.Core.List.{List, [], _∷_}
 use native.Mathlib.Omega.{arith}
-use lib.ListN.{length, take}
+use lib.ListN.{length}
 use types.Run.{OneOf, miss}
 use denote.Enum.Declared.{tagOf}
 use Rattle.store.specs.Capacity.{capacityOf}
@@ -18,10 +17,9 @@ use Rattle.report_run.specs.declared.feeding.Input.{Input}
 use Rattle.report_run.specs.declared.feeding.Input.the-variants.{Done}
 use Rattle.report_run.specs.declared.feeding.Fed.{Fed}
 use Rattle.report_run.specs.declared.report.Report.{Report}
-use Rattle.report_run.specs.declared.report.Run.{Run}
 use Rattle.report_run.specs.Reads.{inputOf}
-use Rattle.report_run.specs.Promise.{ReadAllCall, ReportOf, ReportCall}
-use Rattle.report_run.specs.Inner.{Reported, HasReport}
+use Rattle.report_run.specs.Promise.{ReadAllCall, ReportOf}
+use Rattle.report_run.specs.Inner.{HasReport}
 use Rattle.report_run.proofs.feeding.Input.{the-type as the-input}
 use Rattle.report_run.proofs.Feedings.{reads-keep, reads-heard}
 

@@ -3,7 +3,6 @@
 use borrow.Author.Needs.{needs}
 use mathlib.Core.Path.{refl}
 use Rattle.report_text.proofs.Writings.{wrote-byte}
-use borrow.Author.Needs.{needs}
 use Rattle.report_text.proofs.put_byte.Statement.{statement}
 use Rattle.report_text.proofs.put_byte.Tie as tie
 

@@ -3,7 +3,6 @@
 use borrow.Author.Needs.{needs}
 use native.Mathlib.Omega.{arith}
 use Rattle.report_text.proofs.Writings.{wrote-then, short-64}
-use borrow.Author.Needs.{needs}
 use Rattle.report_text.proofs.put_sum.Statement.{statement}
 use Rattle.report_text.proofs.put_sum.Tie as tie
 

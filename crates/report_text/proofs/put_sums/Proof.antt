@@ -4,7 +4,6 @@ use borrow.Author.Needs.{needs}
 use native.Mathlib.Omega.{arith}
 use Rattle.report_text.specs.Text.{passedWord, returnedWord, bothWord}
 use Rattle.report_text.proofs.Writings.{wrote-then, sum-short}
-use borrow.Author.Needs.{needs}
 use Rattle.report_text.proofs.put_sums.Statement.{statement}
 use Rattle.report_text.proofs.put_sums.Tie as tie
 

@@ -5,7 +5,6 @@ use native.Mathlib.Omega.{arith}
 use mathlib.Core.Path.{sym, _∙_}
 use Rattle.family.proofs.Words.{free-zero, free-high, free-held, free-item}
 use Rattle.report_line.proofs.States.{progress-is, closed-not, closed-free}
-use borrow.Author.Needs.{needs}
 use Rattle.report_line.proofs.Reading.close_item.Statement.{statement}
 use Rattle.report_line.proofs.Reading.close_item.Tie as tie
 

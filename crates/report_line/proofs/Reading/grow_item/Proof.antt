@@ -4,7 +4,6 @@ use borrow.Author.Needs.{needs}
 use Prim.Native.Nat.{_+_, _*_}
 use native.Mathlib.Omega.{arith}
 use Rattle.report_line.proofs.States.{progress-is, grown-high, grown-low}
-use borrow.Author.Needs.{needs}
 use Rattle.report_line.proofs.Reading.grow_item.Statement.{statement}
 use Rattle.report_line.proofs.Reading.grow_item.Tie as tie
 

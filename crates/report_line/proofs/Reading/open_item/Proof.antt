@@ -2,7 +2,6 @@
 -- The two tests of the code are the grammar's.
 use borrow.Author.Needs.{needs}
 use Rattle.report_line.proofs.States.{progress-is, opened-low, opened-high, opened-digit}
-use borrow.Author.Needs.{needs}
 use Rattle.report_line.proofs.Reading.open_item.Statement.{statement}
 use Rattle.report_line.proofs.Reading.open_item.Tie as tie
 

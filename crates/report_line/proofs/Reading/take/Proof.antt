@@ -4,7 +4,6 @@ use borrow.Author.Needs.{needs}
 use mathlib.Core.Path.{sym, _∙_}
 use Rattle.report_line.specs.Line.{stateOf}
 use Rattle.report_line.proofs.States.{step-none, step-some}
-use borrow.Author.Needs.{needs}
 use Rattle.report_line.proofs.Reading.take.Statement.{statement}
 use Rattle.report_line.proofs.Reading.take.Tie as tie
 

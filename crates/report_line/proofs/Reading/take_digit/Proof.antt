@@ -3,7 +3,6 @@
 use borrow.Author.Needs.{needs}
 use native.Mathlib.Omega.{arith}
 use Rattle.report_line.proofs.States.{progress-is, number-low, number-high, number-digit}
-use borrow.Author.Needs.{needs}
 use Rattle.report_line.proofs.Reading.take_digit.Statement.{statement}
 use Rattle.report_line.proofs.Reading.take_digit.Tie as tie
 

@@ -2,7 +2,6 @@
 -- Each test of the code is one of the grammar's.
 use borrow.Author.Needs.{needs}
 use Rattle.report_line.proofs.States.{progress-is, first-passed, first-returned, first-other}
-use borrow.Author.Needs.{needs}
 use Rattle.report_line.proofs.Reading.take_letter.Statement.{statement}
 use Rattle.report_line.proofs.Reading.take_letter.Tie as tie
 

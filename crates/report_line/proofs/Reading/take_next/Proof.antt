@@ -2,7 +2,6 @@
 -- Each arm is a case of the grammar.
 use borrow.Author.Needs.{needs}
 use Rattle.report_line.proofs.States.{at-stage}
-use borrow.Author.Needs.{needs}
 use Rattle.report_line.proofs.Reading.take_next.Statement.{statement}
 use Rattle.report_line.proofs.Reading.take_next.Tie as tie
 
