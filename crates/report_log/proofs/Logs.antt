@@ -127,12 +127,11 @@ module _ {capacity : ℕ} {t : Tally} {nodes lookup cache : List ℕ} {g : Log} 
     same : (q : ℕ) (F : Family) → q ≤ t .store .count + 1 → at (bookOf nodes (t .store .count)) q ≡ F → Stays (m .store .count) (bookOf nodes′ (m .store .count)) q F
     same q F l e = stays (K .sound) A (rw (K .book-is) w) q F l e
 
-    -- the store was full: the families stay
-    pub full-keeps : {r : Tally} → TallyIs (m .store) (t .passed) (t .returned) (t .lines) Full r
-        → Keeps capacity r nodes′ lookup′ cache′ (record { lot = record { book = a .book; passed = g .lot .passed; returned = g .lot .returned }; lines = g .lines; line = begin; ending = Full })
-    full-keeps T =
-        let p = same (t .passed) (g .lot .passed) (K .passed-held) (K .passed-is) in
-        let q = same (t .returned) (g .lot .returned) (K .returned-held) (K .returned-is) in
+    -- the tally behind a line: what the two handles mean, the lines counted, and how the log goes on
+    line-keeps : {r : Tally} {p q n k : ℕ} {P R : Family} {e : Ending} → Stays (m .store .count) (bookOf nodes′ (m .store .count)) p P → Stays (m .store .count) (bookOf nodes′ (m .store .count)) q R
+        → n ≡ capped k → TallyIs (m .store) p q n e r
+        → Keeps capacity r nodes′ lookup′ cache′ (record { lot = record { book = a .book; passed = P; returned = R }; lines = k; line = begin; ending = e })
+    line-keeps p q e T =
         record {
           sound = rw (T .store-is) (A .sound);
           capacity-is = ap (λ x. x .capacity) (T .store-is) ∙ A .capacity-is;
@@ -141,28 +140,21 @@ module _ {capacity : ℕ} {t : Tally} {nodes lookup cache : List ℕ} {g : Log} 
           passed-is = rw (T .store-is, T .passed-is) (p .means);
           returned-held = rw (T .store-is, T .returned-is) (q .held);
           returned-is = rw (T .store-is, T .returned-is) (q .means);
-          lines-is = T .lines-is ∙ K .lines-is;
+          lines-is = T .lines-is ∙ e;
           line-is = T .line-is;
           ending-is = T .ending-is;
         }
 
-    -- the two handles behind a line, whichever changed
-    both-keep : {r : Tally} {p q n : ℕ} {P R : Family} → Stays (m .store .count) (bookOf nodes′ (m .store .count)) p P → Stays (m .store .count) (bookOf nodes′ (m .store .count)) q R
-        → n ≡ capped (suc (t .lines)) → TallyIs (m .store) p q n Going r
-        → Keeps capacity r nodes′ lookup′ cache′ (record { lot = record { book = a .book; passed = P; returned = R }; lines = suc (g .lines); line = begin; ending = Going })
-    both-keep p q e T =
-        record {
-          sound = rw (T .store-is) (A .sound);
-          capacity-is = ap (λ x. x .capacity) (T .store-is) ∙ A .capacity-is;
-          book-is = ap (λ x. bookOf nodes′ (x .count)) (T .store-is) ∙ A .book-is;
-          passed-held = rw (T .store-is, T .passed-is) (p .held);
-          passed-is = rw (T .store-is, T .passed-is) (p .means);
-          returned-held = rw (T .store-is, T .returned-is) (q .held);
-          returned-is = rw (T .store-is, T .returned-is) (q .means);
-          lines-is = T .lines-is ∙ e ∙ omega (arith, K .lines-is);
-          line-is = T .line-is;
-          ending-is = T .ending-is;
-        }
+    passed-stays : Stays (m .store .count) (bookOf nodes′ (m .store .count)) (t .passed) (g .lot .passed)
+    passed-stays = same (t .passed) (g .lot .passed) (K .passed-held) (K .passed-is)
+
+    returned-stays : Stays (m .store .count) (bookOf nodes′ (m .store .count)) (t .returned) (g .lot .returned)
+    returned-stays = same (t .returned) (g .lot .returned) (K .returned-held) (K .returned-is)
+
+    -- the store was full: the families stay
+    full-keeps : {r : Tally} → TallyIs (m .store) (t .passed) (t .returned) (t .lines) Full r
+        → Keeps capacity r nodes′ lookup′ cache′ (record { lot = record { book = a .book; passed = g .lot .passed; returned = g .lot .returned }; lines = g .lines; line = begin; ending = Full })
+    full-keeps T = line-keeps passed-stays returned-stays (K .lines-is) T
 
     -- one line more of a side: its handle is the one given, the other stays
     more-keeps : (d : Side) {h n : ℕ} {r : Tally} → m .answer ≡ Handle h → n ≡ capped (suc (t .lines)) → TallyIs (m .store) (passedWith d t h) (returnedWith d t h) n Going r
@@ -172,10 +164,13 @@ module _ {capacity : ℕ} {t : Tally} {nodes lookup cache : List ℕ} {g : Log} 
         given : Stays (m .store .count) (bookOf nodes′ (m .store .count)) h (a .family)
         given = let G = gives A h e in record { held = G .inside; means = G .means }
 
+        counts : n ≡ capped (suc (g .lines))
+        counts = en ∙ omega (arith, K .lines-is)
+
         go : (d : Side) → TallyIs (m .store) (passedWith d t h) (returnedWith d t h) n Going r
             → Keeps capacity r nodes′ lookup′ cache′ (record { lot = putSide d (g .lot) (a .book) (a .family); lines = suc (g .lines); line = begin; ending = Going })
-        go Passed T = both-keep given (same (t .returned) (g .lot .returned) (K .returned-held) (K .returned-is)) en T
-        go Returned T = both-keep (same (t .passed) (g .lot .passed) (K .passed-held) (K .passed-is)) given en T
+        go Passed T = line-keeps given returned-stays counts T
+        go Returned T = line-keeps passed-stays given counts T
 
 -- what is counted, by whether the store was full
 module _ (g : Log) (a : Added) where
