@@ -27,7 +27,8 @@ called capacity B F = cond (tooLarge capacity B F) (record { full = true; book =
 abbrev pub nextCall : ℕ → (Family → Family) → Added → Added
 nextCall capacity f a = cond (a .full) a (called capacity (a .book) (f (a .family)))
 
--- "Each line is made by Change from handle 1 in rising items": a combination is a falling list, so the items behind x are smaller and come first
+-- "Each line is made by Change from handle 1 in rising items": a combination is a falling list, so the items behind x
+-- are smaller and come first
 abbrev pub lineMade : ℕ → List Family → List ℕ → Added
 lineMade capacity B [] = record { full = false; book = B; family = base }
 lineMade capacity B (x ∷ c) = nextCall capacity (change x) (lineMade capacity B c)
@@ -40,7 +41,8 @@ added capacity B P c = nextCall capacity (union P) (lineMade capacity B c)
 abbrev pub lastAnswer : Added → Given
 lastAnswer a = cond (a .full) (record { refusal = 5; handle = 0 }) (record { refusal = 0; handle = number (a .book) (a .family) })
 
--- A store after calls that place, with their last answer: it is sound, its words are those of the book (which a sound store's book decides), and an answer that is no refusal is the family's handle.
+-- A store after calls that place, with their last answer: it is sound, its words are those of the book (which a sound
+-- store's book decides), and an answer that is no refusal is the family's handle.
 pub record After (capacity : ℕ) (r : Placed) (nodes lookup cache : List ℕ) (a : Added) : Type 0 where
   pub sound : Sound (r .store) nodes lookup cache
   pub capacity-is : r .store .capacity ≡ capacity

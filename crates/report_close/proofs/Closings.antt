@@ -1,5 +1,6 @@
--- The end of a report: the sizes of the two families and of what is in both and only in the returned one, or the line that ended the log.
--- The two calls leave the families' handles as they are, and Size tells the size of each family that the store holds.
+-- The end of a report: the sizes of the two families, of what is in both and only in the returned one; or the line
+-- that ended the log. The two calls leave the families' handles as they are, and Size tells the size of each family
+-- that the store holds.
 use Prim.Native.Nat.{ℕ, suc, _+_, _-_, _≤_, _<_}
 use mathlib.Core.Path.{_≡_, refl, sym, ap, _∙_}
 use mathlib.Core.Bool.{true, false}

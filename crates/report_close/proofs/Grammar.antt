@@ -1,4 +1,5 @@
--- The grammar, against the text that a line is written as: a line is read as a side and items exactly where it is the letter, each item in decimal after one space, and a newline.
+-- The grammar, against the text that a line is written as: a line is read as a side and items exactly where it is the
+-- letter, each item in decimal after one space, and a newline.
 -- Both ways by induction: on the items that are written, and on the bytes that are read.
 use Prim.Native.Nat.{ℕ, zero, suc, _+_, _-_, _*_, _/_, _%_, _≤_, _<_}
 use mathlib.Core.Path.{_≡_, refl, sym, ap, _∙_}

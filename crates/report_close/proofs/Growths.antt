@@ -1,5 +1,5 @@
--- The families of a log: each is in canonical form, and has no more members than lines were taken. So of at most 2^64 - 1 lines every number printed is exact.
--- A line adds one combination, which is a falling list of items from 1 to 512.
+-- The families of a log are in canonical form and have no more members than lines were taken, so of at most 2^64 - 1
+-- lines every number printed is exact. A line adds one combination, which is a falling list of items from 1 to 512.
 use Prim.Native.Nat.{ℕ, suc, _+_, _-_, _*_, _≤_, max}
 use mathlib.Core.Path.{_≡_, refl, sym, subst}
 use mathlib.Core.Bool.{Bool, true, false, cond, not, _&&_}

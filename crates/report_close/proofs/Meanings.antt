@@ -1,5 +1,6 @@
 -- What a line adds to its family: exactly the combination of its items; and how large families can grow.
--- Change in rising items from {{}} puts each item on top, so the family made has one member; a union has no more members than its two families.
+-- Change in rising items from {{}} puts each item on top, so the family made has one member; a union has no more
+-- members than its two families.
 use Prim.Native.Nat.{ℕ, zero, suc, _+_, _≤_, max}
 use mathlib.Core.Path.{_≡_, refl, sym, ap, _∙_}
 use mathlib.Core.Bool.{Bool, true, false, not, _&&_, _||_}

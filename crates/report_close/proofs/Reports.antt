@@ -1,5 +1,6 @@
 -- A log taken byte by byte prints what its lines say: the report on the whole input.
--- By induction on the bytes: a newline makes a line whole or malformed, any other byte leaves it open or spoils it, and a spoiled line stays so.
+-- By induction on the bytes: a newline makes a line whole or malformed, any other byte leaves it open or spoils it,
+-- and a spoiled line stays so.
 use Prim.Native.Nat.{ℕ, suc, _+_, _-_, _*_}
 use mathlib.Core.Path.{_≡_, refl, sym, ap, _∙_}
 use mathlib.Core.Bool.{Bool, true, false, cond, _&&_}

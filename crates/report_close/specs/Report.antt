@@ -9,7 +9,8 @@ use Rattle.report_line.specs.Line.{Progress, blank, letter, space, numeral, who
 use Rattle.report_text.specs.Text.{lineText, refusedWord, fullWord}
 use Rattle.report_log.specs.Log.{Lot, LineTaken, takeLine, capped, closing}
 
--- The lines of an input, each with its newline; what stands behind the last newline, where anything does, is a line too.
+-- The lines of an input, each with its newline; what stands behind the last newline, where anything does, is a line
+-- too.
 abbrev pub onto : ℕ → List (List ℕ) → List (List ℕ)
 onto b [] = (b ∷ []) ∷ []
 onto b (l ∷ ls) = (b ∷ l) ∷ ls

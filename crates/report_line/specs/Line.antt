@@ -10,8 +10,8 @@ use Rattle.report_line.specs.declared.Stage.{Stage}
 use Rattle.report_line.specs.declared.Stage.the-variants.{Blank, Letter, Space, Number, Whole, Malformed}
 use Rattle.report_line.specs.declared.Reading.{Reading}
 
--- How far a line is read: no byte; behind the letter or an item that is taken; behind a space; within an item, with its
--- number so far; behind the newline. The combination is that of the items taken.
+-- How far a line is read: no byte; behind the letter or an item that is taken; behind a space; within an item, with
+-- its number so far; behind the newline. The combination is that of the items taken.
 pub data Progress : Type 0 where
   blank : Progress
   letter space : Side → List ℕ → Progress

@@ -14,8 +14,8 @@ pub enum Side {
     Returned,
 }
 
-// How far a line is read: before its letter, behind its letter or an item taken, behind a space, within an item, behind
-// its newline.
+// How far a line is read: before its letter, behind its letter or an item taken, behind a space, within an item,
+// behind its newline.
 pub enum Stage {
     Blank,
     Letter,

@@ -1,5 +1,6 @@
 -- A log taken byte by byte: what each function leaves keeps the log that the definitions name.
--- Families held before a call keep their handles, so the other family's handle stays; the rest is by the tally's fields.
+-- Families held before a call keep their handles, so the other family's handle stays; the rest is by the tally's
+-- fields.
 use Prim.Native.Nat.{ℕ, suc, _+_, _-_, _*_, _/_, _≤_, _<_}
 use mathlib.Core.Path.{_≡_, refl, sym, ap, subst, _∙_}
 use mathlib.Core.Bool.{true, false}

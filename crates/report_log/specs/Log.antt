@@ -80,7 +80,8 @@ feed capacity g bytes = foldl (logByte capacity) g bytes
 abbrev pub capped : ℕ → ℕ
 capped n = min n most
 
--- "the size of the passed family P, the returned R, Intsec(P, R) and Diff(R, P)", or "`report full` in the closing sums"
+-- "the size of the passed family P, the returned R, Intsec(P, R) and Diff(R, P)", or "`report full` in the closing
+-- sums"
 unfoldable pub closing : ℕ → Lot → List ℕ
 closing capacity l =
     let both = called capacity (l .book) (intsec (l .passed) (l .returned)) in

@@ -1,5 +1,6 @@
 -- What the reads of a log leave: by the answer of each, and turn by turn.
--- A read's answer has three cases; the bytes of all reads are one run, since feeding two runs is feeding the one behind the other.
+-- A read's answer has three cases; the bytes of all reads are one run, since feeding two runs is feeding the one
+-- behind the other.
 use Prim.Native.Nat.{ℕ, zero, suc, _<_, min}
 use mathlib.Core.Path.{_≡_, refl, sym, ap, subst, _∙_}
 use mathlib.Core.Bool.{true, false}
@@ -22,7 +23,7 @@ use Rattle.report_log.specs.Promise.{Keeps, TakeCall}
 use Rattle.report_run.specs.declared.feeding.Input.{Input}
 use Rattle.report_run.specs.declared.feeding.Input.the-variants.{More, Done, Failed}
 use Rattle.report_run.specs.declared.feeding.Fed.{Fed}
-use Rattle.report_run.specs.Reads.{ReadAnswer, broughtBy, inputOf, behind, inputAfter, Heard, silence, heard}
+use Rattle.report_run.specs.Answers.{ReadAnswer, broughtBy, inputOf, behind, inputAfter, Heard, none-heard, next-heard}
 use Rattle.report_run.specs.Promise.{ReadCall, failed, ended, brought, Reads, none, turn, ReadAllCall}
 use Rattle.report_run.specs.Inner.{OneRead}
 
@@ -125,8 +126,8 @@ module _ {t : Tally} {nodes lookup cache : List ℕ} (capacity : ℕ) (K : Keeps
       (read-keeps C capacity (feed capacity opening (inputOf qs)) (reads-keep R))
 
   pub reads-heard : {qs : List ReadAnswer} {f : Fed} {nodes′ lookup′ cache′ : List ℕ} → Reads t nodes lookup cache qs f nodes′ lookup′ cache′ → Heard capacity qs (f .input)
-  reads-heard none = silence
+  reads-heard none = none-heard
   reads-heard (turn {qs} {f} R e a {f′} C) =
       subst (λ i. Heard capacity (qs ++ (a ∷ [])) i)
       (sym (read-input C ∙ ap (λ x. inputAfter (a .got) x) (reads-keep (turn R e a C) .ending-is)))
-      (heard (subst (λ i. Heard capacity qs i) e (reads-heard R)) a)
+      (next-heard (subst (λ i. Heard capacity qs i) e (reads-heard R)) a)

@@ -17,7 +17,7 @@ use Rattle.report_run.specs.declared.feeding.Input.{Input}
 use Rattle.report_run.specs.declared.feeding.Input.the-variants.{Done}
 use Rattle.report_run.specs.declared.feeding.Fed.{Fed}
 use Rattle.report_run.specs.declared.report.Report.{Report}
-use Rattle.report_run.specs.Reads.{inputOf}
+use Rattle.report_run.specs.Answers.{inputOf}
 use Rattle.report_run.specs.Promise.{ReadAllCall, ReportOf}
 use Rattle.report_run.specs.Inner.{HasReport}
 use Rattle.report_run.proofs.feeding.Input.{the-type as the-input}

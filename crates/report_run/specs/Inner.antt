@@ -1,4 +1,5 @@
--- What the functions below `read_all` and `report_on` promise each other. A reader of the promises can pass this page over.
+-- What the functions below `read_all` and `report_on` promise each other. A reader of the promises can pass this page
+-- over.
 use Prim.Native.Nat.{ℕ, _≤_}
 use mathlib.Core.Path.{_≡_}
 use mathlib.Core.List.{List}
@@ -7,7 +8,7 @@ use Rattle.report_log.specs.declared.tally.Tally.{Tally}
 use Rattle.report_close.specs.Report.{reportOf}
 use Rattle.report_run.specs.declared.feeding.Fed.{Fed}
 use Rattle.report_run.specs.declared.report.Report.{Report}
-use Rattle.report_run.specs.Reads.{ReadAnswer}
+use Rattle.report_run.specs.Answers.{ReadAnswer}
 use Rattle.report_run.specs.Promise.{ReadCall, ReportOf}
 
 -- one read, taken

@@ -1,4 +1,4 @@
 -- What the contracts of `report_run` cite.
-pub mod Reads
+pub mod Answers
 pub mod Promise
 pub mod Inner

@@ -1,5 +1,5 @@
--- What reading a log and reporting on it promise. Which answers the system gives to a read, and what becomes of the bytes
--- that it is handed, no contract can say; what is made of the answers is exact.
+-- What reading a log and reporting on it promise. Which answers the system gives to a read, and what becomes of the
+-- bytes that it is handed, no contract can say; what is made of the answers is exact.
 use Prim.Native.Nat.{ℕ, suc, _≤_}
 use mathlib.Core.Path.{_≡_}
 use mathlib.Core.Bool.{false}
@@ -13,10 +13,11 @@ use Rattle.report_run.specs.declared.feeding.Input.the-variants.{More, D
 use Rattle.report_run.specs.declared.feeding.Fed.{Fed}
 use Rattle.report_run.specs.declared.report.Report.{Report}
 use Rattle.report_run.specs.declared.report.Run.{Run}
-use Rattle.report_run.specs.Reads.{ReadAnswer, inputOf, behind, Heard}
+use Rattle.report_run.specs.Answers.{ReadAnswer, inputOf, behind, Heard}
 
--- `take_read`, by what the system answered: below 0 the read failed and all is as it came; 0 is the end of the input and
--- all is as it came; else the log is fed with exactly so many bytes of the buffer, and there is more while it goes on.
+-- `take_read`, by what the system answered: below 0 the read failed and all is as it came; 0 is the end of the input
+-- and all is as it came; else the log is fed with exactly so many bytes of the buffer, and there is more while it
+-- goes on.
 pub data ReadCall (t : Tally) (nodes lookup cache buffer : List ℕ) : ℤ → Fed → List ℕ → List ℕ → List ℕ → Type 0 where
   failed : (k : ℕ) → ReadCall t nodes lookup cache buffer (negsuc k) (record { tally = t; input = Failed }) nodes lookup cache
   ended : ReadCall t nodes lookup cache buffer (pos 0) (record { tally = t; input = Done }) nodes lookup cache
@@ -43,8 +44,8 @@ pub record ReportOf (r : Report) (out′ : List ℕ) : Type 0 where
   pub inside : r .bytes ≤ length out′
   pub text-is : r .input ≡ Done → take (r .bytes) out′ ≡ reportOf 500 (inputOf answers)
 
--- `report_on`: nothing counts as written where a read failed; where the input is done, whether the report was written is
--- the answer of the system's write.
+-- `report_on`: nothing counts as written where a read failed; where the input is done, whether the report was written
+-- is the answer of the system's write.
 pub record ReportCall (r : Run) (out′ : List ℕ) : Type 0 where
   pub report : ReportOf (r .report) out′
   pub unwritten : (r .report .input ≡ Done → ⊥) → r .written ≡ false

@@ -3,7 +3,7 @@
 ghost use mathlib.Core.Path.{_≡_};
 ghost use lib.ListN.{length};
 ghost use Rattle.libc.specs.Io.{Moved};
-ghost use Rattle.report_run.specs.Reads.{behind};
+ghost use Rattle.report_run.specs.Answers.{behind};
 ghost use Rattle.report_run.specs.Promise.{ReadCall, ReadAllCall};
 ghost use Rattle.report_run.specs.Inner.{OneRead};
 use report_log::tally::Ending;

@@ -66,8 +66,8 @@ fn write_report(out: &[u8], n: usize) -> bool
     hand_over(&out[..n])
 }
 
-// Reads a log of passed and returned panels from a descriptor, at most so many bytes at a time, and writes the report to
-// standard output. Where a read failed nothing is written.
+// Reads a log of passed and returned panels from a descriptor, at most so many bytes at a time, and writes the report
+// to standard output. Where a read failed nothing is written.
 pub fn report_on(fd: i32, most: usize, out: &mut [u8; 128]) -> Run
     ensures { λ r. ⌜ ReportCall r (now (out .exit)) ⌝ }
 {

@@ -45,7 +45,8 @@ bothWord = 98 ∷ 111 ∷ 116 ∷ 104 ∷ 32 ∷ []
 abbrev pub onlyWord : List ℕ
 onlyWord = 111 ∷ 110 ∷ 108 ∷ 121 ∷ 45 ∷ 114 ∷ 101 ∷ 116 ∷ 117 ∷ 114 ∷ 110 ∷ 101 ∷ 100 ∷ 32 ∷ []
 
--- "prints only `line 3 refused`, with its number counted from 1, and a full store `line 3 full`": the last word is either
+-- "prints only `line 3 refused`, with its number counted from 1, and a full store `line 3 full`": the last word is
+-- either
 abbrev pub lineText : ℕ → List ℕ → List ℕ
 lineText n word = lineWord ++ (decimalOf n ++ word)
 

@@ -1,5 +1,5 @@
--- The tally behind a line: the store was full and nothing else changes, or the handle of the line's family is the new one.
--- The laws of `Logs` have one case for each way out.
+-- The tally behind a line: the store was full and nothing else changes, or the handle of the line's family is the new
+-- one. The laws of `Logs` have one case for each way out.
 use borrow.Author.Needs.{needs}
 use Rattle.report_line.specs.declared.Side.the-variants.{Passed, Returned}
 use Rattle.report_log.proofs.Logs.{end-full, end-more, end-at}

@@ -1,5 +1,5 @@
--- One byte more: a log that ended stays; else a whole line is added, a malformed one ends the log, any other is read on.
--- The stage of the reading is the grammar's progress.
+-- One byte more: a log that ended stays; else a whole line is added, a malformed one ends the log, any other is read
+-- on. The stage of the reading is the grammar's progress.
 use borrow.Author.Needs.{needs}
 use mathlib.Core.Path.{refl}
 use Rattle.report_log.proofs.Logs.{line-added, next-whole, next-read, next-going, byte-going, byte-ended}

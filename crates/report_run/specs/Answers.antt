@@ -1,4 +1,4 @@
--- What a system's reads bring to a log. Which answers come, and with which bytes, is the system's.
+-- What the system's answers to reads bring to a log. Which answers come, and with which bytes, is the system's.
 use Prim.Native.Nat.{ℕ, zero, suc}
 use mathlib.Core.List.{List, [], _∷_, _++_}
 use lib.IntN.{ℤ, pos, negsuc}
@@ -40,6 +40,6 @@ inputAfter (pos (suc k)) e = behind e
 
 -- The reads of a report: each comes where the ones before left more to read, and says how the input stands then.
 pub data Heard (capacity : ℕ) : List ReadAnswer → Input → Type 0 where
-  silence : Heard capacity [] More
-  heard : {qs : List ReadAnswer} → Heard capacity qs More → (a : ReadAnswer)
+  none-heard : Heard capacity [] More
+  next-heard : {qs : List ReadAnswer} → Heard capacity qs More → (a : ReadAnswer)
       → Heard capacity (qs ++ (a ∷ [])) (inputAfter (a .got) (feed capacity opening (inputOf (qs ++ (a ∷ []))) .ending))
