@@ -31,7 +31,7 @@ abbrev pub askedOf : Asked → CAsked
 askedOf b = record { store = b .store; refusal = hasGivenBy (b .answer) .refusal; member = hasGivenBy (b .answer) .member }
 
 abbrev pub savedOf : Saved → CSaved
-savedOf b = record { store = b .store; refusal = saveGivenBy (b .answer) .refusal; length = saveGivenBy (b .answer) .length }
+savedOf b = record { store = b .store; refusal = saveGivenBy (b .answer) .refusal; length = saveGivenBy (b .answer) .fileLength }
 
 abbrev pub auditedOf : Audited → CAudited
 auditedOf b = record { store = b .store; sound = b .sound }

@@ -1,8 +1,8 @@
 -- Each way out of `load` keeps its promise: refused as damaged, for its scratch or for its bytes, or with the file's family placed.
 -- What the bytes hold decides the promise's own tests, and placing ends as for every call.
 use Prim.Native.Nat.{ℕ, _+_, _*_, _-_, _/_, _≤_, _<_}
-use mathlib.Core.Path.{_≡_, refl, _∙_}
-use mathlib.Core.Bool.{true, false}
+use mathlib.Core.Path.{_≡_, refl, _∙_, sym}
+use mathlib.Core.Bool.{true}
 use mathlib.Core.List.{List}
 use mathlib.Core.Option.{none, some}
 use native.Mathlib.Omega.{arith}
@@ -11,10 +11,16 @@ use borrow.Author.Tests.{lt-ltb, le-ltb}
 use Rattle.family.specs.Family.{Family}
 use Rattle.family.specs.Book.{start, at, place}
 use Rattle.family.specs.File.{familyOf}
-use Rattle.words.proofs.Cases.{by-eq, clash}
+use Rattle.words.proofs.Cases.{by-eq, clash, by-lt}
 use Rattle.words.proofs.Zeroed.{rest-drop}
+use Rattle.store.specs.declared.tests.Test.{Test}
+use Rattle.store.specs.declared.tests.Test.the-variants.{Refuses}
+use Rattle.store.specs.declared.record.Refusal.{Refusal}
+use Rattle.store.specs.Tests.{testsOf, Found}
+use Rattle.store.specs.Refusals.{refusalNumber}
+use Rattle.store.proofs.Testing.{tests-short, tests-clear, Tested, placing-refused}
 use Rattle.store.specs.declared.record.Store.{Store}
-use Rattle.store.specs.declared.record.Refusal.the-variants.{Scratch, NoFile, Damaged}
+use Rattle.store.specs.declared.record.Refusal.the-variants.{NoFile}
 use Rattle.store.specs.declared.record.PlaceAnswer.the-variants.{Handle, Refused}
 use Rattle.store.specs.declared.record.Placed.{Placed}
 use Rattle.store.specs.Capacity.{fitting}
@@ -25,15 +31,15 @@ use Rattle.store.specs.Inner.{Roomy, Holds}
 use Rattle.store.proofs.Held.{at-0, at-1}
 use Rattle.store_undo.proofs.Finishing.{finished-gave}
 use Rattle.store_undo.proofs.Done.{call-done}
-use Rattle.store.proofs.Calls.{call-misfit, call-refused, fits-roomy}
+use Rattle.store.proofs.Calls.{refusal-some, call-refused}
 use Rattle.store.proofs.Growing.{kept-roomy}
 use Rattle.store.proofs.Plain.{plain-handle, plain-ran}
 use Rattle.file_read.specs.declared.file.Content.{Content}
 use Rattle.file_read.specs.declared.file.Content.the-variants.{Leaf, Parts, Bad}
 use Rattle.file_load.specs.Promise.{loadRefusal, loadFamily, LoadCall}
-use Rattle.file_table.specs.Inner.{Local, Nodes}
+use Rattle.file_table.specs.Inner.{Local, LocalNodes}
 use Rattle.file_place.specs.Inner.{PlacedOf}
-use Rattle.file_read.specs.Inner.{Holding, leaf, parts, nothing, ContentOf}
+use Rattle.file_read.specs.Inner.{Holding, holds-leaf, holds-parts, holds-none, ContentOf}
 use Rattle.file_read.proofs.Walks.{local-nodes}
 
 -- the promise's tests
@@ -60,7 +66,7 @@ none-of : {file words : List ℕ} {b : ℕ} {x : Content} → x ≡ Bad → Hold
 none-of e A = out (rw e at A)
   where
     out : {file words : List ℕ} {b : ℕ} → Holding file b words Bad → familyOf itemLimit file ≡ none
-    out (nothing is) = is
+    out (holds-none is) = is
 
 record LeafRead (file : List ℕ) (h : ℕ) : Type 0 where
   low : h < 2
@@ -70,7 +76,7 @@ leaf-of : {file words : List ℕ} {b : ℕ} {x : Content} (h : ℕ) → x ≡ Le
 leaf-of h e A = out (rw e at A)
   where
     out : {file words : List ℕ} {b h : ℕ} → Holding file b words (Leaf h) → LeafRead file h
-    out (leaf l is) = record { low = l; is = is }
+    out (holds-leaf l is) = record { low = l; is = is }
 
 pub record PartsRead (file : List ℕ) (b : ℕ) (words : List ℕ) (n : ℕ) : Type 0 where
   pub book : List Family
@@ -84,30 +90,37 @@ pub parts-of : {file words : List ℕ} {b : ℕ} {x : Content} (n : ℕ) → x �
 parts-of n e A = out (rw e at A)
   where
     out : {file words : List ℕ} {b n : ℕ} → Holding file b words (Parts n) → PartsRead file b words n
-    out (parts {C = C} is few low T own) = record { book = C; is = is; few = few; low = low; table = T; own = own }
+    out (holds-parts {C = C} is few low T own) = record { book = C; is = is; few = few; low = low; table = T; own = own }
 
-pub parts-nodes : {file words : List ℕ} {b n : ℕ} → PartsRead file b words n → Nodes words n
+pub parts-nodes : {file words : List ℕ} {b n : ℕ} → PartsRead file b words n → LocalNodes words n
 parts-nodes R = local-nodes (R .table)
 
 module _ (s : Store) (nodes lookup cache file words : List ℕ) (r : Placed) where
-  pub load-misfit : fitting (s .capacity) (s .count) (length nodes) (length lookup) ≡ false → r .store ≡ s → r .answer ≡ Refused Damaged → LoadCall s nodes lookup cache file words r nodes lookup cache words
-  load-misfit e es ea =
-      record { places = call-misfit s nodes lookup cache _ _ r e es ea; scratch-misfit = λ d. refl; scratch-short = λ d. refl; scratch-rest = refl; long = refl }
+  -- the tests decide the promise's own: no handle, no item, and six words per byte
+  short-number : (x : Refusal) → refusalNumber x ≡ testsOf (s .count) 0 0 0 (length words / 6) (length file) → refusalNumber x ≡ loadRefusal file (length words)
+  short-number x d =
+      by-lt (length words / 6) (length file)
+      (λ l e. d ∙ tests-short (s .count) 0 0 0 (length words / 6) (length file) (omega arith) (omega arith) refl l ∙ sym (refusal-short file (length words) (omega arith)))
+      (λ l e. absurd (refusal-some x (d ∙ tests-clear (s .count) 0 0 0 (length words / 6) (length file) (omega arith) (omega arith) refl l)))
 
-  module _ (e : fitting (s .capacity) (s .count) (length nodes) (length lookup) ≡ true) where
-    pub load-short : length words / 6 < length file → r .store ≡ s → r .answer ≡ Refused Scratch → LoadCall s nodes lookup cache file words r nodes lookup cache words
-    load-short l es ea =
-        record {
-          places = rw (refusal-short file (length words) (omega arith)) (call-refused s nodes lookup cache 7 _ r Scratch e refl (omega arith) es ea);
-          scratch-misfit = λ d. refl;
-          scratch-short = λ d. refl;
-          scratch-rest = refl;
-          long = refl;
-        }
+  pub load-refused : {a : Test} → Found s (length nodes) (length lookup) 0 0 0 (length words / 6) (length file) a → {x : Refusal} → a ≡ Refuses x → r .store ≡ s → r .answer ≡ Refused x
+      → LoadCall s nodes lookup cache file words r nodes lookup cache words
+  load-refused F {x} e es ea =
+      record {
+        places = placing-refused nodes lookup F e (λ z. omega arith) (short-number x) _ cache r es ea;
+        scratch-misfit = λ d. refl;
+        scratch-short = λ d. refl;
+        scratch-rest = refl;
+        long = refl;
+      }
 
-    module _ (l : length file ≤ length words / 6) {x : Content} {words₁ : List ℕ} (A : ContentOf file words (length file) x words₁) where
+  module _ (P : Tested s nodes lookup 0 0 0 (length words / 6) (length file)) where
+    e : fitting (s .capacity) (s .count) (length nodes) (length lookup) ≡ true
+    e = P .fits
+
+    module _ {x : Content} {words₁ : List ℕ} (A : ContentOf file words (length file) x words₁) where
       room : 6 * length file ≤ length words
-      room = omega arith
+      room = omega (arith, P .passed .room)
 
       -- the scratch, where no test refuses it
       kept : {n : ℕ} {F : Family} {nodes′ lookup′ cache′ words′ : List ℕ} → loadRefusal file (length words) ≡ n → loadFamily file ≡ F → PlaceCall n F s nodes lookup cache r nodes′ lookup′ cache′ → length words′ ≡ length words
@@ -130,7 +143,7 @@ module _ (s : Store) (nodes lookup cache file words : List ℕ) (r : Placed) whe
           let L = leaf-of h ex (A .outcome) in
           kept (refusal-found file (length words) room (at start h) (L .is)) (family-found file (at start h) (L .is))
           (call-done s nodes lookup cache (λ B. at start h) e
-          (plain-ran (λ B. at start h) s nodes lookup cache (plain-handle (λ B. at start h) s nodes lookup (fits-roomy s nodes lookup e) r h es ea (omega (arith, L .low)) (λ B H. same-leaf B H h (L .low))))
+          (plain-ran (λ B. at start h) s nodes lookup cache (plain-handle (λ B. at start h) s nodes lookup (P .roomy) r h es ea (omega (arith, L .low)) (λ B H. same-leaf B H h (L .low))))
           (finished-gave r (s .count) nodes lookup cache h ea)) (A .long) (A .rest)
         where
           same-leaf : (B : List Family) → Holds B (s .count) nodes lookup → (h : ℕ) → h < 2 → at B h ≡ at start h
@@ -140,13 +153,13 @@ module _ (s : Store) (nodes lookup cache file words : List ℕ) (r : Placed) whe
         R : PartsRead file (length file) words₁ n
         R = parts-of n ex (A .outcome)
 
-        module _ {m : Placed} {nodes₁ lookup₁ words₂ : List ℕ} (P : PlacedOf s nodes lookup words₁ (length file) n m nodes₁ lookup₁ words₂) where
+        module _ {m : Placed} {nodes₁ lookup₁ words₂ : List ℕ} (W : PlacedOf s nodes lookup words₁ (length file) n m nodes₁ lookup₁ words₂) where
           pub load-roomy : Roomy (m .store) nodes₁ lookup₁
-          load-roomy = kept-roomy (P .kept) (fits-roomy s nodes lookup e)
+          load-roomy = kept-roomy (W .kept) (P .roomy)
 
           pub load-parts : {nodes₂ lookup₂ cache₂ : List ℕ} → Finished m (s .count) nodes₁ lookup₁ cache r nodes₂ lookup₂ cache₂ → LoadCall s nodes lookup cache file words r nodes₂ lookup₂ cache₂ words₂
           load-parts E =
               let F = at (R .book) (n + 1) in
               kept (refusal-found file (length words) room F (R .is)) (family-found file F (R .is))
-              (call-done s nodes lookup cache (λ B. F) e (plain-ran (λ B. F) s nodes lookup cache (P .ran (R .book) (R .table) (R .own))) E)
-              (P .long ∙ A .long) (λ j h. P .rest j h ∙ A .rest j h)
+              (call-done s nodes lookup cache (λ B. F) e (plain-ran (λ B. F) s nodes lookup cache (W .ran (R .book) (R .table) (R .own))) E)
+              (W .long ∙ A .long) (λ j h. W .rest j h ∙ A .rest j h)

@@ -23,13 +23,13 @@ noFile (some F) = 0
 unfoldable pub loadRefusal : List ℕ → ℕ → ℕ
 loadRefusal file words = cond (ltb words (6 * length file)) 7 (noFile (familyOf itemLimit file))
 
-abbrev pub found : Option Family → Family
-found none = empty
-found (some F) = F
+abbrev pub foundFamily : Option Family → Family
+foundFamily none = empty
+foundFamily (some F) = F
 
 -- "Load reads a file and places its family"; {} where there is none, and then the call is refused
 unfoldable pub loadFamily : List ℕ → Family
-loadFamily file = found (familyOf itemLimit file)
+loadFamily file = foundFamily (familyOf itemLimit file)
 
 -- Load's promise. "Needed scratch words are left free, later ones untouched": of the scratch it says which words stay.
 pub record LoadCall (s : Store) (nodes lookup cache file scratch : List ℕ) (r : Placed) (nodes′ lookup′ cache′ scratch′ : List ℕ) : Type 0 where

@@ -7,6 +7,8 @@ use store_undo::finish;
 use store::record::Placed;
 use store::record::Refusal;
 use store::record::Store;
+use store::tests::Test;
+use store::tests::tested;
 
 // Reads a file and places its family.
 pub fn load(
@@ -19,11 +21,18 @@ pub fn load(
 ) -> Placed
     ensures { λ r. ⌜ LoadCall store (now (nodes .entry)) (now (lookup .entry)) (now (cache .entry)) (now (file .entry)) (now (words .entry)) r (now (nodes .exit)) (now (lookup .exit)) (now (cache .exit)) (now (words .exit)) ⌝ }
 {
-    if !store.fits(nodes.len(), lookup.len()) {
-        return store.refused(Refusal::Damaged);
-    }
-    if words.len() / 6 < file.len() {
-        return store.refused(Refusal::Scratch);
+    let found = tested(
+        store,
+        nodes.len(),
+        lookup.len(),
+        0,
+        0,
+        Test::Clear,
+        words.len() / 6,
+        file.len(),
+    );
+    if let Test::Refuses(refusal) = found {
+        return store.refused(refusal);
     }
     let content = read_file(file, words);
     match content {

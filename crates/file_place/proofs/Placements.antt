@@ -25,7 +25,7 @@ use Rattle.store.proofs.Held.{at-0, at-1, within}
 use Rattle.store.proofs.Growing.{kept-self, kept-trans, kept-roomy}
 use Rattle.store.proofs.Answers.{handle-is, handed-of, refused-on, not-both}
 use Rattle.store_node.proofs.Getting.{made-inhabited}
-use Rattle.file_table.specs.Inner.{Local, NodeAt, Nodes}
+use Rattle.file_table.specs.Inner.{Local, LocalNode, LocalNodes}
 use Rattle.file_place.specs.Inner.{handleIn, Handles, PlacedOf}
 
 -- the handle of a local number
@@ -120,7 +120,7 @@ module _ (s : Store) (nodes₀ lookup₀ words₀ : List ℕ) (b n : ℕ) where
           (λ e t. rw e (at-0 H ∙ sym (at-0 L)))
           (λ d t. let e : p ≡ 1 = omega arith in rw e (at-1 H ∙ sym (at-1 L)))
 
-  module _ (few : n ≤ b) (room : 6 * b ≤ length words₀) (N₀ : Nodes words₀ n) (k : ℕ) (current : Store) (nodes lookup words : List ℕ) (I : Turns s nodes₀ lookup₀ words₀ b n k current nodes lookup words) where
+  module _ (few : n ≤ b) (room : 6 * b ≤ length words₀) (N₀ : LocalNodes words₀ n) (k : ℕ) (current : Store) (nodes lookup words : List ℕ) (I : Turns s nodes₀ lookup₀ words₀ b n k current nodes lookup words) where
     pub turns-roomy : Roomy s nodes₀ lookup₀ → Roomy current nodes lookup
     turns-roomy R = kept-roomy (I .kept) R
 
@@ -134,7 +134,7 @@ module _ (s : Store) (nodes₀ lookup₀ words₀ : List ℕ) (b n : ℕ) where
       one-same : getD words (3 * k + 2) 0 ≡ getD words₀ (3 * k + 2) 0
       one-same = I .table (3 * k + 2) (omega arith)
 
-      pub turns-node : NodeAt words k
+      pub turns-node : LocalNode words k
       turns-node =
           let E = N₀ .each k l in
           record {

@@ -9,8 +9,8 @@ use Rattle.family.specs.Family.{Family}
 use Rattle.family.specs.Book.{start, at, place}
 use Rattle.store.specs.declared.record.Store.{Store}
 use Rattle.store.specs.declared.record.Placed.{Placed}
-use Rattle.store.specs.Inner.{Kept, RanPlain}
-use Rattle.file_table.specs.Inner.{Local}
+use Rattle.store.specs.Inner.{Roomy, Kept, RanPlain}
+use Rattle.file_table.specs.Inner.{Local, LocalNode, LocalNodes}
 
 -- the handle in the store of a local number
 unfoldable pub handleIn : ℕ → List ℕ → ℕ → ℕ
@@ -19,6 +19,22 @@ handleIn b words p = cond (ltb p 2) p (getD words (5 * b + (p - 2)) 0)
 -- the handles of the first k local nodes are held in a store of so many nodes
 pub record Handles (k b count : ℕ) (words : List ℕ) : Type 0 where
   pub each : (p : ℕ) → p < k + 2 → handleIn b words p ≤ count + 1
+
+-- what `place_part` is asked with: a store with room for words, the local node number k, and the handles of those before it
+pub record PartAsks (s : Store) (nodes lookup words : List ℕ) (b k : ℕ) : Type 0 where
+  pub roomy : Roomy s nodes lookup
+  pub local : LocalNode words k
+  pub handles : Handles k b (s .count) words
+  pub room : 6 * b ≤ length words
+  pub below : k < b
+
+-- what `place_parts` is asked with: the same for all n local nodes
+pub record PartsAsks (s : Store) (nodes lookup words : List ℕ) (b n : ℕ) : Type 0 where
+  pub roomy : Roomy s nodes lookup
+  pub local : LocalNodes words n
+  pub room : 6 * b ≤ length words
+  pub few : n ≤ b
+  pub low : n < 4294967295
 
 -- all local parts placed: on any store words, and as the last family where they are its own book
 pub record PlacedOf (s : Store) (nodes lookup words : List ℕ) (b n : ℕ) (r : Placed) (nodes′ lookup′ words′ : List ℕ) : Type 0 where

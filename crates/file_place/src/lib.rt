@@ -3,9 +3,7 @@ ghost use mathlib.Core.Path.{_≡_};
 ghost use Prim.Native.Nat.{_+_, _*_, _<_, _≤_};
 ghost use lib.ListN.{length, getD};
 ghost use Rattle.store_node.specs.Inner.{NodeIt};
-ghost use Rattle.store.specs.Inner.{Roomy};
-ghost use Rattle.file_table.specs.Inner.{NodeAt, Nodes};
-ghost use Rattle.file_place.specs.Inner.{handleIn, Handles, PlacedOf};
+ghost use Rattle.file_place.specs.Inner.{handleIn, PartAsks, PartsAsks, PlacedOf};
 use store_node::getnode::get_node;
 use store::record::PlaceAnswer;
 use store::record::Placed;
@@ -13,7 +11,8 @@ use store::record::Store;
 
 // The handle in the store of a local number.
 fn handle_at(words: &[u32], bytes: usize, p: u32) -> u32
-    requires { ⌜ (6 * bytes ≤ length (now words)) × (p < bytes + 2) ⌝ }
+    requires { ⌜ 6 * bytes ≤ length (now words) ⌝ }
+    requires { ⌜ p < bytes + 2 ⌝ }
     ensures { λ r. ⌜ r ≡ handleIn bytes (now (words .entry)) p ⌝ }
 {
     if p < 2 {
@@ -31,10 +30,7 @@ fn place_part(
     bytes: usize,
     k: u32,
 ) -> Placed
-    requires { ⌜ Roomy store (now nodes) (now lookup) ⌝ }
-    requires { ⌜ NodeAt (now words) k ⌝ }
-    requires { ⌜ Handles k bytes (store .count) (now words) ⌝ }
-    requires { ⌜ (6 * bytes ≤ length (now words)) × (k < bytes) ⌝ }
+    requires { ⌜ PartAsks store (now nodes) (now lookup) (now words) bytes k ⌝ }
     ensures { λ r. ⌜ NodeIt store (now (nodes .entry)) (now (lookup .entry)) (getD (now (words .entry)) (3 * k) 0) (handleIn bytes (now (words .entry)) (getD (now (words .entry)) (3 * k + 1) 0)) (handleIn bytes (now (words .entry)) (getD (now (words .entry)) (3 * k + 2) 0)) r (now (nodes .exit)) (now (lookup .exit)) ⌝ }
 {
     let base = 3 * k as usize;
@@ -52,9 +48,7 @@ pub fn place_parts(
     bytes: usize,
     parts: u32,
 ) -> Placed
-    requires { ⌜ Roomy store (now nodes) (now lookup) ⌝ }
-    requires { ⌜ Nodes (now words) parts ⌝ }
-    requires { ⌜ (6 * bytes ≤ length (now words)) × (parts ≤ bytes) × (parts < 4294967295) ⌝ }
+    requires { ⌜ PartsAsks store (now nodes) (now lookup) (now words) bytes parts ⌝ }
     ensures { λ r. ⌜ PlacedOf store (now (nodes .entry)) (now (lookup .entry)) (now (words .entry)) bytes parts r (now (nodes .exit)) (now (lookup .exit)) (now (words .exit)) ⌝ }
 {
     let mut current = store;

@@ -1,7 +1,7 @@
 -- Each way out of `read_parts` and `read_file`: what the bytes hold is the family that the definition reads from them.
 -- Each is one branch of that definition.
-use Prim.Native.Nat.{ℕ, _+_, _*_, _-_, _≤_, _<_}
-use mathlib.Core.Path.{_≡_, refl, sym, ap, _∙_}
+use Prim.Native.Nat.{ℕ, _+_, _-_, _≤_, _<_}
+use mathlib.Core.Path.{_≡_, refl, _∙_}
 use mathlib.Core.Bool.{Bool, true, false, cond}
 use mathlib.Core.List.{List, [], _∷_}
 use mathlib.Core.Option.{Option, none, some}
@@ -14,14 +14,14 @@ use Rattle.family.specs.Book.{start, at}
 use Rattle.family.specs.Record.{front, readNumber}
 use Rattle.family.specs.File.{andThen, readRecords, lastOf, readParts, familyOf}
 use Rattle.store.specs.Words.{itemLimit}
-use Rattle.file_record.proofs.Taking.{number-short, number-four}
+use Rattle.file_record.proofs.Taking.{number-short}
 use Rattle.file_read.specs.declared.file.Content.{Content}
 use Rattle.file_read.specs.declared.file.Content.the-variants.{Leaf, Parts, Bad}
-use Rattle.file_read.specs.Inner.{Table, own, no-records, no-order, TableOf, Holding, leaf, parts, nothing, ContentOf}
+use Rattle.file_read.specs.Inner.{Table, own, no-records, no-order, TableOf, Holding, holds-leaf, holds-parts, holds-none, ContentOf}
 
 -- bytes that hold no family
 pub content-bad : (file words : List ℕ) (b : ℕ) → familyOf itemLimit file ≡ none → ContentOf file words b Bad words
-content-bad file words b e = record { long = refl; rest = λ j h. refl; outcome = nothing e }
+content-bad file words b e = record { long = refl; rest = λ j h. refl; outcome = holds-none e }
 
 -- the definition, after the number of parts
 module _ (l : List ℕ) where
@@ -49,10 +49,7 @@ module _ (l words : List ℕ) (b : ℕ) where
   pub file-short : length l < 4 → ContentOf (1 ∷ l) words b Bad words
   file-short h = content-bad (1 ∷ l) words b (parts-short l h)
 
-  module _ (n : ℕ) (h : 4 ≤ length l) (is : n ≡ getD l 0 0 + 256 * (getD l 1 0 + 256 * (getD l 2 0 + 256 * getD l 3 0))) where
-    number : readNumber 4 l ≡ some (front n (drop 4 l))
-    number = number-four l h ∙ ap (λ x. some (front x (drop 4 l))) (sym is)
-
+  module _ (n : ℕ) (h : 4 ≤ length l) (number : readNumber 4 l ≡ some (front n (drop 4 l))) where
     pub file-zero : n ≡ 0 → ContentOf (1 ∷ l) words b Bad words
     file-zero e = content-bad (1 ∷ l) words b (parts-zero l n (drop 4 l) number e)
 
@@ -65,7 +62,7 @@ module _ (l words : List ℕ) (b : ℕ) where
         reads = parts-are l n (drop 4 l) number (omega arith) few
 
         pub file-unread : r ≡ false → ContentOf (1 ∷ l) words b Bad words′
-        file-unread e = record { long = T .long; rest = T .rest; outcome = nothing (reads ∙ out (rw e at T .outcome)) }
+        file-unread e = record { long = T .long; rest = T .rest; outcome = holds-none (reads ∙ out (rw e at T .outcome)) }
           where
             out : {bytes : List ℕ} → Table bytes n b words′ false → andThen (readRecords itemLimit n start 0 1 bytes) (λ B. lastOf n B) ≡ none
             out (no-records d) = rw d
@@ -75,7 +72,7 @@ module _ (l words : List ℕ) (b : ℕ) where
         file-parts size e = record { long = T .long; rest = T .rest; outcome = out (rw e at T .outcome) }
           where
             out : Table (drop 4 l) n b words′ true → Holding (1 ∷ l) b words′ (Parts n)
-            out (own {C = C} d k m L p) = parts {n = n} {C = C} (reads ∙ rw d k) (omega (arith, length-drop 4 l)) few L p
+            out (own {C = C} d k m L p) = holds-parts {n = n} {C = C} (reads ∙ rw d k) (omega (arith, length-drop 4 l)) few L p
 
 -- what `read_file` answers
 pub file-none : (file words : List ℕ) (b : ℕ) → length file ≡ 0 → ContentOf file words b Bad words
@@ -103,7 +100,7 @@ module _ (file words : List ℕ) (b : ℕ) (d : length file ≡ 0 → ⊥) (n₁
 
   module _ (h : length file ≤ 1) where
     pub file-leaf : (x p : ℕ) → getD file 0 0 ≡ x → p < 2 → familyOf itemLimit (x ∷ []) ≡ some (at start p) → ContentOf file words b (Leaf p) words
-    file-leaf x p e l f = record { long = refl; rest = λ j h. refl; outcome = leaf l (go file d h e) }
+    file-leaf x p e l f = record { long = refl; rest = λ j h. refl; outcome = holds-leaf l (go file d h e) }
       where
         go : (file : List ℕ) → (length file ≡ 0 → ⊥) → length file ≤ 1 → getD file 0 0 ≡ x → familyOf itemLimit file ≡ some (at start p)
         go [] d h e = absurd (d refl)

@@ -20,7 +20,7 @@ use Rattle.file_record.specs.declared.read.Record.{Record}
 use Rattle.file_record.specs.declared.read.Record.the-variants.{Taken, Bad}
 use Rattle.file_record.specs.Inner.{RecordOf}
 use Rattle.file_read.specs.Inner.{whole, none-such, RecordsOf}
-use Rattle.file_table.specs.Inner.{Local, Taking, fit, unfit, TakeOf}
+use Rattle.file_table.specs.Inner.{Local, PartTaken, fit, unfit, TakeOf}
 
 -- what a reader said
 record Read (last : Last) (l : List ℕ) (part : Part) (m : ℕ) : Type 0 where
@@ -61,7 +61,7 @@ turn-over C pi pn [] d = absurd (d refl)
 turn-over C pi pn (x ∷ l) d = refl
 
 -- k records are taken
-pub record Upto (bytes : List ℕ) (n : ℕ) (words₀ : List ℕ) (b : ℕ) (left : List ℕ) (last : Last) (k : ℕ) (words : List ℕ) : Type 0 where
+pub record RecordsTaken (bytes : List ℕ) (n : ℕ) (words₀ : List ℕ) (b : ℕ) (left : List ℕ) (last : Last) (k : ℕ) (words : List ℕ) : Type 0 where
   pub long : length words ≡ length words₀
   pub rest : (j : ℕ) → 6 * b ≤ j → getD words j 0 ≡ getD words₀ j 0
   pub most : k ≤ n
@@ -73,8 +73,8 @@ pub record Upto (bytes : List ℕ) (n : ℕ) (words₀ : List ℕ) (b : ℕ) (le
   pub todo : readRecords itemLimit (n - k) book (last .item) (last .number) left ≡ readRecords itemLimit n start 0 1 bytes
 
 module _ (bytes : List ℕ) (n : ℕ) (words₀ : List ℕ) (b : ℕ) where
-  pub upto-start : Local start 0 b words₀ → (last : Last) → last .item ≡ 0 → last .number ≡ 1 → Upto bytes n words₀ b bytes last 0 words₀
-  upto-start H last ei en =
+  pub taken-start : Local start 0 b words₀ → (last : Last) → last .item ≡ 0 → last .number ≡ 1 → RecordsTaken bytes n words₀ b bytes last 0 words₀
+  taken-start H last ei en =
       record {
         long = refl;
         rest = λ j h. refl;
@@ -87,13 +87,13 @@ module _ (bytes : List ℕ) (n : ℕ) (words₀ : List ℕ) (b : ℕ) where
         todo = let e : n - 0 ≡ n = omega arith in rw (ei, en, e);
       }
 
-  module _ (left : List ℕ) (last : Last) (k : ℕ) (words : List ℕ) (U : Upto bytes n words₀ b left last k words) where
+  module _ (left : List ℕ) (last : Last) (k : ℕ) (words : List ℕ) (U : RecordsTaken bytes n words₀ b left last k words) where
     module _ (l : k < n) {x : Record} (A : RecordOf last left x) where
       more : n - k ≡ suc (n - (k + 1))
       more = omega arith
 
-      pub upto-none : x ≡ Bad → RecordsOf bytes n words₀ b false words
-      upto-none e =
+      pub taken-none : x ≡ Bad → RecordsOf bytes n words₀ b false words
+      taken-none e =
           record {
             long = U .long;
             rest = U .rest;
@@ -104,21 +104,21 @@ module _ (bytes : List ℕ) (n : ℕ) (words₀ : List ℕ) (b : ℕ) where
         R : Read last left part m
         R = read-of part m e A
 
-        pub upto-room : length bytes ≤ b → k < b
-        upto-room h = omega (arith, U .used, R .fits-in, R .some-bytes)
+        pub taken-room : length bytes ≤ b → k < b
+        taken-room h = omega (arith, U .used, R .fits-in, R .some-bytes)
 
-        pub upto-fits : m ≤ length left
-        upto-fits = R .fits-in
+        pub taken-fits : m ≤ length left
+        taken-fits = R .fits-in
 
         module _ {r : Bool} {words′ : List ℕ} (T : TakeOf words b k part r words′) where
-          got : Taking (U .book) part k b words′ r
+          got : PartTaken (U .book) part k b words′ r
           got = T .sound (U .book) (U .table)
 
           same : length words′ ≡ length words₀
           same = T .long ∙ U .long
 
-          pub upto-unfit : r ≡ false → RecordsOf bytes n words₀ b false words′
-          upto-unfit d =
+          pub taken-unfit : r ≡ false → RecordsOf bytes n words₀ b false words′
+          taken-unfit d =
               record {
                 long = same;
                 rest = λ j h. T .rest j h ∙ U .rest j h;
@@ -127,11 +127,11 @@ module _ (bytes : List ℕ) (n : ℕ) (words₀ : List ℕ) (b : ℕ) where
                     ∙ turn-unfit (n - (k + 1)) (U .book) (last .item) (last .number) left (part .item) (part .zero) (part .one) (drop m left) (R .is) (out (rw d at got)));
               }
             where
-              out : {C : List Family} {words′ : List ℕ} → Taking C part k b words′ false → fits itemLimit C (triple (part .item) (part .zero) (part .one)) ≡ false
+              out : {C : List Family} {words′ : List ℕ} → PartTaken C part k b words′ false → fits itemLimit C (triple (part .item) (part .zero) (part .one)) ≡ false
               out (unfit e) = e
 
-          pub upto-step : r ≡ true → (last′ : Last) {left′ : List ℕ} → last′ .item ≡ part .item → last′ .number ≡ k + 1 + 1 → left′ ≡ drop m left → Upto bytes n words₀ b left′ last′ (k + 1) words′
-          upto-step d last′ {left′} ei en el =
+          pub taken-step : r ≡ true → (last′ : Last) {left′ : List ℕ} → last′ .item ≡ part .item → last′ .number ≡ k + 1 + 1 → left′ ≡ drop m left → RecordsTaken bytes n words₀ b left′ last′ (k + 1) words′
+          taken-step d last′ {left′} ei en el =
               let F = out (rw d at got) in
               record {
                 long = same;
@@ -148,7 +148,7 @@ module _ (bytes : List ℕ) (n : ℕ) (words₀ : List ℕ) (b : ℕ) where
                     ∙ U .todo);
               }
             where
-              out : {C : List Family} {words′ : List ℕ} → Taking C part k b words′ true
+              out : {C : List Family} {words′ : List ℕ} → PartTaken C part k b words′ true
                   → (fits itemLimit C (triple (part .item) (part .zero) (part .one)) ≡ true) × Local (C ++ (node (part .item) (at C (part .zero)) (at C (part .one)) ∷ [])) (k + 1) b words′
               out (fit e L) = (e, L)
 
@@ -159,21 +159,21 @@ module _ (bytes : List ℕ) (n : ℕ) (words₀ : List ℕ) (b : ℕ) where
       done : readRecords itemLimit n start 0 1 bytes ≡ readRecords itemLimit 0 (U .book) (last .item) (last .number) left
       done = let e : n - k ≡ 0 = omega arith in sym (U .todo) ∙ ap (λ m. readRecords itemLimit m (U .book) (last .item) (last .number) left) e
 
-      pub upto-end : length left ≡ 0 → RecordsOf bytes n words₀ b true words
-      upto-end e =
+      pub taken-end : length left ≡ 0 → RecordsOf bytes n words₀ b true words
+      taken-end e =
           record {
             long = U .long;
             rest = U .rest;
             outcome = whole (done ∙ turn-end (U .book) (last .item) (last .number) left e) (omega (arith, U .used, all)) (rw (← all) (U .table));
           }
 
-      pub upto-over : (length left ≡ 0 → ⊥) → RecordsOf bytes n words₀ b false words
-      upto-over d = record { long = U .long; rest = U .rest; outcome = none-such (done ∙ turn-over (U .book) (last .item) (last .number) left d) }
+      pub taken-over : (length left ≡ 0 → ⊥) → RecordsOf bytes n words₀ b false words
+      taken-over d = record { long = U .long; rest = U .rest; outcome = none-such (done ∙ turn-over (U .book) (last .item) (last .number) left d) }
 
-      pub upto-done : (r : Bool) → r ≡ eqb (length left) 0 → RecordsOf bytes n words₀ b r words
-      upto-done r e =
+      pub taken-done : (r : Bool) → r ≡ eqb (length left) 0 → RecordsOf bytes n words₀ b r words
+      taken-done r e =
           go (length left) refl (r) e
         where
           go : (m : ℕ) → length left ≡ m → (r : Bool) → r ≡ eqb (length left) 0 → RecordsOf bytes n words₀ b r words
-          go zero h r e = let t : r ≡ true = e ∙ eq-eqb (length left) 0 h in rw t (upto-end h)
-          go (suc m) h r e = let t : r ≡ false = e ∙ ne-eqb (length left) 0 (omega arith) in rw t (upto-over (omega arith))
+          go zero h r e = let t : r ≡ true = e ∙ eq-eqb (length left) 0 h in rw t (taken-end h)
+          go (suc m) h r e = let t : r ≡ false = e ∙ ne-eqb (length left) 0 (omega arith) in rw t (taken-over (omega arith))

@@ -26,7 +26,7 @@ use Rattle.store.proofs.Held.{held}
 use Rattle.file_read.specs.declared.order.Order.{Order}
 use Rattle.file_read.specs.declared.order.Order.the-variants.{Upto, Broken}
 use Rattle.file_read.specs.Inner.{Reading, whole, none-such, RecordsOf, OrderOf}
-use Rattle.file_table.specs.Inner.{slots, Local, Nodes}
+use Rattle.file_table.specs.Inner.{localSlots, Local, LocalNodes}
 use Rattle.file_read.specs.Inner.{own, no-records, no-order, TableOf}
 use Rattle.file_table.proofs.Slots.{slots-length, slots-read}
 use Rattle.file_read.proofs.Walks.{went-of, broken-of, local-nodes}
@@ -36,10 +36,10 @@ module _ (b : ℕ) (words : List ℕ) (room : 6 * b ≤ length words) where
   long : length (zeroed (3 * b) (5 * b) words) ≡ length words
   long = zeroed-length (3 * b) (5 * b) words (omega arith) (omega arith)
 
-  empty-slots : slots b (zeroed (3 * b) (5 * b) words) ≡ replicate (2 * b) 0
+  empty-slots : localSlots b (zeroed (3 * b) (5 * b) words) ≡ replicate (2 * b) 0
   empty-slots =
       let size = slots-length b (zeroed (3 * b) (5 * b) words) (omega (arith, long)) in
-      ext-getD 0 (slots b (zeroed (3 * b) (5 * b) words)) (replicate (2 * b) 0) (size ∙ sym (zeros-length (2 * b)))
+      ext-getD 0 (localSlots b (zeroed (3 * b) (5 * b) words)) (replicate (2 * b) 0) (size ∙ sym (zeros-length (2 * b)))
       (λ x l. slots-read b (zeroed (3 * b) (5 * b) words) x (omega arith) ∙ zeroed-inside (3 * b) (5 * b) words (omega arith) (omega arith) (3 * b + x) (omega arith) (omega (arith, size)) ∙ sym (zero-getD (2 * b) x))
 
   pub blank-table : {words′ : List ℕ} → words′ ≡ zeroed (3 * b) (5 * b) words → Local start 0 b words′
@@ -107,12 +107,12 @@ module _ (bytes : List ℕ) (n : ℕ) (words : List ℕ) (b : ℕ) (room : 6 * b
     pub table-room : length bytes ≤ b → 3 * n ≤ length words₂
     table-room h = omega (arith, W .few, size)
 
-    pub table-nodes : Nodes words₂ n
+    pub table-nodes : LocalNodes words₂ n
     table-nodes = local-nodes (W .table)
 
     module _ {x : Order} (A : OrderOf words₂ n (n + 1) 1 x) where
       pub table-broken : x ≡ Broken → TableOf bytes n words b false words₂
-      table-broken d = record { long = size; rest = stays; outcome = no-order (W .is) (last-none (W .table) (broken-of d (A .sound (W .book) (slots b words₂) (W .table)))) }
+      table-broken d = record { long = size; rest = stays; outcome = no-order (W .is) (last-none (W .table) (broken-of d (A .sound (W .book) (localSlots b words₂) (W .table)))) }
 
       pub table-done : (last : ℕ) → x ≡ Upto last → (r′ : Bool) → r′ ≡ eqb last (n + 1) → TableOf bytes n words b r′ words₂
       table-done last d r′ er =
@@ -130,7 +130,7 @@ module _ (bytes : List ℕ) (n : ℕ) (words : List ℕ) (b : ℕ) (room : 6 * b
           rw q record { long = size; rest = stays; outcome = no-order (W .is) (lasts (W .table) (suc last) o ∙ rw (ne-eqb (suc last) (n + 2) (omega arith))) })
         where
           o : order (W .book) (at (W .book) (n + 1)) 2 ≡ some (suc last)
-          o = went-of last d (A .sound (W .book) (slots b words₂) (W .table))
+          o = went-of last d (A .sound (W .book) (localSlots b words₂) (W .table))
 
 -- the records as a part of the file
 pub table-part : {bytes : List ℕ} (bytes′ : List ℕ) {n : ℕ} {words : List ℕ} {b : ℕ} {r : Bool} {words′ : List ℕ} → bytes ≡ bytes′ → TableOf bytes n words b r words′ → TableOf bytes′ n words b r words′

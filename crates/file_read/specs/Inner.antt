@@ -11,10 +11,23 @@ use Rattle.family.specs.File.{readRecords, lastOf, familyOf, order}
 use Rattle.store.specs.Words.{itemLimit}
 use Rattle.file_read.specs.declared.file.Content.{Content}
 use Rattle.file_read.specs.declared.file.Content.the-variants.{Leaf, Parts, Bad}
-use Rattle.file_table.specs.Inner.{Local}
+use Rattle.file_table.specs.Inner.{Local, LocalNodes}
 use Rattle.store.specs.Inner.{Holds}
 use Rattle.file_read.specs.declared.order.Order.{Order}
 use Rattle.file_read.specs.declared.order.Order.the-variants.{Upto, Broken}
+
+-- what `in_order` is asked with: a part of the local nodes, and the last number placed
+pub record OrderAsks (nodes : List ℕ) (n p last : ℕ) : Type 0 where
+  pub room : 3 * n ≤ length nodes
+  pub inside : p ≤ n + 1
+  pub some-placed : 1 ≤ last
+  pub local : LocalNodes nodes n
+
+-- room for n records of these bytes in the scratch of a file of b bytes
+pub record RecordsRoom (bytes : List ℕ) (n : ℕ) (words : List ℕ) (b : ℕ) : Type 0 where
+  pub room : 6 * b ≤ length words
+  pub few : length bytes ≤ b
+  pub low : n < 4294967295
 
 -- the local book of a file's records, which is its last family's own book; or bytes that give none
 pub data Table (bytes : List ℕ) (n b : ℕ) (words : List ℕ) : Bool → Type 0 where
@@ -29,9 +42,9 @@ pub record TableOf (bytes : List ℕ) (n : ℕ) (words : List ℕ) (b : ℕ) (r 
 
 -- what a file holds
 pub data Holding (file : List ℕ) (b : ℕ) (words : List ℕ) : Content → Type 0 where
-  leaf : {h : ℕ} → h < 2 → familyOf itemLimit file ≡ some (at start h) → Holding file b words (Leaf h)
-  parts : {n : ℕ} {C : List Family} → familyOf itemLimit file ≡ some (at C (n + 1)) → n ≤ b → n < 4294967295 → Local C n b words → place start (at C (n + 1)) ≡ C → Holding file b words (Parts n)
-  nothing : familyOf itemLimit file ≡ none → Holding file b words Bad
+  holds-leaf : {h : ℕ} → h < 2 → familyOf itemLimit file ≡ some (at start h) → Holding file b words (Leaf h)
+  holds-parts : {n : ℕ} {C : List Family} → familyOf itemLimit file ≡ some (at C (n + 1)) → n ≤ b → n < 4294967295 → Local C n b words → place start (at C (n + 1)) ≡ C → Holding file b words (Parts n)
+  holds-none : familyOf itemLimit file ≡ none → Holding file b words Bad
 
 pub record ContentOf (file words : List ℕ) (b : ℕ) (r : Content) (words′ : List ℕ) : Type 0 where
   pub long : length words′ ≡ length words

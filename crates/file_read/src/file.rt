@@ -3,11 +3,11 @@ ghost use mathlib.Core.Path.{_≡_};
 ghost use mathlib.Core.List.{_∷_};
 ghost use Prim.Native.Nat.{_+_, _*_, _<_, _≤_};
 ghost use lib.ListN.{length};
-ghost use Rattle.file_read.specs.Inner.{TableOf, ContentOf};
+ghost use Rattle.file_read.specs.Inner.{RecordsRoom, TableOf, ContentOf};
 use crate::order::Order;
 use crate::order::in_order;
 use crate::read::read_records;
-use file_record::read::four;
+use file_record::read::number;
 use words::zero;
 
 // What a file holds: {} or {{}} by its handle, so many parts in the local table, or no family.
@@ -19,7 +19,8 @@ pub enum Content {
 
 // Whether so many records follow, in placing order; they are then in the local table.
 fn read_table(records: &[u8], parts: u32, words: &mut [u32], bytes: usize) -> bool
-    requires { ⌜ (6 * bytes ≤ length (now words)) × (length (now records) ≤ bytes) × (parts < 4294967295) × (0 < parts) ⌝ }
+    requires { ⌜ RecordsRoom (now records) parts (now words) bytes ⌝ }
+    requires { ⌜ 0 < parts ⌝ }
     ensures { λ r. ⌜ TableOf (now (records .entry)) parts (now (words .entry)) bytes r (now (words .exit)) ⌝ }
 {
     zero(words, 3 * bytes, 5 * bytes);
@@ -34,13 +35,14 @@ fn read_table(records: &[u8], parts: u32, words: &mut [u32], bytes: usize) -> bo
 
 // What follows the byte 01.
 fn read_parts(rest: &[u8], words: &mut [u32], bytes: usize) -> Content
-    requires { ⌜ (6 * bytes ≤ length (now words)) × (length (now rest) + 1 ≡ bytes) ⌝ }
+    requires { ⌜ 6 * bytes ≤ length (now words) ⌝ }
+    requires { ⌜ length (now rest) + 1 ≡ bytes ⌝ }
     ensures { λ r. ⌜ ContentOf (1 ∷ now (rest .entry)) (now (words .entry)) bytes r (now (words .exit)) ⌝ }
 {
     if rest.len() < 4 {
         return Content::Bad;
     }
-    let parts = four(rest);
+    let parts = number(rest, 4);
     if parts == 0 {
         return Content::Bad;
     }

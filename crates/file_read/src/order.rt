@@ -1,8 +1,5 @@
 // The placing order of the local parts: from the last one down, each part not yet placed must have the next number.
-ghost use Prim.Native.Nat.{_+_, _*_, _<_, _≤_};
-ghost use lib.ListN.{length};
-ghost use Rattle.file_read.specs.Inner.{OrderOf};
-ghost use Rattle.file_table.specs.Inner.{Nodes};
+ghost use Rattle.file_read.specs.Inner.{OrderAsks, OrderOf};
 
 // The last number placed, or parts out of their order.
 pub enum Order {
@@ -12,8 +9,7 @@ pub enum Order {
 
 // Places the parts of p by number, after those up to `last`.
 pub fn in_order(nodes: &[u32], count: u32, p: u32, last: u32) -> Order
-    requires { ⌜ (3 * count ≤ length (now nodes)) × (p ≤ count + 1) × (1 ≤ last) ⌝ }
-    requires { ⌜ Nodes (now nodes) count ⌝ }
+    requires { ⌜ OrderAsks (now nodes) count p last ⌝ }
     ensures { λ r. ⌜ OrderOf (now (nodes .entry)) count p last r ⌝ }
 {
     if p <= last {

@@ -1,8 +1,6 @@
 // Reading the records of a file into the local table.
-ghost use Prim.Native.Nat.{_+_, _*_, _<_, _≤_};
-ghost use lib.ListN.{length};
 ghost use Rattle.family.specs.Book.{start};
-ghost use Rattle.file_read.specs.Inner.{RecordsOf};
+ghost use Rattle.file_read.specs.Inner.{RecordsRoom, RecordsOf};
 ghost use Rattle.file_table.specs.Inner.{Local};
 use file_table::take_part;
 use file_record::read::Record;
@@ -11,7 +9,7 @@ use file_record::field::Last;
 
 // Takes so many records, each from the rest of the bytes; false where one is none, or bytes are left over.
 pub fn read_records(records: &[u8], parts: u32, words: &mut [u32], bytes: usize) -> bool
-    requires { ⌜ (6 * bytes ≤ length (now words)) × (length (now records) ≤ bytes) × (parts < 4294967295) ⌝ }
+    requires { ⌜ RecordsRoom (now records) parts (now words) bytes ⌝ }
     requires { ⌜ Local start 0 bytes (now words) ⌝ }
     ensures { λ r. ⌜ RecordsOf (now (records .entry)) parts (now (words .entry)) bytes r (now (words .exit)) ⌝ }
 {
@@ -19,13 +17,16 @@ pub fn read_records(records: &[u8], parts: u32, words: &mut [u32], bytes: usize)
     let mut last = Last { item: 0, number: 1 };
     let mut k: u32 = 0;
     while k < parts {
-        let Record::Taken { part, length } = read_record(rest, last) else {
+        let Record::Taken {
+            part,
+            bytes: taken,
+        } = read_record(rest, last) else {
             return false;
         };
         if !take_part(words, bytes, k, part) {
             return false;
         }
-        rest = &rest[length..];
+        rest = &rest[taken..];
         k = k + 1;
         last = Last {
             item: part.item,

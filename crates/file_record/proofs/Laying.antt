@@ -1,6 +1,6 @@
 -- What the writers leave is the definition's bytes at the front: a field where it stands, then the record of three fields behind the bit map byte.
 -- Runs of bytes laid one after another are one run.
-use Prim.Native.Nat.{ℕ, zero, suc, _+_, _/_, _%_, _≤_, _<_}
+use Prim.Native.Nat.{ℕ, zero, suc, _+_, _-_, _/_, _%_, _≤_, _<_}
 use mathlib.Core.Path.{_≡_, refl, sym, ap, _∙_}
 use mathlib.Core.Bool.{Bool, true, false, cond}
 use mathlib.Core.List.{List, [], _∷_, _++_}
@@ -34,86 +34,98 @@ pub weight-low : (s : Bool) (a v : ℕ) → a ≡ cond s v 0 → a ≤ v
 weight-low true a v e = omega arith
 weight-low false a v e = omega arith
 
+-- the bytes of a field that stands
+bytes-length : (n v : ℕ) → length (bytesOf n v) ≡ n
+bytes-length zero v = refl
+bytes-length (suc n) v = ap suc (bytes-length n (v / 256))
+
+field-length : (n : ℕ) (s : Bool) (v : ℕ) → length (field n s v) ≡ cond s n 0
+field-length n true v = bytes-length n v
+field-length n false v = refl
+
+-- the first k bytes of a number are laid; those of what is left of it complete the run
+pub record Laid (l₀ : List ℕ) (at width value k left : ℕ) (l : List ℕ) : Type 0 where
+  pub low : k ≤ width
+  pub long : length l ≡ length l₀
+  pub rest : sets l (at + k) (bytesOf (width - k) left) ≡ sets l₀ at (bytesOf width value)
+
+pub laid-start : (l : List ℕ) (at width value : ℕ) → Laid l at width value 0 value l
+laid-start l at width value =
+    let z : at + 0 ≡ at = omega arith in
+    let w : width - 0 ≡ width = omega arith in
+    record { low = omega arith; long = refl; rest = rw (z, w) refl }
+
+pub laid-step : {l₀ : List ℕ} {at width value k left : ℕ} {l : List ℕ} → k < width → Laid l₀ at width value k left l → Laid l₀ at width value (k + 1) (left / 256) (set l (at + k) (left % 256))
+laid-step {at = at} {width = width} {k = k} {left = left} {l = l} h L =
+    let w : width - k ≡ suc (width - (k + 1)) = omega arith in
+    let z : suc (at + k) ≡ at + (k + 1) = omega arith in
+    record {
+      low = omega arith;
+      long = length-set l (at + k) (left % 256) ∙ L .long;
+      rest = sym (ap (λ n. sets l (at + k) (bytesOf n left)) w ∙ ap (λ j. sets (set l (at + k) (left % 256)) j (bytesOf (width - (k + 1)) (left / 256))) z) ∙ L .rest;
+    }
+
 -- the ways out of a field writer
-module _ {s : Bool} (v : ℕ) (l : List ℕ) (at : ℕ) where
-  pub off-laid : (n : ℕ) → s ≡ false → (at ≡ at + length (field n s v)) × (l ≡ sets l at (field n s v))
-  off-laid n e = rw e (omega arith, refl)
+pub field-off : {s : Bool} (v : ℕ) (l : List ℕ) (at n : ℕ) → s ≡ false → (at ≡ at + cond s n 0) × (l ≡ sets l at (field n s v))
+field-off v l at n e = rw e (omega arith, refl)
 
-  pub two-laid : s ≡ true → (at + 2 ≡ at + length (field 2 s v)) × (set (set l at (v % 256)) (at + 1) (v / 256 % 256) ≡ sets l at (field 2 s v))
-  two-laid e = rw (e, add-one at) (omega arith, refl)
+pub field-laid : {s : Bool} {l₀ : List ℕ} {at width value k left : ℕ} {l : List ℕ} → s ≡ true → width ≤ k → Laid l₀ at width value k left l
+    → (at + width ≡ at + cond s width 0) × (l ≡ sets l₀ at (field width s value))
+field-laid {width = width} {k = k} e h L = let z : width - k ≡ 0 = omega (arith, L .low) in rw e (refl, rw z at (L .rest))
 
-  pub four-laid : s ≡ true
-      → (at + 4 ≡ at + length (field 4 s v)) × (set (set (set (set l at (v % 256)) (at + 1) (v / 256 % 256)) (at + 2) (v / 256 / 256 % 256)) (at + 3) (v / 256 / 256 / 256 % 256) ≡ sets l at (field 4 s v))
-  four-laid e =
-      let e₂ : at + 2 ≡ suc (suc at) = omega arith in
-      let e₃ : at + 3 ≡ suc (suc (suc at)) = omega arith in
-      let e₄ : at + 4 ≡ at + length (field 4 true v) = omega arith in
-      rw e (e₄, rw (add-one at, e₂, e₃) refl)
-
-  -- the room of a field that stands
-  pub room-two : s ≡ true → at + length (field 2 s v) ≤ length l → at + 2 ≤ length l
-  room-two e h = omega (arith, ap (λ x. length (field 2 x v)) e)
-
-  pub room-four : s ≡ true → at + length (field 4 s v) ≤ length l → at + 4 ≤ length l
-  room-four e h = omega (arith, ap (λ x. length (field 4 x v)) e)
+-- the room of a field that stands
+pub field-room : {s : Bool} (width at : ℕ) (l : List ℕ) → s ≡ true → at + cond s width 0 ≤ length l → at + width ≤ length l
+field-room width at l e h = rw e at h
 
 -- the length of a record
 pub widths-is : (item zeroth one : Bool) (a b c : ℕ) → a ≡ cond item 2 0 → b ≡ cond zeroth 4 0 → c ≡ cond one 4 0 → (1 + a + b + c ≡ widths item zeroth one) × (1 + a + b + c ≤ 11)
 unfolding widths
 widths-is item zeroth one a b c ea eb ec = (rw (ea, eb, ec), omega (arith, weight-low item a 2 ea, weight-low zeroth b 4 eb, weight-low one c 4 ec))
 
--- the record
+-- the record's length, by the fields that stand
 module _ (pi pn i z o : ℕ) where
-  pub record-length : length (recordBytes pi pn (triple i z o))
-      ≡ 1 + (length (field 2 (stands i (suc pi)) i) + (length (field 4 (stands z 0) z) + length (field 4 (stands o pn) o)))
-  unfolding recordBytes
-  record-length = rw (length-append (field 2 (stands i (suc pi)) i), length-append (field 4 (stands z 0) z)) (omega arith)
+  pub widths-length : widths (stands i (suc pi)) (stands z 0) (stands o pn) ≡ length (recordBytes pi pn (triple i z o))
+  unfolding widths recordBytes
+  widths-length =
+      rw (
+        length-append (field 2 (stands i (suc pi)) i),
+        length-append (field 4 (stands z 0) z),
+        field-length 2 (stands i (suc pi)) i,
+        field-length 4 (stands z 0) z,
+        field-length 4 (stands o pn) o,
+      ) (omega arith)
 
   -- the room for each field
-  module _ (l : List ℕ) (m : ℕ) (room : length (recordBytes pi pn (triple i z o)) ≤ length l) where
+  module _ (l : List ℕ) (room : length (recordBytes pi pn (triple i z o)) ≤ length l) where
+    fields-room : 1 + cond (stands i (pi + 1)) 2 0 + cond (stands z 0) 4 0 + cond (stands o pn) 4 0 ≤ length l
+    unfolding widths
+    fields-room = omega (arith, widths-length, ap {B = ℕ} (λ k. cond (stands i k) 2 0) (add-one pi))
+
     pub room-map : 0 < length l
-    room-map = omega (arith, record-length)
+    room-map = omega (arith, fields-room)
 
-    pub room-item : 1 + length (field 2 (stands i (pi + 1)) i) ≤ length (set l 0 m)
-    room-item = omega (arith, record-length, length-set l 0 m, ap (λ k. length (field 2 (stands i k) i)) (add-one pi))
+    pub room-item : (m : ℕ) → 1 + cond (stands i (pi + 1)) 2 0 ≤ length (set l 0 m)
+    room-item m = omega (arith, fields-room, length-set l 0 m)
 
-    module _ (a : ℕ) {l₁ : List ℕ} (e₁ : (a ≡ 1 + length (field 2 (stands i (pi + 1)) i)) × (l₁ ≡ sets (set l 0 m) 1 (field 2 (stands i (pi + 1)) i))) where
-      long₁ : length l₁ ≡ length l
-      long₁ = ap length (e₁ .1) ∙ length-sets (set l 0 m) 1 (field 2 (stands i (pi + 1)) i) ∙ length-set l 0 m
+    pub room-zero : (a : ℕ) {n : ℕ} → n ≡ length l → a ≡ 1 + cond (stands i (pi + 1)) 2 0 → a + cond (stands z 0) 4 0 ≤ n
+    room-zero a e ea = omega (arith, fields-room)
 
-      pub room-zero : a + length (field 4 (stands z 0) z) ≤ length l₁
-      room-zero = omega (arith, record-length, long₁, e₁ .0, ap (λ k. length (field 2 (stands i k) i)) (add-one pi))
+    pub room-one : (a b : ℕ) {n : ℕ} → n ≡ length l → a ≡ 1 + cond (stands i (pi + 1)) 2 0 → b ≡ a + cond (stands z 0) 4 0 → b + cond (stands o pn) 4 0 ≤ n
+    room-one a b e ea eb = omega (arith, fields-room)
 
-      module _ (b : ℕ) {l₂ : List ℕ} (e₂ : (b ≡ a + length (field 4 (stands z 0) z)) × (l₂ ≡ sets l₁ a (field 4 (stands z 0) z))) where
-        pub room-one : b + length (field 4 (stands o pn) o) ≤ length l₂
-        room-one =
-            omega (arith, record-length, long₁, ap length (e₂ .1) ∙ length-sets l₁ a (field 4 (stands z 0) z), e₁ .0, e₂ .0, ap (λ k. length (field 2 (stands i k) i)) (add-one pi))
-
+  -- the bit map byte and the fields, each behind the one before
   module _ (l : List ℕ) (m a b c : ℕ) {l₁ l₂ l₃ : List ℕ} (em : m ≡ mapOf (stands i (pi + 1)) (stands z 0) (stands o pn))
-      (e₁ : (a ≡ 1 + length (field 2 (stands i (pi + 1)) i)) × (l₁ ≡ sets (set l 0 m) 1 (field 2 (stands i (pi + 1)) i)))
-      (e₂ : (b ≡ a + length (field 4 (stands z 0) z)) × (l₂ ≡ sets l₁ a (field 4 (stands z 0) z)))
-      (e₃ : (c ≡ b + length (field 4 (stands o pn) o)) × (l₃ ≡ sets l₂ b (field 4 (stands o pn) o))) where
+      (e₁ : (a ≡ 1 + cond (stands i (pi + 1)) 2 0) × (l₁ ≡ sets (set l 0 m) 1 (field 2 (stands i (pi + 1)) i)))
+      (e₂ : (b ≡ a + cond (stands z 0) 4 0) × (l₂ ≡ sets l₁ a (field 4 (stands z 0) z)))
+      (e₃ : (c ≡ b + cond (stands o pn) 4 0) × (l₃ ≡ sets l₂ b (field 4 (stands o pn) o))) where
     pub record-place : c ≡ length (recordBytes pi pn (triple i z o))
-    record-place = rw record-length (omega (arith, e₁ .0, e₂ .0, e₃ .0, ap (λ k. length (field 2 (stands i k) i)) (add-one pi)))
+    unfolding widths
+    record-place = omega (arith, widths-length, e₁ .0, e₂ .0, e₃ .0, ap {B = ℕ} (λ k. cond (stands i k) 2 0) (add-one pi))
 
     pub record-laid : l₃ ≡ sets l 0 (recordBytes pi pn (triple i z o))
     unfolding recordBytes
     record-laid =
-        rw (e₃ .1, e₂ .1, e₁ .1, e₂ .0, e₁ .0, em, add-one pi)
+        rw (e₃ .1, e₂ .1, e₁ .1, e₂ .0, e₁ .0, em, add-one pi, ← field-length 2 (stands i (suc pi)) i, ← field-length 4 (stands z 0) z)
         (sym (sets-append (field 2 (stands i (suc pi)) i) (field 4 (stands z 0) z ++ field 4 (stands o pn) o) (set l 0 (mapOf (stands i (suc pi)) (stands z 0) (stands o pn))) 1
         ∙ sets-append (field 4 (stands z 0) z) (field 4 (stands o pn) o) (sets (set l 0 (mapOf (stands i (suc pi)) (stands z 0) (stands o pn))) 1 (field 2 (stands i (suc pi)) i))
         (1 + length (field 2 (stands i (suc pi)) i))))
-
--- its length by the fields that stand
-pub widths-length : (pi pn i z o : ℕ) → widths (stands i (suc pi)) (stands z 0) (stands o pn) ≡ length (recordBytes pi pn (triple i z o))
-unfolding widths
-widths-length pi pn i z o =
-    omega (arith, field-length 2 (stands i (suc pi)) i, field-length 4 (stands z 0) z, field-length 4 (stands o pn) o, record-length pi pn i z o)
-  where
-    bytes-length : (n v : ℕ) → length (bytesOf n v) ≡ n
-    bytes-length zero v = refl
-    bytes-length (suc n) v = ap suc (bytes-length n (v / 256))
-
-    field-length : (n : ℕ) (s : Bool) (v : ℕ) → length (field n s v) ≡ cond s n 0
-    field-length n true v = bytes-length n v
-    field-length n false v = refl

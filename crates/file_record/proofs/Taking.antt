@@ -7,7 +7,7 @@ use mathlib.Core.List.{List, [], _∷_}
 use mathlib.Core.Option.{none, some}
 use native.Mathlib.Omega.{arith}
 use lib.ListN.{length, getD, take, drop, length-drop}
-use lib.Seq.{take-all, drop-drop}
+use lib.Seq.{take-all, drop-drop, drop-cons}
 use borrow.Author.Tests.{eq-eqb, ne-eqb, lt-ltb, le-ltb}
 use Rattle.family.specs.Record.{front, triple, readNumber, readField, bit1, bit2, bit4, readFields, readRecord}
 use Rattle.file_record.specs.declared.field.Last.{Last}
@@ -22,23 +22,47 @@ use Rattle.file_record.specs.Inner.{FieldOf, value, bad, FieldsOf, Recor
 pub part-from : (l : List ℕ) (a : ℕ) → take (length l - a) (drop a l) ≡ drop a l
 part-from l a = take-all (length l - a) (drop a l) (omega (arith, length-drop a l))
 
--- numbers
+-- a number in so many bytes
 pub number-short : (n : ℕ) (l : List ℕ) → length l < n → readNumber n l ≡ none
 number-short zero l h = absurd (omega arith)
 number-short (suc n) [] h = refl
 number-short (suc n) (x ∷ l) h = rw (number-short n l (omega arith))
 
-pub number-two : (l : List ℕ) → 2 ≤ length l → readNumber 2 l ≡ some (front (getD l 0 0 + 256 * getD l 1 0) (drop 2 l))
-number-two [] h = absurd (omega arith)
-number-two (x ∷ []) h = absurd (omega arith)
-number-two (x ∷ y ∷ l) h = ap (λ v. some (front v l)) (omega arith)
+-- the numbers of n bytes are below this
+abbrev pub bound : ℕ → ℕ
+bound zero = 1
+bound (suc n) = 256 * bound n
 
-pub number-four : (l : List ℕ) → 4 ≤ length l → readNumber 4 l ≡ some (front (getD l 0 0 + 256 * (getD l 1 0 + 256 * (getD l 2 0 + 256 * getD l 3 0))) (drop 4 l))
-number-four [] h = absurd (omega arith)
-number-four (x ∷ []) h = absurd (omega arith)
-number-four (x ∷ y ∷ []) h = absurd (omega arith)
-number-four (x ∷ y ∷ z ∷ []) h = absurd (omega arith)
-number-four (x ∷ y ∷ z ∷ w ∷ l) h = ap (λ v. some (front v l)) (omega arith)
+bound-low : (n : ℕ) → n ≤ 3 → bound n ≤ 16777216
+bound-low zero h = omega arith
+bound-low (suc zero) h = omega arith
+bound-low (suc (suc zero)) h = omega arith
+bound-low (suc (suc (suc zero))) h = omega arith
+bound-low (suc (suc (suc (suc n)))) h = absurd (omega arith)
+
+-- the bytes from a place up to the width, read
+pub record BytesRead (l : List ℕ) (width left v : ℕ) : Type 0 where
+  pub low : left ≤ width
+  pub is : readNumber (width - left) (drop left l) ≡ some (front v (drop width l))
+  pub small : v < bound (width - left)
+
+pub number-start : (l : List ℕ) (width : ℕ) → BytesRead l width width 0
+number-start l width = let z : width - width ≡ 0 = omega arith in record { low = omega arith; is = rw z refl; small = rw z (omega arith) }
+
+pub number-room : {l : List ℕ} {width left v : ℕ} → width ≤ 4 → 0 < left → BytesRead l width left v → v < 16777216
+number-room {width = width} {left = left} h s R = omega (arith, R .small, bound-low (width - left) (omega arith))
+
+pub number-step : {l : List ℕ} {width left v b : ℕ} → 0 < left → width ≤ length l → BytesRead l width left v → b ≡ getD l (left - 1) 0 → b ≤ 255 → BytesRead l width (left - 1) (b + 256 * v)
+number-step {l} {width} {left} {v} {b} s h R e low =
+    let n : width - (left - 1) ≡ suc (width - left) = omega (arith, R .low) in
+    let d : drop (left - 1) l ≡ b ∷ drop left l = drop-cons l (left - 1) 0 (omega (arith, R .low)) ∙ cong₂ (sym e) in
+    record { low = omega (arith, R .low); is = rw (n, d, R .is) refl; small = rw n (omega (arith, R .small)) }
+  where
+    cong₂ : {x y : ℕ} → x ≡ y → x ∷ drop (suc (left - 1)) l ≡ y ∷ drop left l
+    cong₂ p = let z : suc (left - 1) ≡ left = omega arith in rw (p, z) refl
+
+pub number-done : {l : List ℕ} {width left v : ℕ} → left ≡ 0 → BytesRead l width left v → readNumber width l ≡ some (front v (drop width l))
+number-done {width = width} e R = let z : width - 0 ≡ width = omega arith in rw (e, z) at (R .is)
 
 -- the ways out of a field reader
 module _ (n : ℕ) {s : Bool} (other : ℕ) (l : List ℕ) where

@@ -37,37 +37,28 @@ pub fn length_of(item: bool, zero: bool, one: bool) -> usize
     1 + width(item, 2) + width(zero, 4) + width(one, 4)
 }
 
-// Writes a field of two bytes where it stands; gives the place after it.
-fn put_two(out: &mut [u8], at: usize, stands: bool, value: u32) -> usize
-    requires { ⌜ (value < 65536) × (at + length (field 2 stands value) ≤ length (now out)) ⌝ }
-    ensures { λ r. ⌜ (r ≡ at + length (field 2 stands value)) × (now (out .exit) ≡ sets (now (out .entry)) at (field 2 stands value)) ⌝ }
+// Writes a field of so many bytes, low byte first, where it stands; gives the place after it.
+pub fn put_field(out: &mut [u8], at: usize, width: usize, stands: bool, value: u32) -> usize
+    requires { ⌜ at + cond stands width 0 ≤ length (now out) ⌝ }
+    ensures { λ r. ⌜ r ≡ at + cond stands width 0 ⌝ }
+    ensures { λ _. ⌜ now (out .exit) ≡ sets (now (out .entry)) at (field width stands value) ⌝ }
 {
     if !stands {
         return at;
     }
-    out[at] = (value % 256) as u8;
-    out[at + 1] = (value / 256 % 256) as u8;
-    at + 2
-}
-
-// Writes a field of four bytes where it stands; gives the place after it.
-pub fn put_four(out: &mut [u8], at: usize, stands: bool, value: u32) -> usize
-    requires { ⌜ at + length (field 4 stands value) ≤ length (now out) ⌝ }
-    ensures { λ r. ⌜ (r ≡ at + length (field 4 stands value)) × (now (out .exit) ≡ sets (now (out .entry)) at (field 4 stands value)) ⌝ }
-{
-    if !stands {
-        return at;
+    let mut left = value;
+    let mut k: usize = 0;
+    while k < width {
+        out[at + k] = (left % 256) as u8;
+        left = left / 256;
+        k = k + 1;
     }
-    out[at] = (value % 256) as u8;
-    out[at + 1] = (value / 256 % 256) as u8;
-    out[at + 2] = (value / 256 / 256 % 256) as u8;
-    out[at + 3] = (value / 256 / 256 / 256 % 256) as u8;
-    at + 4
+    at + width
 }
 
 // Writes the record of a part to the front of the output, and gives its length.
 pub fn put_record(out: &mut [u8], last: Last, part: Part) -> usize
-    requires { ⌜ (last .item < 65535) × (part .item < 65536) ⌝ }
+    requires { ⌜ last .item < 65535 ⌝ }
     requires { ⌜ length (recordBytes (last .item) (last .number) (triple (part .item) (part .zero) (part .one))) ≤ length (now out) ⌝ }
     ensures { λ r. ⌜ r ≡ length (recordBytes (last .item) (last .number) (triple (part .item) (part .zero) (part .one))) ⌝ }
     ensures { λ r. ⌜ now (out .exit) ≡ sets (now (out .entry)) 0 (recordBytes (last .item) (last .number) (triple (part .item) (part .zero) (part .one))) ⌝ }
@@ -76,7 +67,7 @@ pub fn put_record(out: &mut [u8], last: Last, part: Part) -> usize
     let zero = part.zero != 0;
     let one = part.one != last.number;
     out[0] = map_of(item, zero, one);
-    let after_item = put_two(out, 1, item, part.item);
-    let after_zero = put_four(out, after_item, zero, part.zero);
-    put_four(out, after_zero, one, part.one)
+    let after_item = put_field(out, 1, 2, item, part.item);
+    let after_zero = put_field(out, after_item, 4, zero, part.zero);
+    put_field(out, after_zero, 4, one, part.one)
 }

@@ -17,16 +17,21 @@ use Rattle.words.specs.Words.{zeroed}
 use Rattle.words.proofs.Cases.{by-lt, by-eq, clash}
 use Rattle.words.proofs.Zeroed.{rest-drop, zeroed-length, zeroed-inside, zeroed-after}
 use Rattle.store.specs.declared.record.Store.{Store}
-use Rattle.store.specs.declared.record.Refusal.the-variants.{Handle, Scratch, Output, Damaged}
-use Rattle.store.specs.Capacity.{fitting}
+use Rattle.store.specs.declared.record.Refusal.the-variants.{Output}
 use Rattle.store.specs.Scratch.{scratchTests}
 use Rattle.store.specs.Words.{itemLimit, topAt, bookOf}
 use Rattle.store.specs.Sound.{Sound}
 use Rattle.store.specs.Inner.{Holds}
 use Rattle.store.proofs.Held.{at-0, at-1, top-at, within, at-node}
 use Rattle.store.proofs.Decoding.{sound-holds}
-use Rattle.store.proofs.Calls.{sound-fits}
-use Rattle.store.proofs.Tested.{tests-handle, tests-scratch, tests-passed}
+use Rattle.store.proofs.Calls.{refusal-some, sound-fits}
+use Rattle.store.proofs.Testing.{Tested, tested-refuses}
+use Rattle.store.specs.Tests.{testsOf, Found}
+use Rattle.store.specs.Refusals.{refusalNumber}
+use Rattle.store.specs.declared.tests.Test.{Test}
+use Rattle.store.specs.declared.tests.Test.the-variants.{Refuses}
+use Rattle.store.specs.declared.record.Refusal.{Refusal}
+use Rattle.store.proofs.Tested.{scratch-number}
 use Rattle.file_trail.specs.declared.trail.Trail.{Trail}
 use Rattle.file_trail.specs.declared.walk.Walked.{Walked}
 use Rattle.file_trail.specs.declared.walk.Walked.the-variants.{Went, Broken as NoWay}
@@ -34,7 +39,7 @@ use Rattle.file_save.specs.declared.SaveAnswer.the-variants.{Length, Ref
 use Rattle.file_save.specs.declared.Saved.{Saved}
 use Rattle.file_save.specs.Promise.{saveGivenBy, saveRefusal, saveAnswer, saveOutput, SaveCall}
 use Rattle.file_trail.specs.Inner.{Trailed, WalkOf}
-use Rattle.file_write.specs.Inner.{Writing, startAt, WritesOf}
+use Rattle.file_write.specs.Inner.{Writing, firstCursor, WritesOf}
 use Rattle.file_save.specs.Inner.{LeafOf, FileOf, PartsOf}
 use Rattle.file_trail.proofs.Trails.{trail-start}
 use Rattle.file_trail.proofs.Walking.{came-to, never}
@@ -56,7 +61,7 @@ file-written t nodes n links out {out₁} {r} {links′} {out′} h e l W =
       sound = λ B D lookup H T few. W .sound B D lookup (fileOfBook D) out H (T .parts-is) (begun T few);
     }
   where
-    begun : {B D : List Family} → Trailed B D n t links → t .length ≤ length out → Writing B D 2 (startAt (t .first)) links (fileOfBook D) out out₁
+    begun : {B D : List Family} → Trailed B D n t links → t .bytes ≤ length out → Writing B D 2 (firstCursor (t .first)) links (fileOfBook D) out out₁
     begun {B} {D} T few =
         let parts : t .parts ≡ length D - 2 = omega (arith, T .parts-is) in
         record {
@@ -66,7 +71,7 @@ file-written t nodes n links out {out₁} {r} {links′} {out′} h e l W =
           at-is = T .first-is;
           number-is = omega arith;
           place-low = omega (arith, file-length D);
-          room = omega (arith, file-length D, T .length-is);
+          room = omega (arith, file-length D, T .bytes-is);
           todo-is = refl;
           out-is = e ∙ rw parts (sets-front (1 ∷ bytesOf 4 (length D - 2)) out (omega arith));
           numbered = λ m a b c. absurd (omega arith);
@@ -74,8 +79,8 @@ file-written t nodes n links out {out₁} {r} {links′} {out′} h e l W =
         }
 
 -- the ways out of `save_parts`
-parts-first : Trail
-parts-first = record { first = 0; last = 1; item = 0; parts = 0; length = 5 }
+abbrev pub startTrail : Trail
+startTrail = record { first = 0; last = 1; item = 0; parts = 0; bytes = 5 }
 
 module _ (s : Store) (p : ℕ) (nodes links out : List ℕ) (two : 2 ≤ p) (lp : p ≤ s .count + 1) where
   pub parts-damaged : (r : Saved) → r .store ≡ s → itemLimit < topAt nodes p → PartsOf s p nodes links out r links out
@@ -89,16 +94,16 @@ module _ (s : Store) (p : ℕ) (nodes links out : List ℕ) (two : 2 ≤ p) (lp 
         gave = λ B lookup H l. absurd (omega (arith, top-at H p (omega arith), within H p (omega arith) .low));
       }
 
-  module _ (room : s .count ≤ length links) {links₁ : List ℕ} (el : links₁ ≡ zeroed 0 (s .count) links) (start′ : Trail) (is-start : (start′ .last ≡ 1) × (start′ .item ≡ 0) × (start′ .parts ≡ 0) × (start′ .length ≡ 5))
-      {x : Walked} {links₂ : List ℕ} (W : WalkOf start′ p nodes (s .count) links₁ x links₂) where
+  module _ (room : s .count ≤ length links) {links₁ : List ℕ} (el : links₁ ≡ zeroed 0 (s .count) links) 
+      {x : Walked} {links₂ : List ℕ} (W : WalkOf startTrail p nodes (s .count) links₁ x links₂) where
     long₂ : length links₂ ≡ length links
     long₂ = W .long ∙ ap length el ∙ zeroed-length 0 (s .count) links (omega arith) room
 
     rest₂ : (k : ℕ) → s .count ≤ k → getD links₂ k 0 ≡ getD links k 0
     rest₂ k l = W .rest k l ∙ ap (λ X. getD X k 0) el ∙ zeroed-after 0 (s .count) links (omega arith) room k l
 
-    begun : {B : List Family} {lookup : List ℕ} → Holds B (s .count) nodes lookup → Trailed B start (s .count) start′ links₁
-    begun H = trail-start H links₁ (λ k l. ap (λ X. getD X k 0) el ∙ zeroed-inside 0 (s .count) links (omega arith) room k (omega arith) l) start′ (is-start .0) (is-start .1) (is-start .2) (is-start .3)
+    begun : {B : List Family} {lookup : List ℕ} → Holds B (s .count) nodes lookup → Trailed B start (s .count) startTrail links₁
+    begun H = trail-start H links₁ (λ k l. ap (λ X. getD X k 0) el ∙ zeroed-inside 0 (s .count) links (omega arith) room k (omega arith) l) startTrail refl refl refl refl
 
     pub parts-broken : (r : Saved) → r .store ≡ s → x ≡ NoWay → PartsOf s p nodes links out r links₂ out
     parts-broken r es e =
@@ -124,10 +129,10 @@ module _ (s : Store) (p : ℕ) (nodes links out : List ℕ) (two : 2 ≤ p) (lp 
           go base e = absurd (let z : _≡_ {A = ℕ} 0 1 = cc in omega arith)
           go (node i a b) e = refl
 
-      length-is : {B : List Family} {lookup : List ℕ} → Holds B (s .count) nodes lookup → t .length ≡ length (fileOf (at B p))
-      length-is {B} H = trail H .length-is ∙ sym (file-length (place start (at B p))) ∙ ap length (sym (file-is H))
+      length-is : {B : List Family} {lookup : List ℕ} → Holds B (s .count) nodes lookup → t .bytes ≡ length (fileOf (at B p))
+      length-is {B} H = trail H .bytes-is ∙ sym (file-length (place start (at B p))) ∙ ap length (sym (file-is H))
 
-      pub parts-short : (r : Saved) → r .store ≡ s → length out < t .length → r .answer ≡ Refused Output → PartsOf s p nodes links out r links₂ out
+      pub parts-short : (r : Saved) → r .store ≡ s → length out < t .bytes → r .answer ≡ Refused Output → PartsOf s p nodes links out r links₂ out
       parts-short r es h ea =
           record {
             store-is = es;
@@ -138,7 +143,7 @@ module _ (s : Store) (p : ℕ) (nodes links out : List ℕ) (two : 2 ≤ p) (lp 
             gave = λ B lookup H l. absurd (omega (arith, length-is H));
           }
 
-      module _ (fit : t .length ≤ length out) {y : Bool} {links₃ out₃ : List ℕ} (F : FileOf t nodes (s .count) links₂ out y links₃ out₃) where
+      module _ (fit : t .bytes ≤ length out) {y : Bool} {links₃ out₃ : List ℕ} (F : FileOf t nodes (s .count) links₂ out y links₃ out₃) where
         wrote : {B : List Family} {lookup : List ℕ} → Holds B (s .count) nodes lookup → (y ≡ true) × (out₃ ≡ fileOf (at B p) ++ drop (length (fileOf (at B p))) out)
         wrote {B} {lookup} H = rw (file-is H) (F .sound B (place start (at B p)) lookup H (trail H) fit)
 
@@ -153,7 +158,7 @@ module _ (s : Store) (p : ℕ) (nodes links out : List ℕ) (two : 2 ≤ p) (lp 
               gave = λ B lookup H l. clash (wrote H .0) e;
             }
 
-        pub parts-done : (r : Saved) → r .store ≡ s → r .answer ≡ Length (t .length) → PartsOf s p nodes links out r links₃ out₃
+        pub parts-done : (r : Saved) → r .store ≡ s → r .answer ≡ Length (t .bytes) → PartsOf s p nodes links out r links₃ out₃
         parts-done r es ea =
             record {
               store-is = es;
@@ -169,82 +174,75 @@ module _ (s : Store) (nodes lookup : List ℕ) (p : ℕ) (scratch out : List ℕ
   abbrev B : List Family
   B = bookOf nodes (s .count)
 
-  pub save-misfit : (r : Saved) → r .store ≡ s → fitting (s .capacity) (s .count) (length nodes) (length lookup) ≡ false → r .answer ≡ Refused Damaged → SaveCall s nodes lookup p scratch out r scratch out
-  save-misfit r es e ea =
-      record {
-        misfit = λ d. (ea, refl, refl);
-        answer-is = λ S. clash (sound-fits S) e;
-        out-is = λ S. clash (sound-fits S) e;
+  tests-are : Sound s nodes lookup [] → scratchTests B p (length scratch) ≡ testsOf (s .count) p 0 0 (length scratch) (s .count)
+  tests-are S = scratch-number B (s .count) p (length scratch) (sound-holds S .size)
+
+  -- refused by a test: all words as they came
+  pub save-refused : {a : Test} → Found s (length nodes) (length lookup) p 0 0 (length scratch) (s .count) a → {x : Refusal} → a ≡ Refuses x
+      → (r : Saved) → r .store ≡ s → r .answer ≡ Refused x → SaveCall s nodes lookup p scratch out r scratch out
+  unfolding saveAnswer saveRefusal saveOutput
+  save-refused F {x} e r es ea =
+      tested-refuses nodes lookup F e
+      (λ t d. record {
+        misfit = λ q. (ea ∙ ap Refused d, refl, refl);
+        answer-is = λ S. clash (sound-fits S) t;
+        out-is = λ S. clash (sound-fits S) t;
         scratch-stays = λ S n. refl;
         scratch-rest = refl;
         store-is = es;
         long = refl;
         long-out = refl;
-      }
+      })
+      (λ t d. record {
+        misfit = λ q. clash t q;
+        answer-is = λ S. let n = ne-eqb (refusalNumber x) 0 (refusal-some x) in ap saveGivenBy ea ∙ rw (tests-are S, ← d, n, n);
+        out-is = λ S. let n = ne-eqb (refusalNumber x) 0 (refusal-some x) in rw (tests-are S, ← d, n, n);
+        scratch-stays = λ S n. refl;
+        scratch-rest = refl;
+        store-is = es;
+        long = refl;
+        long-out = refl;
+      })
 
-  module _ (e : fitting (s .capacity) (s .count) (length nodes) (length lookup) ≡ true) where
-    -- refused by a test of handle and scratch
-    tested-out : (n : ℕ) → (n ≡ 0 → ⊥) → (Sound s nodes lookup [] → scratchTests B p (length scratch) ≡ n) → (r : Saved) → r .store ≡ s → saveGivenBy (r .answer) ≡ record { refusal = n; length = 0 }
-        → SaveCall s nodes lookup p scratch out r scratch out
+  module _ (P : Tested s nodes lookup p 0 0 (length scratch) (s .count)) where
+    passed : Sound s nodes lookup [] → scratchTests B p (length scratch) ≡ 0
+    passed S = tests-are S ∙ P .number-is
+
+    -- by whether the output has room for the file
+    told : (r : Saved) (scratch′ out′ : List ℕ) → r .store ≡ s → length scratch′ ≡ length scratch → length out′ ≡ length out → ((k : ℕ) → s .count ≤ k → getD scratch′ k 0 ≡ getD scratch k 0)
+        → (Sound s nodes lookup [] → length out < length (fileOf (at B p)) → (r .answer ≡ Refused Output) × (out′ ≡ out))
+        → (Sound s nodes lookup [] → length (fileOf (at B p)) ≤ length out → (r .answer ≡ Length (length (fileOf (at B p)))) × (out′ ≡ fileOf (at B p) ++ drop (length (fileOf (at B p))) out))
+        → SaveCall s nodes lookup p scratch out r scratch′ out′
     unfolding saveAnswer saveRefusal saveOutput
-    tested-out n some t r es ea =
+    told r scratch′ out′ es l lo rest short long =
         record {
-          misfit = λ d. clash e d;
-          answer-is = λ S. ea ∙ rw (t S, ne-eqb n 0 some, ne-eqb n 0 some);
-          out-is = λ S. rw (t S, ne-eqb n 0 some, ne-eqb n 0 some);
-          scratch-stays = λ S m. refl;
-          scratch-rest = refl;
+          misfit = λ d. clash (P .fits) d;
+          answer-is = λ S. by-lt (length out) (length (fileOf (at B p)))
+              (λ h q. ap saveGivenBy (short S h .0) ∙ rw (passed S, q))
+              (λ h q. ap saveGivenBy (long S h .0) ∙ rw (passed S, q));
+          out-is = λ S. by-lt (length out) (length (fileOf (at B p))) (λ h q. short S h .1 ∙ rw (passed S, q)) (λ h q. long S h .1 ∙ rw (passed S, q));
+          scratch-stays = λ S n. absurd (n (passed S));
+          scratch-rest = rest-drop (s .count) scratch scratch′ l rest;
           store-is = es;
-          long = refl;
-          long-out = refl;
+          long = l;
+          long-out = lo;
         }
 
-    pub save-handle : s .count + 1 < p → (r : Saved) → r .store ≡ s → r .answer ≡ Refused Handle → SaveCall s nodes lookup p scratch out r scratch out
-    save-handle l r es ea = tested-out 4 (omega arith) (λ S. tests-handle B (s .count) p (length scratch) (sound-holds S .size) l) r es (ap saveGivenBy ea)
+    pub save-leaf : p < 2 → (r : Saved) {out′ : List ℕ} → LeafOf s p out r out′ → SaveCall s nodes lookup p scratch out r scratch out′
+    save-leaf h r {out′} L =
+        told r scratch out′ (L .store-is) refl (L .long-out) (λ k l. refl)
+        (λ S l. L .refused (omega (arith, one S)))
+        (λ S l. let g = L .gave (λ z. omega (arith, one S)) in (g .0 ∙ ap Length (sym (one S)), g .1 ∙ laid S (λ z. omega (arith, one S))))
+      where
+        leaf : Sound s nodes lookup [] → fileOf (at B p) ≡ cond (eqb p 0) 0 2 ∷ []
+        leaf S = by-eq p 0 (λ q d. rw (d, q, at-0 (sound-holds S))) (λ q d. let one : p ≡ 1 = omega arith in rw (d, one, at-1 (sound-holds S)))
 
-    module _ (lp : p ≤ s .count + 1) where
-      pub save-scratch : length scratch < s .count → (r : Saved) → r .store ≡ s → r .answer ≡ Refused Scratch → SaveCall s nodes lookup p scratch out r scratch out
-      save-scratch l r es ea = tested-out 7 (omega arith) (λ S. tests-scratch B (s .count) p (length scratch) (sound-holds S .size) lp l) r es (ap saveGivenBy ea)
+        one : Sound s nodes lookup [] → length (fileOf (at B p)) ≡ 1
+        one S = ap length (leaf S)
 
-      module _ (room : s .count ≤ length scratch) where
-        passed : Sound s nodes lookup [] → scratchTests B p (length scratch) ≡ 0
-        passed S = tests-passed B (s .count) p (length scratch) (sound-holds S .size) lp room
+        laid : Sound s nodes lookup [] → (length out ≡ 0 → ⊥) → set out 0 (cond (eqb p 0) 0 2) ≡ fileOf (at B p) ++ drop (length (fileOf (at B p))) out
+        laid S n = rw (leaf S) (sets-front (cond (eqb p 0) 0 2 ∷ []) out (omega arith))
 
-        -- by whether the output has room for the file
-        told : (r : Saved) (scratch′ out′ : List ℕ) → r .store ≡ s → length scratch′ ≡ length scratch → length out′ ≡ length out → ((k : ℕ) → s .count ≤ k → getD scratch′ k 0 ≡ getD scratch k 0)
-            → (Sound s nodes lookup [] → length out < length (fileOf (at B p)) → (r .answer ≡ Refused Output) × (out′ ≡ out))
-            → (Sound s nodes lookup [] → length (fileOf (at B p)) ≤ length out → (r .answer ≡ Length (length (fileOf (at B p)))) × (out′ ≡ fileOf (at B p) ++ drop (length (fileOf (at B p))) out))
-            → SaveCall s nodes lookup p scratch out r scratch′ out′
-        unfolding saveAnswer saveRefusal saveOutput
-        told r scratch′ out′ es l lo rest short long =
-            record {
-              misfit = λ d. clash e d;
-              answer-is = λ S. by-lt (length out) (length (fileOf (at B p)))
-                  (λ h q. ap saveGivenBy (short S h .0) ∙ rw (passed S, q))
-                  (λ h q. ap saveGivenBy (long S h .0) ∙ rw (passed S, q));
-              out-is = λ S. by-lt (length out) (length (fileOf (at B p))) (λ h q. short S h .1 ∙ rw (passed S, q)) (λ h q. long S h .1 ∙ rw (passed S, q));
-              scratch-stays = λ S n. absurd (n (passed S));
-              scratch-rest = rest-drop (s .count) scratch scratch′ l rest;
-              store-is = es;
-              long = l;
-              long-out = lo;
-            }
-
-        pub save-leaf : p < 2 → (r : Saved) {out′ : List ℕ} → LeafOf s p out r out′ → SaveCall s nodes lookup p scratch out r scratch out′
-        save-leaf h r {out′} L =
-            told r scratch out′ (L .store-is) refl (L .long-out) (λ k l. refl)
-            (λ S l. L .refused (omega (arith, one S)))
-            (λ S l. let g = L .gave (λ z. omega (arith, one S)) in (g .0 ∙ ap Length (sym (one S)), g .1 ∙ laid S (λ z. omega (arith, one S))))
-          where
-            leaf : Sound s nodes lookup [] → fileOf (at B p) ≡ cond (eqb p 0) 0 2 ∷ []
-            leaf S = by-eq p 0 (λ q d. rw (d, q, at-0 (sound-holds S))) (λ q d. let one : p ≡ 1 = omega arith in rw (d, one, at-1 (sound-holds S)))
-
-            one : Sound s nodes lookup [] → length (fileOf (at B p)) ≡ 1
-            one S = ap length (leaf S)
-
-            laid : Sound s nodes lookup [] → (length out ≡ 0 → ⊥) → set out 0 (cond (eqb p 0) 0 2) ≡ fileOf (at B p) ++ drop (length (fileOf (at B p))) out
-            laid S n = rw (leaf S) (sets-front (cond (eqb p 0) 0 2 ∷ []) out (omega arith))
-
-        pub save-parts : (r : Saved) {scratch′ out′ : List ℕ} → PartsOf s p nodes scratch out r scratch′ out′ → SaveCall s nodes lookup p scratch out r scratch′ out′
-        save-parts r {scratch′} {out′} P =
-            told r scratch′ out′ (P .store-is) (P .long) (P .long-out) (P .rest) (λ S l. P .refused B lookup (sound-holds S) l) (λ S l. P .gave B lookup (sound-holds S) l)
+    pub save-parts : (r : Saved) {scratch′ out′ : List ℕ} → PartsOf s p nodes scratch out r scratch′ out′ → SaveCall s nodes lookup p scratch out r scratch′ out′
+    save-parts r {scratch′} {out′} W =
+        told r scratch′ out′ (W .store-is) (W .long) (W .long-out) (W .rest) (λ S l. W .refused B lookup (sound-holds S) l) (λ S l. W .gave B lookup (sound-holds S) l)

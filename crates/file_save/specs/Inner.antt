@@ -1,5 +1,5 @@
 -- What the functions below Save promise each other. A reader of the promise can pass this page over.
-use Prim.Native.Nat.{ℕ, _≤_, _<_}
+use Prim.Native.Nat.{ℕ, _+_, _≤_, _<_}
 use mathlib.Core.Path.{_≡_}
 use mathlib.Core.Bool.{Bool, true, cond}
 use mathlib.Core.List.{List, _++_}
@@ -14,7 +14,7 @@ use Rattle.store.specs.Inner.{Holds}
 use Rattle.file_trail.specs.declared.trail.Trail.{Trail}
 use Rattle.file_save.specs.declared.SaveAnswer.the-variants.{Length, Refused}
 use Rattle.file_save.specs.declared.Saved.{Saved}
-use Rattle.file_trail.specs.Inner.{Trailed}
+use Rattle.file_trail.specs.Inner.{Lent, Trailed}
 
 -- the file of {} or {{}}
 pub record LeafOf (s : Store) (p : ℕ) (out : List ℕ) (r : Saved) (out′ : List ℕ) : Type 0 where
@@ -28,7 +28,13 @@ pub record FileOf (t : Trail) (nodes : List ℕ) (n : ℕ) (links out : List ℕ
   pub long : length links′ ≡ length links
   pub long-out : length out′ ≡ length out
   pub rest : (k : ℕ) → n ≤ k → getD links′ k 0 ≡ getD links k 0
-  pub sound : (B D : List Family) (lookup : List ℕ) → Holds B n nodes lookup → Trailed B D n t links → t .length ≤ length out → (r ≡ true) × (out′ ≡ fileOfBook D ++ drop (length (fileOfBook D)) out)
+  pub sound : (B D : List Family) (lookup : List ℕ) → Holds B n nodes lookup → Trailed B D n t links → t .bytes ≤ length out → (r ≡ true) × (out′ ≡ fileOfBook D ++ drop (length (fileOfBook D)) out)
+
+-- what `save_parts` is asked with: the handle of a node, and a link for each node held
+pub record SavePartsAsks (s : Store) (nodes : List ℕ) (p : ℕ) (links : List ℕ) : Type 0 where
+  pub lent : Lent nodes (s .count) links
+  pub two : 2 ≤ p
+  pub inside : p ≤ s .count + 1
 
 -- the file of a family with parts
 pub record PartsOf (s : Store) (p : ℕ) (nodes links out : List ℕ) (r : Saved) (links′ out′ : List ℕ) : Type 0 where

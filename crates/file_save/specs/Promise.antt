@@ -19,14 +19,14 @@ use Rattle.file_save.specs.declared.SaveAnswer.{SaveAnswer}
 use Rattle.file_save.specs.declared.SaveAnswer.the-variants.{Length, Refused}
 use Rattle.file_save.specs.declared.Saved.{Saved}
 
--- what Save gives besides the record and the bytes: the refusal's number, 0 where there is none, and the length, 0 where it is refused
+-- what Save gives besides the record and the bytes: the refusal's number, 0 where there is none, and the file's length, 0 where it is refused
 pub record SaveGiven : Type 0 where
   pub refusal : ℕ
-  pub length : ℕ
+  pub fileLength : ℕ
 
 abbrev pub saveGivenBy : SaveAnswer → SaveGiven
-saveGivenBy (Length n) = record { refusal = 0; length = n }
-saveGivenBy (Refused r) = record { refusal = refusalNumber r; length = 0 }
+saveGivenBy (Length n) = record { refusal = 0; fileLength = n }
+saveGivenBy (Refused r) = record { refusal = refusalNumber r; fileLength = 0 }
 
 -- 4 and 7, "one 32-bit word per node held", then "8: output shorter than the file"
 unfoldable pub saveRefusal : List Family → ℕ → ℕ → ℕ → ℕ
@@ -35,7 +35,7 @@ saveRefusal B p words room = cond (eqb (scratchTests B p words) 0) (cond (ltb ro
 -- "Save writes the file of a family .. and gives its length", for the book that the store holds
 unfoldable pub saveAnswer : List Family → ℕ → ℕ → ℕ → SaveGiven
 saveAnswer B p words room =
-    record { refusal = saveRefusal B p words room; length = cond (eqb (saveRefusal B p words room) 0) (length (fileOf (at B p))) 0 }
+    record { refusal = saveRefusal B p words room; fileLength = cond (eqb (saveRefusal B p words room) 0) (length (fileOf (at B p))) 0 }
 
 -- "to the front of the output, later bytes untouched"; a refusal leaves all bytes
 unfoldable pub saveOutput : List Family → ℕ → ℕ → List ℕ → List ℕ

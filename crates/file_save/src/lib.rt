@@ -2,17 +2,21 @@
 ghost use mathlib.Core.Path.{_≡_};
 ghost use mathlib.Core.Bool.{cond};
 ghost use mathlib.Core.List.{_∷_};
-ghost use Prim.Native.Nat.{_+_, _*_, _<_, _≤_};
+ghost use Prim.Native.Nat.{_≤_};
 ghost use lib.Dec.{eqb};
 ghost use lib.ListN.{length};
 ghost use lib.Seq.{sets};
 ghost use Rattle.family.specs.Record.{bytesOf};
+ghost use Rattle.file_trail.specs.Inner.{Lent};
+ghost use Rattle.file_write.specs.Inner.{HeadRoom};
 ghost use Rattle.file_save.specs.Promise.{SaveCall};
-ghost use Rattle.file_save.specs.Inner.{LeafOf, FileOf, PartsOf};
-use file_record::write::put_four;
+ghost use Rattle.file_save.specs.Inner.{LeafOf, FileOf, SavePartsAsks, PartsOf};
+use file_record::write::put_field;
 use store::node::top_of;
 use store::record::Refusal;
 use store::record::Store;
+use store::tests::Test;
+use store::tests::tested;
 use file_trail::trail::Trail;
 use file_trail::walk::Walked;
 use file_trail::walk::walk;
@@ -61,13 +65,13 @@ fn put_header(out: &mut [u8], parts: u32)
     ensures { λ _. ⌜ now (out .exit) ≡ sets (now (out .entry)) 0 (1 ∷ bytesOf 4 parts) ⌝ }
 {
     out[0] = 1;
-    put_four(out, 1, true, parts);
+    put_field(out, 1, 4, true, parts);
 }
 
 // Writes the file of the parts of a trail; false on words that no sound store has.
 fn write_file(trail: Trail, nodes: &[u32], count: u32, links: &mut [u32], out: &mut [u8]) -> bool
-    requires { ⌜ (3 * count ≤ length (now nodes)) × (count ≤ 1000000) × (count ≤ length (now links)) ⌝ }
-    requires { ⌜ (5 ≤ length (now out)) × (trail .parts ≤ 1000000) ⌝ }
+    requires { ⌜ Lent (now nodes) count (now links) ⌝ }
+    requires { ⌜ HeadRoom (trail .parts) (now out) ⌝ }
     ensures { λ r. ⌜ FileOf trail (now (nodes .entry)) count (now (links .entry)) (now (out .entry)) r (now (links .exit)) (now (out .exit)) ⌝ }
 {
     put_header(out, trail.parts);
@@ -76,8 +80,7 @@ fn write_file(trail: Trail, nodes: &[u32], count: u32, links: &mut [u32], out: &
 
 // The file of a family with parts.
 fn save_parts(store: Store, nodes: &[u32], p: u32, links: &mut [u32], out: &mut [u8]) -> Saved
-    requires { ⌜ (3 * store .count ≤ length (now nodes)) × (store .count ≤ 1000000) × (store .count ≤ length (now links)) ⌝ }
-    requires { ⌜ (2 ≤ p) × (p ≤ store .count + 1) ⌝ }
+    requires { ⌜ SavePartsAsks store (now nodes) p (now links) ⌝ }
     ensures { λ r. ⌜ PartsOf store p (now (nodes .entry)) (now (links .entry)) (now (out .entry)) r (now (links .exit)) (now (out .exit)) ⌝ }
 {
     let count = store.count;
@@ -94,7 +97,7 @@ fn save_parts(store: Store, nodes: &[u32], p: u32, links: &mut [u32], out: &mut 
         last: 1,
         item: 0,
         parts: 0,
-        length: 5,
+        bytes: 5,
     };
     let Walked::Went(trail) = walk(start, p, top, nodes, count, links) else {
         return Saved {
@@ -102,8 +105,8 @@ fn save_parts(store: Store, nodes: &[u32], p: u32, links: &mut [u32], out: &mut 
             answer: SaveAnswer::Refused(Refusal::Damaged),
         };
     };
-    let length = trail.length;
-    if out.len() < length {
+    let bytes = trail.bytes;
+    if out.len() < bytes {
         return Saved {
             store: store,
             answer: SaveAnswer::Refused(Refusal::Output),
@@ -117,7 +120,7 @@ fn save_parts(store: Store, nodes: &[u32], p: u32, links: &mut [u32], out: &mut 
     }
     Saved {
         store: store,
-        answer: SaveAnswer::Length(length),
+        answer: SaveAnswer::Length(bytes),
     }
 }
 
@@ -132,22 +135,20 @@ pub fn save(
 ) -> Saved
     ensures { λ r. ⌜ SaveCall store (now (nodes .entry)) (now (lookup .entry)) p (now (links .entry)) (now (out .entry)) r (now (links .exit)) (now (out .exit)) ⌝ }
 {
-    if !store.fits(nodes.len(), lookup.len()) {
+    let found = tested(
+        store,
+        nodes.len(),
+        lookup.len(),
+        p,
+        0,
+        Test::Clear,
+        links.len(),
+        store.count as usize,
+    );
+    if let Test::Refuses(refusal) = found {
         return Saved {
             store: store,
-            answer: SaveAnswer::Refused(Refusal::Damaged),
-        };
-    }
-    if !store.holds(p) {
-        return Saved {
-            store: store,
-            answer: SaveAnswer::Refused(Refusal::Handle),
-        };
-    }
-    if links.len() < store.count as usize {
-        return Saved {
-            store: store,
-            answer: SaveAnswer::Refused(Refusal::Scratch),
+            answer: SaveAnswer::Refused(refusal),
         };
     }
     if p < 2 {

@@ -16,10 +16,10 @@ use Rattle.words.proofs.Cases.{by-test, clash, and-inv}
 use Rattle.store.specs.Words.{itemLimit, topAt}
 use Rattle.store.proofs.Held.{top-at, within, positive-one}
 use Rattle.file_record.specs.declared.field.Part.{Part}
-use Rattle.file_table.specs.Inner.{Local, follows, Entering, new, old, EnterOf, Taking, fit, unfit, TakeOf}
+use Rattle.file_table.specs.Inner.{Local, follows, Entering, new, old, EnterOf, PartTaken, fit, unfit, TakeOf}
 
 -- what the tests say
-pub record Follows (words : List ℕ) (k i z o : ℕ) : Type 0 where
+pub record CanFollow (words : List ℕ) (k i z o : ℕ) : Type 0 where
   pub item : i ≤ itemLimit
   pub zero-in : z ≤ k + 1
   pub one-in : o ≤ k + 1
@@ -28,7 +28,7 @@ pub record Follows (words : List ℕ) (k i z o : ℕ) : Type 0 where
   pub one-low : topAt words o < i
 
 module _ (words : List ℕ) (k i z o : ℕ) where
-  pub follows-is : follows words k i z o ≡ true → Follows words k i z o
+  pub follows-is : follows words k i z o ≡ true → CanFollow words k i z o
   unfolding follows
   follows-is e =
       and-inv (leb i itemLimit) _ e (λ a e. and-inv _ _ e (λ b e. and-inv _ _ e (λ c e. and-inv _ _ e (λ d e. and-inv _ _ e (λ f e.
@@ -41,7 +41,7 @@ module _ (words : List ℕ) (k i z o : ℕ) where
         one-low = ltb-true _ _ e;
       })))))
 
-  is-follows : Follows words k i z o → follows words k i z o ≡ true
+  is-follows : CanFollow words k i z o → follows words k i z o ≡ true
   unfolding follows
   is-follows f =
       rw (
@@ -85,7 +85,7 @@ module _ (words : List ℕ) (k i z o : ℕ) where
 -- the tests are those of the definition, but for whether the node is held
 module _ (words : List ℕ) (b k : ℕ) (part : Part) where
   module _ {C : List Family} (H : Local C k b words) where
-    next-follows : Next itemLimit C (part .item) (part .zero) (part .one) → Follows words k (part .item) (part .zero) (part .one)
+    next-follows : Next itemLimit C (part .item) (part .zero) (part .one) → CanFollow words k (part .item) (part .zero) (part .one)
     next-follows f =
         record {
           item = f .item;
@@ -96,7 +96,7 @@ module _ (words : List ℕ) (b k : ℕ) (part : Part) where
           one-low = omega (arith, f .one-low, top-at H (part .one) (omega (arith, f .one-in, H .size)));
         }
 
-    module _ (f : Follows words k (part .item) (part .zero) (part .one)) where
+    module _ (f : CanFollow words k (part .item) (part .zero) (part .one)) where
       zero-top : top (at C (part .zero)) < part .item
       zero-top = omega (arith, f .zero-low, top-at H (part .zero) (omega (arith, f .zero-in)))
 
@@ -116,7 +116,7 @@ module _ (words : List ℕ) (b k : ℕ) (part : Part) where
             low = f .item;
           }
 
-      taken : {r : Bool} {words′ : List ℕ} → Entering C (node (part .item) (at C (part .zero)) (at C (part .one))) k b words′ r → Taking C part k b words′ r
+      taken : {r : Bool} {words′ : List ℕ} → Entering C (node (part .item) (at C (part .zero)) (at C (part .one))) k b words′ r → PartTaken C part k b words′ r
       taken (new l L) =
           fit (next-fits itemLimit C (part .item) (part .zero) (part .one) (record {
             item = f .item;

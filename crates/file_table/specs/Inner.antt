@@ -14,12 +14,24 @@ use Rattle.store.specs.Inner.{Holds}
 use Rattle.file_record.specs.declared.field.Part.{Part}
 
 -- The scratch of a file of b bytes: the words of the local nodes, 2b slots of the local lookup from 3b on, b handles from 5b on.
-unfoldable pub slots : ℕ → List ℕ → List ℕ
-slots b words = take (2 * b) (drop (3 * b) words)
+unfoldable pub localSlots : ℕ → List ℕ → List ℕ
+localSlots b words = take (2 * b) (drop (3 * b) words)
 
 -- the local table holds a book of n nodes
 abbrev pub Local : List Family → ℕ → ℕ → List ℕ → Type 0
-Local C n b words = Holds C n words (slots b words)
+Local C n b words = Holds C n words (localSlots b words)
+
+-- room in the scratch of a file of b bytes for a part after k others
+pub record TableRoom (words : List ℕ) (b k : ℕ) : Type 0 where
+  pub room : 6 * b ≤ length words
+  pub below : k < b
+  pub low : k < 4294967294
+
+-- what `enter` is asked with: the room, and an item of the limit
+pub record EnterAsks (words : List ℕ) (b k item : ℕ) : Type 0 where
+  pub table : TableRoom words b k
+  pub item-some : 1 ≤ item
+  pub item-low : item ≤ itemLimit
 
 -- the test of a part after k others, but for whether its words stand there already
 unfoldable pub follows : List ℕ → ℕ → ℕ → ℕ → ℕ → Bool
@@ -36,22 +48,22 @@ pub record EnterOf (words : List ℕ) (b k i z o : ℕ) (r : Bool) (words′ : L
   pub sound : (C : List Family) → Local C k b words → z < k + 2 → o < k + 2 → Within itemLimit (node i (at C z) (at C o)) → Entering C (node i (at C z) (at C o)) k b words′ r
 
 -- a part taken as the next node of the local book, or one that does not fit
-pub data Taking (C : List Family) (part : Part) (k b : ℕ) (words : List ℕ) : Bool → Type 0 where
-  fit : fits itemLimit C (triple (part .item) (part .zero) (part .one)) ≡ true → Local (C ++ (node (part .item) (at C (part .zero)) (at C (part .one)) ∷ [])) (k + 1) b words → Taking C part k b words true
-  unfit : fits itemLimit C (triple (part .item) (part .zero) (part .one)) ≡ false → Taking C part k b words false
+pub data PartTaken (C : List Family) (part : Part) (k b : ℕ) (words : List ℕ) : Bool → Type 0 where
+  fit : fits itemLimit C (triple (part .item) (part .zero) (part .one)) ≡ true → Local (C ++ (node (part .item) (at C (part .zero)) (at C (part .one)) ∷ [])) (k + 1) b words → PartTaken C part k b words true
+  unfit : fits itemLimit C (triple (part .item) (part .zero) (part .one)) ≡ false → PartTaken C part k b words false
 
 pub record TakeOf (words : List ℕ) (b k : ℕ) (part : Part) (r : Bool) (words′ : List ℕ) : Type 0 where
   pub long : length words′ ≡ length words
   pub rest : (j : ℕ) → 6 * b ≤ j → getD words′ j 0 ≡ getD words j 0
   pub low : r ≡ true → part .item ≤ itemLimit
-  pub sound : (C : List Family) → Local C k b words → Taking C part k b words′ r
+  pub sound : (C : List Family) → Local C k b words → PartTaken C part k b words′ r
 
 -- the words of a local node, and of every local node
-pub record NodeAt (words : List ℕ) (k : ℕ) : Type 0 where
+pub record LocalNode (words : List ℕ) (k : ℕ) : Type 0 where
   pub item-some : 1 ≤ getD words (3 * k) 0
   pub item-low : getD words (3 * k) 0 ≤ itemLimit
   pub zero-before : getD words (3 * k + 1) 0 < k + 2
   pub one-before : getD words (3 * k + 2) 0 < k + 2
 
-pub record Nodes (words : List ℕ) (n : ℕ) : Type 0 where
-  pub each : (k : ℕ) → k < n → NodeAt words k
+pub record LocalNodes (words : List ℕ) (n : ℕ) : Type 0 where
+  pub each : (k : ℕ) → k < n → LocalNode words k

@@ -1,15 +1,16 @@
 // The local table in the scratch of a file: three node words, two lookup words and one handle for each byte of the file.
 ghost use mathlib.Core.Path.{_≡_};
-ghost use Prim.Native.Nat.{_+_, _*_, _<_, _≤_};
+ghost use Prim.Native.Nat.{_*_, _<_, _≤_};
 ghost use lib.ListN.{length};
-ghost use Rattle.file_table.specs.Inner.{follows, EnterOf, TakeOf};
+ghost use Rattle.file_table.specs.Inner.{TableRoom, EnterAsks, follows, EnterOf, TakeOf};
 use file_record::field::Part;
 use store::node::top_of;
 use table::probe::probe;
 
 // Whether a part can come after k others: an item of the limit, children that stand before it and have smaller tops, one child not 0.
 fn is_next(words: &[u32], k: u32, part: Part) -> bool
-    requires { ⌜ (3 * k ≤ length (now words)) × (k < 4294967295) ⌝ }
+    requires { ⌜ 3 * k ≤ length (now words) ⌝ }
+    requires { ⌜ k < 4294967295 ⌝ }
     ensures { λ r. ⌜ r ≡ follows (now (words .entry)) k (part .item) (part .zero) (part .one) ⌝ }
 {
     if 512 < part.item {
@@ -32,8 +33,7 @@ fn is_next(words: &[u32], k: u32, part: Part) -> bool
 
 // Enters a part behind k others; false where its words stand there already.
 fn enter(words: &mut [u32], bytes: usize, k: u32, part: Part) -> bool
-    requires { ⌜ (6 * bytes ≤ length (now words)) × (k < bytes) × (k < 4294967294) ⌝ }
-    requires { ⌜ (1 ≤ part .item) × (part .item ≤ 512) ⌝ }
+    requires { ⌜ EnterAsks (now words) bytes k (part .item) ⌝ }
     ensures { λ r. ⌜ EnterOf (now (words .entry)) bytes k (part .item) (part .zero) (part .one) r (now (words .exit)) ⌝ }
 {
     let slot = probe(
@@ -61,7 +61,7 @@ fn enter(words: &mut [u32], bytes: usize, k: u32, part: Part) -> bool
 
 // Takes a part behind k others; false where it can not come next.
 pub fn take_part(words: &mut [u32], bytes: usize, k: u32, part: Part) -> bool
-    requires { ⌜ (6 * bytes ≤ length (now words)) × (k < bytes) × (k < 4294967294) ⌝ }
+    requires { ⌜ TableRoom (now words) bytes k ⌝ }
     ensures { λ r. ⌜ TakeOf (now (words .entry)) bytes k part r (now (words .exit)) ⌝ }
 {
     if !is_next(words, k, part) {

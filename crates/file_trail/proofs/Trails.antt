@@ -57,7 +57,7 @@ module _ {B C : List Family} {n : ℕ} {nodes lookup : List ℕ} (H : Holds B n 
       go (suc (suc k)) q e = omega arith
 
 pub trail-start : {B : List Family} {n : ℕ} {nodes lookup : List ℕ} → Holds B n nodes lookup → (links : List ℕ) → ((k : ℕ) → k < n → getD links k 0 ≡ 0)
-    → (t : Trail) → t .last ≡ 1 → t .item ≡ 0 → t .parts ≡ 0 → t .length ≡ 5 → Trailed B start n t links
+    → (t : Trail) → t .last ≡ 1 → t .item ≡ 0 → t .parts ≡ 0 → t .bytes ≡ 5 → Trailed B start n t links
 trail-start {B} {n} H links blank t el ei ep en =
     record {
       book = book-start itemLimit;
@@ -66,7 +66,7 @@ trail-start {B} {n} H links blank t el ei ep en =
       last-is = el ∙ sym (number-base B (H .book));
       item-is = ei;
       parts-is = omega arith;
-      length-is = en;
+      bytes-is = en;
       next = λ k h l. absurd (omega arith);
       end = λ l. absurd (omega arith);
       unmet = λ h l m f. blank (h - 2) (omega arith);
@@ -188,9 +188,9 @@ module _ {B C : List Family} {n : ℕ} {nodes lookup links : List ℕ} {t : Trai
           last-is = W .last-is ∙ sym (ap (λ X. number B X) (new (length (C ++ (node i (at B z) (at B o) ∷ [])) - 1) (omega (arith, longer))) ∙ number-p);
           item-is = W .item-is ∙ ap top (sym (new (length (C ++ (node i (at B z) (at B o) ∷ [])) - 1) (omega (arith, longer))));
           parts-is = omega (arith, W .parts-is, T .parts-is, longer);
-          length-is = W .length-is ∙ omega (
+          bytes-is = W .bytes-is ∙ omega (
             arith,
-            T .length-is,
+            T .bytes-is,
             record-is,
             ap length (book-snoc C (T .book) (node i (at B z) (at B o)) ha hb),
             length-append (recordsBytes 0 1 (triplesOf C (drop 2 C))) (recordBytes (top (at C (length C - 1))) (length C - 1) (triple i (number C (at B z)) (number C (at B o)))),

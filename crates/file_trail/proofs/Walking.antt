@@ -73,7 +73,7 @@ broken-not e = absurd (let z : _≡_ {A = ℕ} 0 1 = cc in omega arith)
 pub walk-broken : (t : Trail) (p : ℕ) (nodes : List ℕ) (n : ℕ) (links links′ : List ℕ) → length links′ ≡ length links → ((k : ℕ) → n ≤ k → getD links′ k 0 ≡ getD links k 0)
     → ((B C : List Family) (lookup : List ℕ) → Holds B n nodes lookup → Trailed B C n t links → ⊥) → WalkOf t p nodes n links NoWay links′
 walk-broken t p nodes n links links′ e r f =
-    record { long = e; rest = r; fits = λ t′ d. broken-not d; sound = λ B C lookup H T. absurd (f B C lookup H T) }
+    record { long = e; rest = r; trail-fits = λ t′ d. broken-not d; sound = λ B C lookup H T. absurd (f B C lookup H T) }
 
 module _ (t : Trail) (p : ℕ) (nodes : List ℕ) (n : ℕ) (links : List ℕ) (lp : p ≤ n + 1) where
   pub walk-met : TrailFits n t → {x : Bool} → x ≡ metIn links p → x ≡ true → WalkOf t p nodes n links (Went t) links
@@ -81,7 +81,7 @@ module _ (t : Trail) (p : ℕ) (nodes : List ℕ) (n : ℕ) (links : List ℕ) (
       record {
         long = refl;
         rest = λ k l. refl;
-        fits = λ t′ d. rw (← went-is d) F;
+        trail-fits = λ t′ d. rw (← went-is d) F;
         sound = λ B C lookup H T. rw (place-held C (at B p) (T .book) (met-held H T p (omega arith) (sym em ∙ e))) (came T);
       }
 
@@ -152,11 +152,11 @@ module _ (t : Trail) (p : ℕ) (nodes : List ℕ) (n : ℕ) (links : List ℕ) (
               record {
                 long = ap length (W .links-are) ∙ behind-long links₂ (second .last) p ∙ long₂;
                 rest = λ k l. ap (λ X. getD X k 0) (W .links-are) ∙ behind-other links₂ (second .last) p k (omega arith) (omega (arith, F .last-held)) ∙ rest₂ k l;
-                fits = λ u d. rw (← went-is d) record {
+                trail-fits = λ u d. rw (← went-is d) record {
                   last-held = omega (arith, W .last-is);
                   item-low = omega (arith, W .item-is);
                   few = omega (arith, W .parts-is);
-                  some = omega (arith, W .length-is, F .some);
+                  some = omega (arith, W .bytes-is, F .some);
                   short = omega (arith, W .longer, W .parts-is, F .short);
                 };
                 sound = λ B C lookup H T.

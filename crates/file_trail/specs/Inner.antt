@@ -11,7 +11,7 @@ use Rattle.family.specs.Record.{stands}
 use Rattle.family.specs.File.{triplesOf, recordsBytes}
 use Rattle.store.specs.declared.node.Sides.{Sides}
 use Rattle.store.specs.declared.node.Sides.the-variants.{Two, Broken}
-use Rattle.store.specs.Words.{itemLimit}
+use Rattle.store.specs.Words.{itemLimit, topAt}
 use Rattle.store.specs.Inner.{Holds, TwoSides}
 use Rattle.file_record.specs.Widths.{widths}
 use Rattle.file_trail.specs.declared.trail.Trail.{Trail}
@@ -29,15 +29,36 @@ linked links p next = cond (ltb p 2) links (set links (p - 2) next)
 unfoldable pub firstOf : Trail → ℕ → ℕ
 firstOf t p = cond (eqb (t .parts) 0) p (t .first)
 
+-- the words of n nodes, and a link for each of them
+pub record Lent (nodes : List ℕ) (n : ℕ) (links : List ℕ) : Type 0 where
+  pub words : 3 * n ≤ length nodes
+  pub few : n ≤ 1000000
+  pub linkable : n ≤ length links
+
+-- what `visit` is asked with: handles that have links, and a trail that can take one part more
+pub record VisitAsks (t : Trail) (links : List ℕ) (p : ℕ) : Type 0 where
+  pub inside : p ≤ length links + 1
+  pub last-inside : t .last ≤ length links + 1
+  pub item-low : t .item ≤ itemLimit
+  pub few : t .parts < 1000000
+  pub short : t .bytes ≤ 5 + 11 * t .parts
+
 -- the trail and the links after p was put behind the last part
 pub record Visited (t : Trail) (links : List ℕ) (p item z o : ℕ) (t′ : Trail) (links′ : List ℕ) : Type 0 where
   pub first-is : t′ .first ≡ firstOf t p
   pub last-is : t′ .last ≡ p
   pub item-is : t′ .item ≡ item
   pub parts-is : t′ .parts ≡ t .parts + 1
-  pub length-is : t′ .length ≡ t .length + widths (stands item (t .item + 1)) (stands z 0) (stands o (t .last))
-  pub longer : t′ .length ≤ t .length + 11
+  pub bytes-is : t′ .bytes ≡ t .bytes + widths (stands item (t .item + 1)) (stands z 0) (stands o (t .last))
+  pub longer : t′ .bytes ≤ t .bytes + 11
   pub links-are : links′ ≡ linked (linked links (t .last) p) p p
+
+-- what `children` is asked with: a handle that is held, and its top
+pub record ChildrenAsks (nodes : List ℕ) (n p level : ℕ) : Type 0 where
+  pub inside : p ≤ n + 1
+  pub words : 3 * n ≤ length nodes
+  pub few : n ≤ 1000000
+  pub level-is : level ≡ topAt nodes p
 
 -- the children of p, or words of no sound store
 pub data SplitOf (nodes : List ℕ) (n p level : ℕ) : Sides → Type 0 where
@@ -49,8 +70,16 @@ pub record TrailFits (n : ℕ) (t : Trail) : Type 0 where
   pub last-held : t .last ≤ n + 1
   pub item-low : t .item ≤ itemLimit
   pub few : t .parts ≤ 1000000
-  pub some : 5 ≤ t .length
-  pub short : t .length ≤ 5 + 11 * t .parts
+  pub some : 5 ≤ t .bytes
+  pub short : t .bytes ≤ 5 + 11 * t .parts
+
+-- what `walk` is asked with
+pub record WalkAsks (t : Trail) (p level : ℕ) (nodes : List ℕ) (n : ℕ) (links : List ℕ) : Type 0 where
+  pub inside : p ≤ n + 1
+  pub lent : Lent nodes n links
+  pub level-is : level ≡ topAt nodes p
+  pub level-low : level ≤ itemLimit
+  pub trail-fits : TrailFits n t
 
 -- The trail over the families of a local book C, whose handles are their numbers in the book B that the store holds.
 pub record Trailed (B C : List Family) (n : ℕ) (t : Trail) (links : List ℕ) : Type 0 where
@@ -60,7 +89,7 @@ pub record Trailed (B C : List Family) (n : ℕ) (t : Trail) (links : List ℕ) 
   pub last-is : t .last ≡ number B (at C (length C - 1))
   pub item-is : t .item ≡ top (at C (length C - 1))
   pub parts-is : t .parts + 2 ≡ length C
-  pub length-is : t .length ≡ 5 + length (recordsBytes 0 1 (triplesOf C (drop 2 C)))
+  pub bytes-is : t .bytes ≡ 5 + length (recordsBytes 0 1 (triplesOf C (drop 2 C)))
   pub next : (k : ℕ) → 2 ≤ k → k + 1 < length C → getD links (number B (at C k) - 2) 0 ≡ number B (at C (k + 1))
   pub end : 2 < length C → getD links (number B (at C (length C - 1)) - 2) 0 ≡ number B (at C (length C - 1))
   pub unmet : (h : ℕ) → 2 ≤ h → h < n + 2 → (Held C (at B h) → ⊥) → getD links (h - 2) 0 ≡ 0
@@ -72,5 +101,5 @@ pub data Came (B C : List Family) (n : ℕ) (links : List ℕ) : Walked → Type
 pub record WalkOf (t : Trail) (p : ℕ) (nodes : List ℕ) (n : ℕ) (links : List ℕ) (r : Walked) (links′ : List ℕ) : Type 0 where
   pub long : length links′ ≡ length links
   pub rest : (k : ℕ) → n ≤ k → getD links′ k 0 ≡ getD links k 0
-  pub fits : (t′ : Trail) → r ≡ Went t′ → TrailFits n t′
+  pub trail-fits : (t′ : Trail) → r ≡ Went t′ → TrailFits n t′
   pub sound : (B C : List Family) (lookup : List ℕ) → Holds B n nodes lookup → Trailed B C n t links → Came B (place C (at B p)) n links′ r

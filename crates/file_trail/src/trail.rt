@@ -1,8 +1,8 @@
 // The parts met so far, in placing order. The link of a part is the handle of the part after it, its own for the last; 0 is no link.
 ghost use mathlib.Core.Path.{_≡_};
-ghost use Prim.Native.Nat.{_+_, _*_, _<_, _≤_};
+ghost use Prim.Native.Nat.{_+_, _≤_};
 ghost use lib.ListN.{length};
-ghost use Rattle.file_trail.specs.Inner.{metIn, linked, firstOf, Visited};
+ghost use Rattle.file_trail.specs.Inner.{metIn, linked, firstOf, VisitAsks, Visited};
 use file_record::write::length_of;
 
 // The first part and the last one by their handles, the item of the last, how many there are, and the length of the file so far.
@@ -11,7 +11,7 @@ pub struct Trail {
     pub last: u32,
     pub item: u32,
     pub parts: u32,
-    pub length: usize,
+    pub bytes: usize,
 }
 
 // Whether a part was met; {} and {{}} are no parts.
@@ -45,11 +45,10 @@ fn first_of(trail: Trail, p: u32) -> u32
 
 // Puts the part p, of this item and these children, behind the last one.
 pub fn visit(trail: Trail, links: &mut [u32], p: u32, item: u32, zero: u32, one: u32) -> Trail
-    requires { ⌜ (p ≤ length (now links) + 1) × (trail .last ≤ length (now links) + 1) ⌝ }
-    requires { ⌜ (trail .item ≤ 512) × (trail .parts < 1000000) × (trail .length ≤ 5 + 11 * trail .parts) ⌝ }
+    requires { ⌜ VisitAsks trail (now links) p ⌝ }
     ensures { λ r. ⌜ Visited trail (now (links .entry)) p item zero one r (now (links .exit)) ⌝ }
 {
-    let length = length_of(item != trail.item + 1, zero != 0, one != trail.last);
+    let record = length_of(item != trail.item + 1, zero != 0, one != trail.last);
     put_link(links, trail.last, p);
     put_link(links, p, p);
     Trail {
@@ -57,6 +56,6 @@ pub fn visit(trail: Trail, links: &mut [u32], p: u32, item: u32, zero: u32, one:
         last: p,
         item: item,
         parts: trail.parts + 1,
-        length: trail.length + length,
+        bytes: trail.bytes + record,
     }
 }

@@ -1,9 +1,5 @@
 // The walk over the parts of a family, without-side first, then with-side, then the part itself; the top item falls at each call.
-ghost use mathlib.Core.Path.{_≡_};
-ghost use Prim.Native.Nat.{_+_, _*_, _<_, _≤_};
-ghost use lib.ListN.{length};
-ghost use Rattle.store.specs.Words.{itemLimit, topAt};
-ghost use Rattle.file_trail.specs.Inner.{SplitOf, TrailFits, WalkOf};
+ghost use Rattle.file_trail.specs.Inner.{ChildrenAsks, SplitOf, WalkAsks, WalkOf};
 use crate::trail::Trail;
 use crate::trail::is_met;
 use crate::trail::visit;
@@ -18,7 +14,7 @@ pub enum Walked {
 
 // The children of a part.
 fn children(nodes: &[u32], count: u32, p: u32, top: u32) -> Sides
-    requires { ⌜ (p ≤ count + 1) × (3 * count ≤ length (now nodes)) × (count ≤ 1000000) × (top ≡ topAt (now nodes) p) ⌝ }
+    requires { ⌜ ChildrenAsks (now nodes) count p top ⌝ }
     ensures { λ r. ⌜ SplitOf (now (nodes .entry)) count p top r ⌝ }
 {
     if top == 0 {
@@ -29,9 +25,7 @@ fn children(nodes: &[u32], count: u32, p: u32, top: u32) -> Sides
 
 // Meets the parts of p that were not met yet.
 pub fn walk(trail: Trail, p: u32, top: u32, nodes: &[u32], count: u32, links: &mut [u32]) -> Walked
-    requires { ⌜ (p ≤ count + 1) × (3 * count ≤ length (now nodes)) × (count ≤ 1000000) × (count ≤ length (now links)) ⌝ }
-    requires { ⌜ (top ≡ topAt (now nodes) p) × (top ≤ itemLimit) ⌝ }
-    requires { ⌜ TrailFits count trail ⌝ }
+    requires { ⌜ WalkAsks trail p top (now nodes) count (now links) ⌝ }
     ensures { λ r. ⌜ WalkOf trail p (now (nodes .entry)) count (now (links .entry)) r (now (links .exit)) ⌝ }
 {
     if is_met(links, p) {

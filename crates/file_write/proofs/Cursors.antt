@@ -16,13 +16,14 @@ use Rattle.family.proofs.Books.{number-at, number-empty, number-base}
 use Rattle.words.proofs.Cases.{by-eq}
 use Rattle.store.specs.Words.{itemLimit, wordOf}
 use Rattle.store.specs.Inner.{Holds}
+use Rattle.store.proofs.Handles.{word-leaf, word-node}
 use Rattle.store.proofs.Held.{at-0, at-1, at-node, handle-of, within}
 use Rattle.file_record.specs.declared.field.Part.{Part}
 use Rattle.file_record.specs.Widths.{widths}
 use Rattle.file_record.proofs.Laying.{widths-length}
 use Rattle.file_write.specs.declared.Cursor.{Cursor}
 use Rattle.file_write.specs.declared.Turn.the-variants.{Next, Broken}
-use Rattle.file_write.specs.Inner.{CursorFits, Writing, turned, TurnOf}
+use Rattle.file_write.specs.Inner.{LocalPart, CursorFits, Writing, turned, TurnOf}
 use Rattle.file_trail.proofs.Trails.{handle-in, handle-at, handle-apart, handle-two, local-two}
 
 -- bytes at the front, later bytes untouched
@@ -103,11 +104,11 @@ module _ {B D : List Family} {n k : ℕ} {nodes lookup : List ℕ} {c : Cursor} 
       ap length (W .out-is)
       ∙ omega (arith, length-append (take (c .place) whole) (drop (c .place) before), length-take-le (c .place) whole (W .place-low), length-drop (c .place) before, W .place-low, W .room)
 
-  module _ (part : Part) (is-part : (part .item ≡ itemAt nodes (c .at)) × (part .zero ≡ wordOf links (zeroAt nodes (c .at))) × (part .one ≡ wordOf links (oneAt nodes (c .at)))) where
+  module _ (part : Part) (is-part : LocalPart nodes (3 * (c .at - 2)) links part) where
     -- what is still to be written begins with the part's record
     todo : drop (c .place) whole
         ≡ recordBytes (c .last .item) (c .last .number) (triple (part .item) (part .zero) (part .one)) ++ recordsBytes (part .item) (suc (c .last .number)) (triplesOf D (drop (suc k) D))
-    todo = W .todo-is ∙ rw (drop-cons D k empty kl, is-node, is-part .0, is-part .1, is-part .2, zero-local, one-local)
+    todo = W .todo-is ∙ rw (drop-cons D k empty kl, is-node, is-part .item-is, is-part .zero-is, is-part .one-is, zero-local, one-local)
 
     -- and it has the room
     pub turn-room : c .place + length (recordBytes (c .last .item) (c .last .number) (triple (part .item) (part .zero) (part .one))) ≤ length out
@@ -172,7 +173,7 @@ broken-next e = absurd (let z : _≡_ {A = ℕ} 0 1 = cc in omega arith)
 module _ (c : Cursor) (nodes : List ℕ) (n : ℕ) (links out : List ℕ) where
   turn-broken : ((B D : List Family) (k : ℕ) (lookup whole before : List ℕ) → Holds B n nodes lookup → k < length D → Writing B D k c links whole before out → ⊥) → TurnOf c nodes n links out Broken links out
   turn-broken f =
-      record { long = refl; long-out = refl; rest = λ k l. refl; fits = λ d e. broken-next e; sound = λ B D k lookup whole before H kl W. absurd (f B D k lookup whole before H kl W) }
+      record { long = refl; long-out = refl; rest = λ k l. refl; next-fits = λ d e. broken-next e; sound = λ B D k lookup whole before H kl W. absurd (f B D k lookup whole before H kl W) }
 
   pub turn-low : c .at < 2 → TurnOf c nodes n links out Broken links out
   turn-low l = turn-broken (λ B D k lookup whole before H kl W. omega (arith, at-two H kl W))
@@ -180,9 +181,9 @@ module _ (c : Cursor) (nodes : List ℕ) (n : ℕ) (links out : List ℕ) where
   pub turn-high : n + 1 < c .at → TurnOf c nodes n links out Broken links out
   turn-high l = turn-broken (λ B D k lookup whole before H kl W. omega (arith, at-in H kl W))
 
-  module _ (part : Part) (is-part : (part .item ≡ itemAt nodes (c .at)) × (part .zero ≡ wordOf links (zeroAt nodes (c .at))) × (part .one ≡ wordOf links (oneAt nodes (c .at)))) where
+  module _ (part : Part) (is-part : LocalPart nodes (3 * (c .at - 2)) links part) where
     pub turn-item : itemLimit < part .item → TurnOf c nodes n links out Broken links out
-    turn-item l = turn-broken (λ B D k lookup whole before H kl W. omega (arith, item-low H kl W, is-part .0))
+    turn-item l = turn-broken (λ B D k lookup whole before H kl W. omega (arith, item-low H kl W, is-part .item-is))
 
     module _ (len : ℕ) (is-len : len ≡ widths (stands (part .item) (c .last .item + 1)) (stands (part .zero) 0) (stands (part .one) (c .last .number))) where
       pub length-is : len ≡ length (recordBytes (c .last .item) (c .last .number) (triple (part .item) (part .zero) (part .one)))
@@ -202,7 +203,7 @@ module _ (c : Cursor) (nodes : List ℕ) (n : ℕ) (links out : List ℕ) where
             long = length-set links (c .at - 2) (c .last .number + 1);
             long-out = long-out;
             rest = λ k l. getD-set-other links (c .at - 2) k (c .last .number + 1) 0 (omega arith);
-            fits = λ d e. rw (← next-is e) (omega (arith, long-out), low, refl, omega (arith, F .short));
+            next-fits = λ d e. rw (← next-is e) record { within = omega (arith, long-out); item-low = low; number-is = refl; short = omega (arith, F .short) };
             sound = λ B D k lookup whole before H kl W. turned (turn-next H kl W part is-part len length-is room laid);
           }
         where

@@ -14,7 +14,7 @@ use Rattle.store.specs.Inner.{Holds}
 use Rattle.file_write.specs.declared.Cursor.{Cursor}
 use Rattle.file_write.specs.declared.Turn.{Turn}
 use Rattle.file_write.specs.declared.Turn.the-variants.{Next, Broken}
-use Rattle.file_write.specs.Inner.{CursorFits, Writing, Turned, turned, TurnOf, startAt, WritesOf}
+use Rattle.file_write.specs.Inner.{CursorFits, Writing, Turned, turned, TurnOf, firstCursor, WritesOf}
 
 turned-to : {B D : List Family} {k : ℕ} {links whole before out : List ℕ} {r : Turn} (c : Cursor) → r ≡ Next c → Turned B D k links whole before out r → Writing B D k c links whole before out
 turned-to c e A = out′ (rw e at A)
@@ -26,7 +26,7 @@ never : {B D : List Family} {k : ℕ} {links whole before out : List ℕ} {r : T
 never e (turned W) = let z : _≡_ {A = ℕ} 0 1 = cc in omega arith
 
 -- so many parts are left
-pub record Left (first parts : ℕ) (nodes : List ℕ) (n : ℕ) (links₀ out₀ : List ℕ) (c : Cursor) (left : ℕ) (links out : List ℕ) : Type 0 where
+pub record PartsLeft (first parts : ℕ) (nodes : List ℕ) (n : ℕ) (links₀ out₀ : List ℕ) (c : Cursor) (left : ℕ) (links out : List ℕ) : Type 0 where
   pub low : left ≤ parts
   pub number-is : c .last .number + left ≡ parts + 1
   pub place-low : c .place ≤ length out
@@ -35,11 +35,11 @@ pub record Left (first parts : ℕ) (nodes : List ℕ) (n : ℕ) (links₀ out�
   pub long : length links ≡ length links₀
   pub long-out : length out ≡ length out₀
   pub rest : (k : ℕ) → n ≤ k → getD links k 0 ≡ getD links₀ k 0
-  pub sound : (B D : List Family) (lookup whole before : List ℕ) → Holds B n nodes lookup → parts + 2 ≡ length D → Writing B D 2 (startAt first) links₀ whole before out₀
+  pub sound : (B D : List Family) (lookup whole before : List ℕ) → Holds B n nodes lookup → parts + 2 ≡ length D → Writing B D 2 (firstCursor first) links₀ whole before out₀
       → Writing B D (parts + 2 - left) c links whole before out
 
 module _ (first parts : ℕ) (nodes : List ℕ) (n : ℕ) (links₀ out₀ : List ℕ) where
-  pub left-start : 5 ≤ length out₀ → Left first parts nodes n links₀ out₀ (startAt first) parts links₀ out₀
+  pub left-start : 5 ≤ length out₀ → PartsLeft first parts nodes n links₀ out₀ (firstCursor first) parts links₀ out₀
   left-start h =
       record {
         low = omega arith;
@@ -53,12 +53,12 @@ module _ (first parts : ℕ) (nodes : List ℕ) (n : ℕ) (links₀ out₀ : Lis
         sound = λ B D lookup whole before H e W. let z : parts + 2 - parts ≡ 2 = omega arith in rw z W;
       }
 
-  module _ (c : Cursor) (left : ℕ) {links out : List ℕ} (L : Left first parts nodes n links₀ out₀ c left links out) where
+  module _ (c : Cursor) (left : ℕ) {links out : List ℕ} (L : PartsLeft first parts nodes n links₀ out₀ c left links out) where
     pub left-fits : parts ≤ 1000000 → CursorFits c out
     left-fits l = record { within = L .place-low; item-low = L .item-low; number-low = omega (arith, L .number-is); short = L .short }
 
     module _ {r : Turn} {links′ out′ : List ℕ} (some : 0 < left) (T : TurnOf c nodes n links out r links′ out′) where
-      writing : {B D : List Family} {lookup whole before : List ℕ} → Holds B n nodes lookup → parts + 2 ≡ length D → Writing B D 2 (startAt first) links₀ whole before out₀
+      writing : {B D : List Family} {lookup whole before : List ℕ} → Holds B n nodes lookup → parts + 2 ≡ length D → Writing B D 2 (firstCursor first) links₀ whole before out₀
           → Turned B D (parts + 2 - left + 1) links′ whole before out′ r
       writing {B} {D} {lookup} {whole} {before} H e W = T .sound B D (parts + 2 - left) lookup whole before H (omega (arith, L .low)) (L .sound B D lookup whole before H e W)
 
@@ -71,15 +71,15 @@ module _ (first parts : ℕ) (nodes : List ℕ) (n : ℕ) (links₀ out₀ : Lis
             sound = λ B D lookup whole before H q W. absurd (never e (writing H q W));
           }
 
-      pub left-step : (d : Cursor) → r ≡ Next d → Left first parts nodes n links₀ out₀ d (left - 1) links′ out′
+      pub left-step : (d : Cursor) → r ≡ Next d → PartsLeft first parts nodes n links₀ out₀ d (left - 1) links′ out′
       left-step d e =
-          let f = T .fits d e in
+          let f = T .next-fits d e in
           record {
             low = omega (arith, L .low);
-            number-is = omega (arith, f .2, L .number-is);
-            place-low = f .0;
-            item-low = f .1;
-            short = f .3;
+            number-is = omega (arith, f .number-is, L .number-is);
+            place-low = f .within;
+            item-low = f .item-low;
+            short = f .short;
             long = T .long ∙ L .long;
             long-out = T .long-out ∙ L .long-out;
             rest = λ k l. T .rest k l ∙ L .rest k l;

@@ -7,12 +7,18 @@ use lib.ListN.{length, getD, take, drop}
 use Rattle.family.specs.Family.{Family}
 use Rattle.family.specs.Book.{at, number, Held, place, Book}
 use Rattle.family.specs.File.{triplesOf, recordsBytes}
-use Rattle.store.specs.Words.{itemLimit}
+use Rattle.store.specs.Words.{itemLimit, wordOf}
 use Rattle.store.specs.Inner.{Holds}
+use Rattle.file_record.specs.declared.field.Part.{Part}
 use Rattle.file_write.specs.declared.Cursor.{Cursor}
 use Rattle.file_write.specs.declared.Turn.{Turn}
 use Rattle.file_write.specs.declared.Turn.the-variants.{Next}
-use Rattle.file_trail.specs.Inner.{two}
+
+-- the part whose node words start at a place, its children by local numbers
+pub record LocalPart (nodes : List ℕ) (base : ℕ) (links : List ℕ) (part : Part) : Type 0 where
+  pub item-is : part .item ≡ getD nodes base 0
+  pub zero-is : part .zero ≡ wordOf links (getD nodes (base + 1) 0)
+  pub one-is : part .one ≡ wordOf links (getD nodes (base + 2) 0)
 
 -- what a cursor keeps on any words
 pub record CursorFits (c : Cursor) (out : List ℕ) : Type 0 where
@@ -39,21 +45,33 @@ pub record Writing (B D : List Family) (k : ℕ) (c : Cursor) (links whole befor
 pub data Turned (B D : List Family) (k : ℕ) (links whole before out : List ℕ) : Turn → Type 0 where
   turned : {c : Cursor} → Writing B D k c links whole before out → Turned B D k links whole before out (Next c)
 
+-- the cursor after a turn, on any words
+pub record NextFits (c c′ : Cursor) (out : List ℕ) : Type 0 where
+  pub within : c′ .place ≤ length out
+  pub item-low : c′ .last .item ≤ itemLimit
+  pub number-is : c′ .last .number ≡ c .last .number + 1
+  pub short : c′ .place ≤ 11 * c′ .last .number
+
 pub record TurnOf (c : Cursor) (nodes : List ℕ) (n : ℕ) (links out : List ℕ) (r : Turn) (links′ out′ : List ℕ) : Type 0 where
   pub long : length links′ ≡ length links
   pub long-out : length out′ ≡ length out
   pub rest : (k : ℕ) → n ≤ k → getD links′ k 0 ≡ getD links k 0
-  pub fits : (c′ : Cursor) → r ≡ Next c′ → (c′ .place ≤ length out′) × (c′ .last .item ≤ itemLimit) × (c′ .last .number ≡ c .last .number + 1) × (c′ .place ≤ 11 * c′ .last .number)
+  pub next-fits : (c′ : Cursor) → r ≡ Next c′ → NextFits c c′ out′
   pub sound : (B D : List Family) (k : ℕ) (lookup whole before : List ℕ) → Holds B n nodes lookup → k < length D → Writing B D k c links whole before out
       → Turned B D (k + 1) links′ whole before out′ r
 
 -- the first cursor
-abbrev pub startAt : ℕ → Cursor
-startAt first = record { at = first; last = record { item = 0; number = 1 }; place = 5 }
+abbrev pub firstCursor : ℕ → Cursor
+firstCursor first = record { at = first; last = record { item = 0; number = 1 }; place = 5 }
+
+-- an output with room for the five bytes before the records, and parts that can be counted
+pub record HeadRoom (parts : ℕ) (out : List ℕ) : Type 0 where
+  pub five : 5 ≤ length out
+  pub few : parts ≤ 1000000
 
 pub record WritesOf (first parts : ℕ) (nodes : List ℕ) (n : ℕ) (links out : List ℕ) (r : Bool) (links′ out′ : List ℕ) : Type 0 where
   pub long : length links′ ≡ length links
   pub long-out : length out′ ≡ length out
   pub rest : (k : ℕ) → n ≤ k → getD links′ k 0 ≡ getD links k 0
-  pub sound : (B D : List Family) (lookup whole before : List ℕ) → Holds B n nodes lookup → parts + 2 ≡ length D → Writing B D 2 (startAt first) links whole before out
+  pub sound : (B D : List Family) (lookup whole before : List ℕ) → Holds B n nodes lookup → parts + 2 ≡ length D → Writing B D 2 (firstCursor first) links whole before out
       → (r ≡ true) × (out′ ≡ whole ++ drop (length whole) before)

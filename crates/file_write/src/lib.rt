@@ -1,9 +1,10 @@
 // Writing the records in placing order, each behind the one before. A part that is written has its local number in place of its link.
 ghost use mathlib.Core.Path.{_≡_};
-ghost use Prim.Native.Nat.{_+_, _*_, _<_, _≤_};
-ghost use lib.ListN.{length, getD};
+ghost use Prim.Native.Nat.{_+_, _≤_};
+ghost use lib.ListN.{length};
 ghost use Rattle.store.specs.Words.{wordOf};
-ghost use Rattle.file_write.specs.Inner.{CursorFits, TurnOf, WritesOf};
+ghost use Rattle.file_trail.specs.Inner.{Lent};
+ghost use Rattle.file_write.specs.Inner.{LocalPart, CursorFits, TurnOf, HeadRoom, WritesOf};
 use file_record::field::Last;
 use file_record::field::Part;
 use file_record::write::length_of;
@@ -39,7 +40,7 @@ fn local(links: &[u32], handle: u32) -> u32
 // The part whose node words start at `base`, its children by local numbers.
 fn part_at(nodes: &[u32], base: usize, links: &[u32]) -> Part
     requires { ⌜ base + 3 ≤ length (now nodes) ⌝ }
-    ensures { λ r. ⌜ (r .item ≡ getD (now (nodes .entry)) base 0) × (r .zero ≡ wordOf (now (links .entry)) (getD (now (nodes .entry)) (base + 1) 0)) × (r .one ≡ wordOf (now (links .entry)) (getD (now (nodes .entry)) (base + 2) 0)) ⌝ }
+    ensures { λ r. ⌜ LocalPart (now (nodes .entry)) base (now (links .entry)) r ⌝ }
 {
     Part {
         item: nodes[base],
@@ -50,7 +51,7 @@ fn part_at(nodes: &[u32], base: usize, links: &[u32]) -> Part
 
 // Writes the record of the part at the cursor into what remains of the output.
 fn write_part(cursor: Cursor, nodes: &[u32], count: u32, links: &mut [u32], out: &mut [u8]) -> Turn
-    requires { ⌜ (3 * count ≤ length (now nodes)) × (count ≤ 1000000) × (count ≤ length (now links)) ⌝ }
+    requires { ⌜ Lent (now nodes) count (now links) ⌝ }
     requires { ⌜ CursorFits cursor (now out) ⌝ }
     ensures { λ r. ⌜ TurnOf cursor (now (nodes .entry)) count (now (links .entry)) (now (out .entry)) r (now (links .exit)) (now (out .exit)) ⌝ }
 {
@@ -68,12 +69,12 @@ fn write_part(cursor: Cursor, nodes: &[u32], count: u32, links: &mut [u32], out:
     }
     let last = cursor.last;
     let place = cursor.place;
-    let length = length_of(
+    let record = length_of(
         part.item != last.item + 1,
         part.zero != 0,
         part.one != last.number,
     );
-    if out.len() - place < length {
+    if out.len() - place < record {
         return Turn::Broken;
     }
     put_record(&mut out[place..], last, part);
@@ -86,7 +87,7 @@ fn write_part(cursor: Cursor, nodes: &[u32], count: u32, links: &mut [u32], out:
             item: part.item,
             number: number,
         },
-        place: place + length,
+        place: place + record,
     })
 }
 
@@ -99,8 +100,8 @@ pub fn write_parts(
     links: &mut [u32],
     out: &mut [u8],
 ) -> bool
-    requires { ⌜ (3 * count ≤ length (now nodes)) × (count ≤ 1000000) × (count ≤ length (now links)) ⌝ }
-    requires { ⌜ (5 ≤ length (now out)) × (parts ≤ 1000000) ⌝ }
+    requires { ⌜ Lent (now nodes) count (now links) ⌝ }
+    requires { ⌜ HeadRoom parts (now out) ⌝ }
     ensures { λ r. ⌜ WritesOf first parts (now (nodes .entry)) count (now (links .entry)) (now (out .entry)) r (now (links .exit)) (now (out .exit)) ⌝ }
 {
     let mut cursor = Cursor {

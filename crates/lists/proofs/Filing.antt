@@ -1,29 +1,26 @@
 -- The files that a list of calls saves: each is the file of the family that its handle meant then.
--- A family of a store has no more parts than the store has nodes, so it has a file; and files are equal exactly when their families are.
+-- A family of a store has no more parts than the store has nodes, so it has a file; and files are equal exactly when
+-- their families are.
 use Prim.Native.Nat.{ℕ, _≤_}
 use mathlib.Core.Path.{_≡_, refl, sym, ap, _∙_}
-use mathlib.Core.Bool.{cond}
 use mathlib.Core.List.{List, [], _∷_, _++_, append-assoc, append-nil, List·Memᴰ, List·Memᴰ·not-nil, List·Memᴰ·eq-of-singleton}
 use mathlib.Core.Logic.{_↔_, ⊎-elim}
 use native.Mathlib.Omega.{arith}
 use lib.Dec.{eqb}
-use lib.ListN.{length, List·getD-eq-default}
-use Rattle.words.proofs.Cases.{by-test, by-lt}
-use Rattle.family.specs.Family.{Family, empty}
+use lib.ListN.{length}
+use Rattle.words.proofs.Cases.{by-test}
+use Rattle.family.specs.Family.{Family}
 use Rattle.family.specs.Book.{start, at, number, Held, place, Book}
 use Rattle.family.specs.File.{fileOf, HasFile}
-use Rattle.family.proofs.Books.{held-at, held-empty, grown-held, book-start}
+use Rattle.family.proofs.Books.{held-at, grown-held, book-start}
 use Rattle.family.proofs.Placing.{book-place, place-held, place-only, parts-held}
 use Rattle.family.proofs.Different.{no-longer}
 use Rattle.family.proofs.Files.{files-equal}
 use Rattle.store.specs.Words.{itemLimit}
-use Rattle.lists.specs.Calls.{Call, Operate, Size, Has, Save, Load, Audit}
-use Rattle.lists.specs.Table.{refusalOf}
-use Rattle.lists.specs.Books.{answerOf, bookAfter, answersFrom, bookFrom, File, fileBy, filesFrom}
-
--- every number of a book means a family that it holds
-at-held : {limit : ℕ} (B : List Family) → Book limit B → (k : ℕ) → Held B (at B k)
-at-held B book k = by-lt k (length B) (λ h e. held-at B book k h) (λ h e. rw (List·getD-eq-default B empty {n = k} h) (held-empty B book))
+use Rattle.lists.specs.Calls.{Call}
+use Rattle.lists.specs.Acts.{Act, actOf, actAnswer}
+use Rattle.lists.specs.Books.{bookAnswer, bookAfter, answersFrom, bookFrom, SavedFile, fileBy, filesFrom}
+use Rattle.lists.proofs.Acting.{Grounded, fact-grounded, file-grounded, family-grounded, grounded}
 
 -- a family of a book has no more parts than the book has families
 module _ {limit : ℕ} (B : List Family) (book : Book limit B) (F : Family) (h : Held B F) where
@@ -40,40 +37,36 @@ module _ {limit : ℕ} (B : List Family) (book : Book limit B) (F : Family) (h :
       (λ j k l m e. let p = own .unique j (omega arith) in let q = own .unique k m in let d : j ≡ k = sym p ∙ ap (λ X. number (place start F) X) e ∙ q in omega arith)
       (λ k l. inside (at (place start F) k) (held-at (place start F) own k l))
 
-  pub has-file : length B ≤ 4294967296 → HasFile limit F
+  has-file : length B ≤ 4294967296 → HasFile limit F
   has-file l = record { within = book .within F h; few = omega (arith, parts-few) }
 
 -- a file that was saved
-pub record Filed (f : File) : Type 0 where
+pub record Filed (f : SavedFile) : Type 0 where
   pub has : HasFile itemLimit (f .family)
   pub is : fileOf (f .family) ≡ f .bytes
 
-pub filed-equal : (f g : File) → Filed f → Filed g → (f .bytes ≡ g .bytes) ↔ (f .family ≡ g .family)
+pub filed-equal : (f g : SavedFile) → Filed f → Filed g → (f .bytes ≡ g .bytes) ↔ (f .family ≡ g .family)
 filed-equal f g p q =
     let e = files-equal itemLimit (omega arith) (f .family) (g .family) (p .has) (q .has) in
     (λ b. e .0 (p .is ∙ b ∙ sym (q .is)), λ d. sym (p .is) ∙ e .1 d ∙ q .is)
 
 module _ (capacity : ℕ) where
-  -- a Save by a book's answer
-  save-files : (B : List Family) (p scratch output : ℕ) → fileBy B (Save p scratch output) (answerOf capacity B (Save p scratch output))
-      ≡ cond (eqb (refusalOf capacity B (Save p scratch output)) 0) (record { family = at B p; bytes = fileOf (at B p) } ∷ []) []
-  unfolding answerOf
-  save-files B p scratch output = by-test (eqb (refusalOf capacity B (Save p scratch output)) 0) (λ z. rw z) (λ z. rw (z, z))
+  -- a file is of a family that the book holds
+  act-filed : {B : List Family} → Book itemLimit B → length B ≤ 4294967296 → {act : Act} → Grounded B act → (f : SavedFile) → List·Memᴰ f (fileBy act (actAnswer capacity B act)) → Filed f
+  act-filed book l fact-grounded f m = absurd (List·Memᴰ·not-nil m)
+  act-filed {B} book l (file-grounded {n = n} {F = F} h) f m =
+      by-test (eqb n 0)
+      (λ z. let e = List·Memᴰ·eq-of-singleton (rw z at m) in rw e record { has = has-file B book F h l; is = refl })
+      (λ z. absurd (List·Memᴰ·not-nil (rw z at m)))
+  act-filed book l (family-grounded w) f m = absurd (List·Memᴰ·not-nil m)
 
-  pub now-filed : (B : List Family) → Book itemLimit B → length B ≤ 4294967296 → (call : Call) (f : File) → List·Memᴰ f (fileBy B call (answerOf capacity B call)) → Filed f
-  now-filed B book l (Operate op p q lent) f m = absurd (List·Memᴰ·not-nil m)
-  now-filed B book l (Size p scratch) f m = absurd (List·Memᴰ·not-nil m)
-  now-filed B book l (Has p combination) f m = absurd (List·Memᴰ·not-nil m)
-  now-filed B book l (Save p scratch output) f m =
-      by-test (eqb (refusalOf capacity B (Save p scratch output)) 0)
-      (λ z. let e = List·Memᴰ·eq-of-singleton (rw (save-files B p scratch output, z) at m) in rw e record { has = has-file B book (at B p) (at-held B book p) l; is = refl })
-      (λ z. absurd (List·Memᴰ·not-nil (rw (save-files B p scratch output, z) at m)))
-  now-filed B book l (Load file scratch lent) f m = absurd (List·Memᴰ·not-nil m)
-  now-filed B book l (Audit lent) f m = absurd (List·Memᴰ·not-nil m)
+  pub now-filed : (B : List Family) → Book itemLimit B → length B ≤ 4294967296 → (call : Call) (f : SavedFile) → List·Memᴰ f (fileBy (actOf B call) (bookAnswer capacity B call)) → Filed f
+  unfolding bookAnswer
+  now-filed B book l call f m = act-filed book l (grounded B book call) f m
 
   pub files-snoc : (B : List Family) (calls : List Call) (call : Call) → filesFrom capacity B (calls ++ (call ∷ [])) (answersFrom capacity B (calls ++ (call ∷ [])))
-      ≡ filesFrom capacity B calls (answersFrom capacity B calls) ++ fileBy (bookFrom capacity B calls) call (answerOf capacity (bookFrom capacity B calls) call)
-  files-snoc B [] call = append-nil (fileBy B call (answerOf capacity B call))
+      ≡ filesFrom capacity B calls (answersFrom capacity B calls) ++ fileBy (actOf (bookFrom capacity B calls) call) (bookAnswer capacity (bookFrom capacity B calls) call)
+  files-snoc B [] call = append-nil (fileBy (actOf B call) (bookAnswer capacity B call))
   files-snoc B (c ∷ calls) call =
-      ap (λ l. fileBy B c (answerOf capacity B c) ++ l) (files-snoc (bookAfter capacity B c) calls call)
-      ∙ sym (append-assoc (fileBy B c (answerOf capacity B c)) (filesFrom capacity (bookAfter capacity B c) calls (answersFrom capacity (bookAfter capacity B c) calls)) _)
+      ap (λ l. fileBy (actOf B c) (bookAnswer capacity B c) ++ l) (files-snoc (bookAfter capacity B c) calls call)
+      ∙ sym (append-assoc (fileBy (actOf B c) (bookAnswer capacity B c)) (filesFrom capacity (bookAfter capacity B c) calls (answersFrom capacity (bookAfter capacity B c) calls)) _)

@@ -1,27 +1,32 @@
--- The book of a list, from the families handed out: it holds them all under the handles given for them, and beside {} and {{}} exactly their different parts.
--- A call adds the parts of the family that it hands out, so the book is the fold of adding over all these parts; and a book that grows keeps its numbers.
+-- The book of a list, from the families handed out: it holds them all under the handles given for them, and beside {}
+-- and {{}} exactly their different parts. By the two effects of a call: the book stays, or it grows by a family's
+-- parts and keeps its numbers.
 use Prim.Native.Nat.{ℕ, _+_}
 use mathlib.Core.Path.{_≡_, refl, sym, ap, _∙_}
-use mathlib.Core.List.{List, [], _∷_, _++_, append-assoc, append-nil, foldl, foldl-append, List·Memᴰ, List·Memᴰ·not-nil, List·Memᴰ·append-cases, List·Memᴰ·eq-of-singleton}
+use mathlib.Core.List.{List, [], _∷_, _++_, append-assoc, append-nil, foldl, foldl-append, List·Memᴰ, List·Memᴰ·not-nil, List·Memᴰ·cases-cons, List·Memᴰ·append-cases, List·Memᴰ·eq-of-singleton}
 use mathlib.Core.Logic.{⊎-elim}
-use mathlib.Core.Option.{Option, none, some}
-use lib.Dec.{eqb}
 use lib.ListN.{length, length-append}
-use Rattle.words.proofs.Cases.{by-test}
 use Rattle.family.specs.Family.{Family, empty, base, node, parts}
 use Rattle.family.specs.Book.{start, number, Held, add, place, Grown, distinct, absent}
-use Rattle.family.proofs.Books.{grown-self, grown-trans, grown-number, grown-held, add-held, book-start, held-empty, held-base}
+use Rattle.family.proofs.Books.{grown-self, grown-trans, grown-number, grown-held, add-held, book-start, held-empty, held-base, number-empty, number-base}
 use Rattle.family.proofs.Placing.{place-parts, place-grown}
 use Rattle.family.proofs.Different.{add-all, absent-append, absent-start}
 use Rattle.lists.specs.Calls.{Call}
-use Rattle.lists.specs.Table.{refusalOf}
-use Rattle.lists.specs.Books.{takenBy, placed, answerOf, bookAfter, Handout, given, handoutOf, answersFrom, bookFrom, handoutsFrom, allParts, bookOfCalls, handedOut}
+use Rattle.lists.specs.Acts.{Effect, stays, grows, changed}
+use Rattle.lists.specs.Books.{bookAnswer, bookEffect, bookAfter, Handout, firstHandouts, handout, handing, answersFrom, bookFrom, handedFrom, allParts}
 
--- a family that was placed is held
-pub placed-held : (B : List Family) (F : Family) → Grown start B → Held (place B F) F
-placed-held B empty g = grown-held g empty (held-empty start (book-start 0))
-placed-held B base g = grown-held g base (held-base start (book-start 0))
-placed-held B (node i a b) g = add-held (place (place B a) b) (node i a b)
+-- the number of a family in a book
+pub record Numbered (B : List Family) (F : Family) (h : ℕ) : Type 0 where
+  pub held : Held B F
+  pub is : number B F ≡ h
+
+numbered-grown : {B C : List Family} {F : Family} {h : ℕ} → Grown B C → Numbered B F h → Numbered C F h
+numbered-grown {F = F} g N = record { held = grown-held g F (N .held); is = grown-number g F (N .held) ∙ N .is }
+
+-- the book is made by the families handed out: it is their parts, and each family stands there under its handle
+pub record MadeBy (B : List Family) (hs : List Handout) : Type 0 where
+  pub adds : B ≡ foldl add start (allParts hs)
+  pub each : (g : Handout) → List·Memᴰ g hs → Numbered B (g .family) (g .handle)
 
 parts-append : (hs ks : List Handout) → allParts (hs ++ ks) ≡ allParts hs ++ allParts ks
 parts-append [] ks = refl
@@ -30,6 +35,43 @@ parts-append (h ∷ hs) ks = ap (λ l. parts (h .family) ++ l) (parts-append hs 
 absent-all : (hs : List Handout) → absent start (allParts hs) ≡ allParts hs
 absent-all [] = refl
 absent-all (h ∷ hs) = absent-append start (parts (h .family)) (allParts hs) ∙ rw (absent-start (h .family), absent-all hs)
+
+-- a family that was placed is held
+placed-held : (B : List Family) (F : Family) → Grown start B → Held (place B F) F
+placed-held B empty g = grown-held g empty (held-empty start (book-start 0))
+placed-held B base g = grown-held g base (held-base start (book-start 0))
+placed-held B (node i a b) g = add-held (place (place B a) b) (node i a b)
+
+-- 0 and 1 are the numbers of {} and {{}}
+pub first-handed : MadeBy start firstHandouts
+first-handed = record { adds = refl; each = λ g m. ⊎-elim (λ e. rw e zero-is) (λ n. ⊎-elim (λ e. rw e one-is) (λ o. absurd (List·Memᴰ·not-nil o)) (List·Memᴰ·cases-cons n)) (List·Memᴰ·cases-cons m) }
+  where
+    zero-is : Numbered start empty 0
+    zero-is = record { held = held-empty start (book-start 0); is = number-empty start (book-start 0) }
+
+    one-is : Numbered start base 1
+    one-is = record { held = held-base start (book-start 0); is = number-base start (book-start 0) }
+
+-- one call, by its effect
+changed-grown : (B : List Family) (e : Effect) → Grown B (changed B e)
+changed-grown B stays = grown-self B
+changed-grown B (grows F) = place-grown B F
+
+handing-handed : (B : List Family) (hs : List Handout) → Grown start B → MadeBy B hs → (e : Effect) → MadeBy (changed B e) (handing B hs e)
+handing-handed B hs s H stays = H
+handing-handed B hs s H (grows F) =
+    record {
+      adds = place-parts B F ∙ ap (λ X. foldl add X (parts F)) (H .adds) ∙ sym (foldl-append add start (allParts hs) (parts F)) ∙ rw (parts-append hs (handout (place B F) F ∷ []), append-nil);
+      each = λ g m. ⊎-elim
+          (λ l. numbered-grown (place-grown B F) (H .each g l))
+          (λ r. let e = List·Memᴰ·eq-of-singleton r in rw e record { held = placed-held B F s; is = refl })
+          (List·Memᴰ·append-cases hs m);
+    }
+
+-- "the number of different parts of all families handed out"
+pub handed-length : {B : List Family} {hs : List Handout} → MadeBy B hs → length B ≡ 2 + length (distinct (allParts hs))
+handed-length {B} {hs} H =
+    ap length (H .adds ∙ add-all start (allParts hs)) ∙ length-append start (distinct (absent start (allParts hs))) ∙ rw (absent-all hs)
 
 module _ (capacity : ℕ) where
   -- more calls, and one call more
@@ -41,60 +83,17 @@ module _ (capacity : ℕ) where
   book-snoc B calls call = book-append B calls (call ∷ [])
 
   pub answers-snoc : (B : List Family) (calls : List Call) (call : Call)
-      → answersFrom capacity B (calls ++ (call ∷ [])) ≡ answersFrom capacity B calls ++ (answerOf capacity (bookFrom capacity B calls) call ∷ [])
+      → answersFrom capacity B (calls ++ (call ∷ [])) ≡ answersFrom capacity B calls ++ (bookAnswer capacity (bookFrom capacity B calls) call ∷ [])
   answers-snoc B [] call = refl
-  answers-snoc B (c ∷ calls) call = ap (λ l. answerOf capacity B c ∷ l) (answers-snoc (bookAfter capacity B c) calls call)
+  answers-snoc B (c ∷ calls) call = ap (λ l. bookAnswer capacity B c ∷ l) (answers-snoc (bookAfter capacity B c) calls call)
 
-  -- a call adds the parts of what it hands out
-  after-adds : (B : List Family) (call : Call) → bookAfter capacity B call ≡ foldl add B (allParts (handoutOf capacity B call))
-  unfolding bookAfter handoutOf
-  after-adds B call = by-test (eqb (refusalOf capacity B call) 0) (λ z. rw z (by-taken (takenBy B call))) (λ z. rw z)
-    where
-      by-taken : (o : Option Family) → placed B o ≡ foldl add B (allParts (given B o))
-      by-taken none = refl
-      by-taken (some F) = place-parts B F ∙ rw append-nil
-
-  pub book-adds : (B : List Family) (calls : List Call) → bookFrom capacity B calls ≡ foldl add B (allParts (handoutsFrom capacity B calls))
-  book-adds B [] = refl
-  book-adds B (c ∷ calls) =
-      rw (parts-append (handoutOf capacity B c) (handoutsFrom capacity (bookAfter capacity B c) calls), foldl-append, ← after-adds B c) (book-adds (bookAfter capacity B c) calls)
-
-  -- "the number of different parts of all families handed out"
-  pub book-length : (calls : List Call) → length (bookOfCalls capacity calls) ≡ 2 + length (distinct (allParts (handedOut capacity calls)))
-  unfolding bookOfCalls handedOut
-  book-length calls =
-      ap length (book-adds start calls ∙ add-all start (allParts (handoutsFrom capacity start calls)))
-      ∙ length-append start (distinct (absent start (allParts (handoutsFrom capacity start calls))))
-      ∙ rw (absent-all (handoutsFrom capacity start calls))
+  pub handed-from : (B : List Family) (hs : List Handout) (calls : List Call) → Grown start B → MadeBy B hs → MadeBy (bookFrom capacity B calls) (handedFrom capacity B hs calls)
+  handed-from B hs [] s H = H
+  handed-from B hs (c ∷ calls) s H =
+      let e = bookEffect capacity B c in
+      handed-from (changed B e) (handing B hs e) calls (grown-trans s (changed-grown B e)) (handing-handed B hs s H e)
 
   -- the book only grows
-  after-grown : (B : List Family) (call : Call) → Grown B (bookAfter capacity B call)
-  unfolding bookAfter
-  after-grown B call = by-test (eqb (refusalOf capacity B call) 0) (λ z. rw z (by-taken (takenBy B call))) (λ z. rw z (grown-self B))
-    where
-      by-taken : (o : Option Family) → Grown B (placed B o)
-      by-taken none = grown-self B
-      by-taken (some F) = place-grown B F
-
   pub book-grown : (B : List Family) (calls : List Call) → Grown B (bookFrom capacity B calls)
   book-grown B [] = grown-self B
-  book-grown B (c ∷ calls) = grown-trans (after-grown B c) (book-grown (bookAfter capacity B c) calls)
-
-  -- a handle given is the number of its family, then and ever after
-  now-given : (B : List Family) → Grown start B → (call : Call) (g : Handout) → List·Memᴰ g (handoutOf capacity B call)
-      → Held (bookAfter capacity B call) (g .family) × (number (bookAfter capacity B call) (g .family) ≡ g .handle)
-  unfolding bookAfter handoutOf
-  now-given B s call g = by-test (eqb (refusalOf capacity B call) 0) (λ z. rw z (by-taken (takenBy B call))) (λ z. rw z (λ m. absurd (List·Memᴰ·not-nil m)))
-    where
-      by-taken : (o : Option Family) → List·Memᴰ g (given B o) → Held (placed B o) (g .family) × (number (placed B o) (g .family) ≡ g .handle)
-      by-taken none m = absurd (List·Memᴰ·not-nil m)
-      by-taken (some F) m = let e = List·Memᴰ·eq-of-singleton m in rw e (placed-held B F s, refl)
-
-  pub still-given : (B : List Family) → Grown start B → (calls : List Call) (g : Handout) → List·Memᴰ g (handoutsFrom capacity B calls)
-      → Held (bookFrom capacity B calls) (g .family) × (number (bookFrom capacity B calls) (g .family) ≡ g .handle)
-  still-given B s [] g m = absurd (List·Memᴰ·not-nil m)
-  still-given B s (c ∷ calls) g m =
-      ⊎-elim
-      (λ l. let q = now-given B s c g l in let d = book-grown (bookAfter capacity B c) calls in (grown-held d (g .family) (q .0), grown-number d (g .family) (q .0) ∙ q .1))
-      (λ r. still-given (bookAfter capacity B c) (grown-trans s (after-grown B c)) calls g r)
-      (List·Memᴰ·append-cases (handoutOf capacity B c) m)
+  book-grown B (c ∷ calls) = grown-trans (changed-grown B (bookEffect capacity B c)) (book-grown (bookAfter capacity B c) calls)

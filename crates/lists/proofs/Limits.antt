@@ -1,30 +1,29 @@
 -- The families that calls take keep to the limit: those of an operation and those of a file.
 -- An operation keeps to the limit of its operands, and reading a file adds only nodes that fit a book.
-use Prim.Native.Nat.{ℕ, zero, suc, _≤_, _<_}
-use mathlib.Core.Path.{_≡_, refl}
+use Prim.Native.Nat.{ℕ, zero, suc, _+_, _≤_, _<_}
+use mathlib.Core.Path.{_≡_, sym, _∙_}
 use mathlib.Core.Bool.{true, cond, _&&_}
 use mathlib.Core.List.{List, [], _∷_, _++_}
 use mathlib.Core.Option.{none, some}
 use native.Mathlib.Omega.{arith}
-use lib.Dec.{eqb, ltb, leb}
+use lib.Dec.{eqb, ltb}
 use lib.ListN.{length, List·getD-eq-default}
-use borrow.Author.Tests.{ltb-true, leb-true}
-use Rattle.words.proofs.Cases.{by-eq, by-lt, and-inv}
+use Rattle.words.proofs.Cases.{by-eq, by-lt}
 use Rattle.family.specs.Family.{Family, empty, base, Within}
 use Rattle.family.specs.Book.{start, at, Book}
 use Rattle.family.specs.Record.{readNumber, Triple, triple, itemOf, readRecord}
 use Rattle.family.specs.File.{nodeOf, fits, readRecords, andThen, order, lastOf, readParts, alone, familyOf}
 use Rattle.family.proofs.Books.{held-at, book-start}
-use Rattle.family.proofs.Restrict.{within-subset1, within-subset0, within-change}
-use Rattle.family.proofs.Laws.{union-within, intsec-within, diff-within}
 use Rattle.family.proofs.Records.{not-some, then-inv}
 use Rattle.family.proofs.Orders.{and-then-inv, cond-inv}
 use Rattle.family.proofs.Reading.{fits-next, book-next}
 use Rattle.store.specs.Words.{itemLimit}
-use Rattle.store.specs.Cache.{restrict, rule, named}
-use Rattle.op_promise.specs.Promise.{isItem}
-use Rattle.lists.specs.Calls.{Operation, Subset1, Subset0, Change, Union, Intsec, Diff, numberOf, takesItem}
-use Rattle.lists.specs.Table.{operated}
+use Rattle.store.specs.Cache.{named}
+use Rattle.store.proofs.Naming.{named-families, named-item, families-within, restrict-within}
+use Rattle.store.specs.Tests.{itemTest}
+use Rattle.store.proofs.Testing.{item-passed, passes}
+use Rattle.op_promise.proofs.Refusing.{item-number}
+use Rattle.op_promise.specs.Promise.{operationRefusal}
 
 empty-within : (limit : ℕ) → Within limit empty
 empty-within limit = record { ordered = tt; low = omega arith }
@@ -34,27 +33,16 @@ pub at-within : {limit : ℕ} (B : List Family) → Book limit B → (k : ℕ) �
 at-within {limit} B book k =
     by-lt k (length B) (λ h e. book .within (at B k) (held-at B book k h)) (λ h e. rw (List·getD-eq-default B empty {n = k} h) (empty-within limit))
 
-pub item-bounds : (v : ℕ) → isItem v ≡ true → (0 < v) × (v ≤ itemLimit)
-unfolding isItem
-item-bounds v e = and-inv (ltb 0 v) (leb v itemLimit) e (λ p q. (ltb-true 0 v p, leb-true v itemLimit q))
+-- an operation that is not refused has an item where it takes one
+item-some : (op n p q : ℕ) → op < 4 → operationRefusal op n p q ≡ 0 → (1 ≤ q) × (q ≤ itemLimit)
+item-some op n p q l e = item-passed q (passes n p 0 (itemTest q) 0 0 (sym (item-number op n p q l) ∙ e) .none)
 
--- the operations by their numbers
-pub named-is : (op : Operation) (B : List Family) (p q : ℕ) → named (numberOf op) B p q ≡ operated op B p q
-unfolding named restrict rule
-named-is Subset1 B p q = refl
-named-is Subset0 B p q = refl
-named-is Change B p q = refl
-named-is Union B p q = refl
-named-is Intsec B p q = refl
-named-is Diff B p q = refl
-
-pub operated-within : (op : Operation) (B : List Family) → Book itemLimit B → (p q : ℕ) → (takesItem op ≡ true → isItem q ≡ true) → Within itemLimit (operated op B p q)
-operated-within Subset1 B book p q i = within-subset1 q (at B p) (at-within B book p)
-operated-within Subset0 B book p q i = within-subset0 q (at B p) (at-within B book p)
-operated-within Change B book p q i = let l = item-bounds q (i refl) in within-change q (at B p) (l .0) (l .1) (at-within B book p)
-operated-within Union B book p q i = union-within (at B p) (at B q) (at-within B book p) (at-within B book q)
-operated-within Intsec B book p q i = intsec-within (at B p) (at B q) (at-within B book p) (at-within B book q)
-operated-within Diff B book p q i = diff-within (at B p) (at B q) (at-within B book p) (at-within B book q)
+-- the family that an operation names, by the operation's number
+pub named-within : (op : ℕ) (B : List Family) → Book itemLimit B → (n p q : ℕ) → operationRefusal op n p q ≡ 0 → Within itemLimit (named op B p q)
+named-within op B book n p q e =
+    by-lt op 4
+    (λ l t. let i = item-some op n p q l e in rw (named-item op B p q l) (restrict-within op q (at B p) (i .0) (i .1) (at-within B book p)))
+    (λ l t. rw (named-families op B p q l) (families-within op (at B p) (at B q) (at-within B book p) (at-within B book q)))
 
 -- reading a file
 module _ (limit : ℕ) where

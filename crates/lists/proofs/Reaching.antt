@@ -1,32 +1,36 @@
--- What every list of calls comes to: the store holds the book of the calls, and the answers are the book's; from it each part of demand 3.
--- By induction on the list: the store stays sound with its whole cache and holds the book of the calls so far, so each promise speaks of that book.
+-- What every list of calls comes to: the store holds the book of the calls, and the answers are the book's; from it
+-- each part of demand 3. By induction on the list: the store stays sound with its whole cache and holds the book of
+-- the calls so far, so each promise speaks of that book.
 use Prim.Native.Nat.{ℕ, _+_, _≤_}
-use mathlib.Core.Path.{_≡_, refl, sym}
-use mathlib.Core.List.{List, [], _∷_, _++_, List·Memᴰ, List·Memᴰ·not-nil, List·Memᴰ·cases-cons, List·Memᴰ·append-cases}
-use mathlib.Core.Logic.{⊎-elim}
+use mathlib.Core.Path.{_≡_, refl, sym, ap}
+use mathlib.Core.List.{List, [], _∷_, _++_, List·Memᴰ, List·Memᴰ·not-nil, List·Memᴰ·append-cases}
+use mathlib.Core.Logic.{_↔_, ⊎-elim}
 use native.Mathlib.Omega.{arith}
 use lib.ListN.{length, take, length-append}
 use lib.Seq.{take-nil, take-all, take-append-le}
 use Rattle.words.proofs.Cases.{by-lt}
-use Rattle.family.specs.Family.{Family, empty, base}
-use Rattle.family.specs.Book.{start, at, number, Held, distinct}
-use Rattle.family.proofs.Books.{number-at, number-empty, number-base, held-empty, held-base, grown-self, grown-length, grown-at}
+use Rattle.family.specs.Family.{Within}
+use Rattle.family.specs.Book.{start, distinct}
+use Rattle.family.proofs.Books.{number-at, grown-self, grown-length, grown-at}
 use Rattle.store.specs.Capacity.{capacityOf}
-use Rattle.store.specs.Words.{bookOf}
+use Rattle.store.specs.Words.{itemLimit, bookOf}
+use Rattle.store.proofs.Decoding.{sound-holds}
+use Rattle.store.proofs.Held.{at-inj}
 use Rattle.lists.specs.Calls.{Call, Answer}
-use Rattle.lists.specs.Books.{answersFrom, bookFrom, answersOf, bookOfCalls, Handout, handedOut, allParts, File, filesFrom, filesOf}
+use Rattle.lists.specs.Books.{answersFrom, bookFrom, answersOf, bookOfCalls, Handout, firstHandouts, handedFrom, handedOut, allParts, SavedFile, filesFrom, filesOf}
 use Rattle.lists.specs.Runs.{State, Step, Runs, fresh, next}
 use Rattle.lists.specs.Demand3.{meaning}
+use Rattle.lists.proofs.Limits.{at-within}
 use Rattle.lists.proofs.Invariant.{Inv, book, size, count-fits, capacity-low, fresh-inv}
 use Rattle.lists.proofs.Steps.{step}
-use Rattle.lists.proofs.Growth.{book-append, book-snoc, answers-snoc, book-length, book-grown, still-given}
+use Rattle.lists.proofs.Growth.{book-append, book-snoc, answers-snoc, MadeBy, first-handed, handed-from, handed-length, book-grown}
 use Rattle.lists.proofs.Filing.{Filed, now-filed, files-snoc}
 
 -- what a list of calls has come to
 pub record Reached (capacity slots : ℕ) (calls : List Call) (answers : List Answer) (x : State) : Type 0 where
   pub inv : Inv capacity slots (bookFrom capacity start calls) x
   pub answered : answers ≡ answersFrom capacity start calls
-  pub filed : (f : File) → List·Memᴰ f (filesFrom capacity start calls (answersFrom capacity start calls)) → Filed f
+  pub filed : (f : SavedFile) → List·Memᴰ f (filesFrom capacity start calls (answersFrom capacity start calls)) → Filed f
 
 more : {capacity slots : ℕ} {calls : List Call} {answers : List Answer} {x y : State} {call : Call} {answer : Answer}
     → Reached capacity slots calls answers x → Step x call answer y → Reached capacity slots (calls ++ (call ∷ [])) (answers ++ (answer ∷ [])) y
@@ -66,23 +70,27 @@ module _ {capacity slots : ℕ} {calls : List Call} {answers : List Answer} {x :
   unfolding bookOfCalls
   held-is = R .inv .book-is
 
-  pub counts : x .store .count ≡ length (distinct (allParts (handedOut capacity calls)))
-  unfolding bookOfCalls
-  counts = omega (arith, book-length capacity calls, size (R .inv))
+  -- a handle's family is the book's
+  pub means-within : (h : ℕ) → Within itemLimit (meaning x h)
+  means-within h = at-within (bookOf (x .nodes) (x .store .count)) (sound-holds (R .inv .sound) .book) h
 
-  -- a family of the book, by its number
-  means : (F : Family) (h : ℕ) → Held (bookFrom capacity start calls) F → number (bookFrom capacity start calls) F ≡ h → (h ≤ x .store .count + 1) × (meaning x h ≡ F)
-  means F h l e = (omega (arith, size (R .inv)), rw (R .inv .book-is, ← e) (number-at (bookFrom capacity start calls) F l))
+  pub handles-equal : (h k : ℕ) → h ≤ x .store .count + 1 → k ≤ x .store .count + 1 → (h ≡ k) ↔ (meaning x h ≡ meaning x k)
+  handles-equal h k l m = (λ e. ap (λ j. meaning x j) e, λ e. at-inj (sound-holds (R .inv .sound)) h k (omega arith) (omega arith) e)
+
+  handed : MadeBy (bookFrom capacity start calls) (handedFrom capacity start firstHandouts calls)
+  handed = handed-from capacity start firstHandouts calls (grown-self start) first-handed
+
+  pub counts : x .store .count ≡ length (distinct (allParts (handedOut capacity calls)))
+  unfolding handedOut
+  counts = omega (arith, handed-length handed, size (R .inv))
 
   pub keeps : (g : Handout) → List·Memᴰ g (handedOut capacity calls) → (g .handle ≤ x .store .count + 1) × (meaning x (g .handle) ≡ g .family)
   unfolding handedOut
   keeps g m =
-      ⊎-elim (λ e. rw e (means empty 0 (held-empty (bookFrom capacity start calls) (book (R .inv))) (number-empty (bookFrom capacity start calls) (book (R .inv)))))
-      (λ n. ⊎-elim (λ e. rw e (means base 1 (held-base (bookFrom capacity start calls) (book (R .inv))) (number-base (bookFrom capacity start calls) (book (R .inv)))))
-      (λ o. let q = still-given capacity start (grown-self start) calls g o in means (g .family) (g .handle) (q .0) (q .1))
-      (List·Memᴰ·cases-cons n)) (List·Memᴰ·cases-cons m)
+      let N = handed .each g m in
+      (omega (arith, N .held, N .is, size (R .inv)), rw (R .inv .book-is, ← N .is) (number-at (bookFrom capacity start calls) (g .family) (N .held)))
 
-  pub files-filed : (f : File) → List·Memᴰ f (filesOf capacity calls answers) → Filed f
+  pub files-filed : (f : SavedFile) → List·Memᴰ f (filesOf capacity calls answers) → Filed f
   unfolding filesOf
   files-filed f m = R .filed f (rw (R .answered) at m)
 

@@ -1,13 +1,14 @@
 -- Calls and their answers as data: document 01, 'Calls'.
 use Prim.Native.Nat.{ℕ}
-use mathlib.Core.Bool.{Bool, true, false}
-use mathlib.Core.List.{List}
+use mathlib.Core.Bool.{Bool}
+use mathlib.Core.List.{List, []}
 
 -- the six operations
 pub data Operation : Type 0 where
   Subset1 Subset0 Change Union Intsec Diff : Operation
 
--- "operation (1 Subset1, 2 Subset0, 3 Change, 4 Union, 5 Intsec, 6 Diff)"
+-- "operation (1 Subset1, 2 Subset0, 3 Change, 4 Union, 5 Intsec, 6 Diff)": what the operation of a number takes and
+-- names is said by number, in `operationRefusal` and `named`
 abbrev pub numberOf : Operation → ℕ
 numberOf Subset1 = 1
 numberOf Subset0 = 2
@@ -16,30 +17,37 @@ numberOf Union = 4
 numberOf Intsec = 5
 numberOf Diff = 6
 
--- whether the second operand is an item; else it is a handle, as the first always is
-abbrev pub takesItem : Operation → Bool
-takesItem Subset1 = true
-takesItem Subset0 = true
-takesItem Change = true
-takesItem Union = false
-takesItem Intsec = false
-takesItem Diff = false
-
--- A call, with all that it takes besides the record and the node and lookup words: "handles, items, combinations, file bytes and lengths". p is a handle and q the second operand, a
--- combination is the sixteen words of its record, scratch and output are lengths, and lent says how many leading words of the cache are lent.
+-- A call, with all that it takes besides the record and the store's words: "handles, items, combinations, file bytes
+-- and lengths". p is a handle and q the second operand, a combination is the sixteen words of its record, and scratch
+-- and output are lengths. The part of the cache that a call is lent is no part of it: the steps of Runs say it.
 pub data Call : Type 0 where
-  Operate : Operation → (p q lent : ℕ) → Call
+  Operate : Operation → (p q : ℕ) → Call
   Size : (p scratch : ℕ) → Call
   Has : (p : ℕ) (combination : List ℕ) → Call
   Save : (p scratch output : ℕ) → Call
-  Load : (file : List ℕ) (scratch lent : ℕ) → Call
-  Audit : (lent : ℕ) → Call
+  Load : (file : List ℕ) (scratch : ℕ) → Call
+  Audit : Call
 
--- "A call's answer is all that it gives but the record: the refusal's number, handle, size, yes or no, length, and the bytes of Save's file": 0, no and no bytes where it gives none.
+-- what a question is answered with: a number, or yes or no
+pub data Fact : Type 0 where
+  Number : ℕ → Fact
+  Says : Bool → Fact
+
+-- What a call gives besides the record and the refusal's number, by its kind: a handle; a fact; the length of Save's
+-- file and its bytes. "A refusal gives no handle, size or length": 0, no, and no bytes.
+pub data Value : Type 0 where
+  Handle : ℕ → Value
+  Tells : Fact → Value
+  Writes : (long : ℕ) (bytes : List ℕ) → Value
+
+-- "A call's answer is all that it gives but the record: the refusal's number, handle, size, yes or no, length, and the
+-- bytes of Save's file"; the number is 0 where nothing refuses the call
 pub record Answer : Type 0 where
   pub refusal : ℕ
-  pub handle : ℕ
-  pub size : ℕ
-  pub yes : Bool
-  pub length : ℕ
-  pub bytes : List ℕ
+  pub value : Value
+
+-- the bytes that were written
+abbrev pub written : Value → List ℕ
+written (Handle h) = []
+written (Tells fact) = []
+written (Writes long bytes) = bytes

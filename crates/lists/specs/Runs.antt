@@ -1,26 +1,27 @@
--- Lists of calls on a store, in which each step is the promise of its call and nothing else: document 01, 'The store', the cache, and 'Calls'.
+-- Lists of calls on a store, in which each step is the promise of its call and nothing else: document 01, 'The store',
+-- the cache, and 'Calls'.
 use Prim.Native.Nat.{ℕ}
 use mathlib.Core.Path.{_≡_}
-use mathlib.Core.Bool.{Bool, false}
 use mathlib.Core.List.{List, [], _∷_, _++_}
 use lib.ListN.{length, take, drop}
 use Rattle.family.specs.Combination.{itemsOf}
 use Rattle.store.specs.declared.record.Store.{Store}
 use Rattle.store.specs.declared.record.Placed.{Placed}
 use Rattle.store_fresh.specs.declared.Freshened.{Freshened}
-use Rattle.store.specs.Refusals.{Given, givenBy}
+use Rattle.store.specs.Refusals.{givenBy}
 use Rattle.store_fresh.specs.Promise.{freshNumber, FreshCall}
 use Rattle.op_promise.specs.Promise.{OperationCall}
 use Rattle.query_size.specs.declared.Measured.{Measured}
 use Rattle.query_has.specs.declared.Asked.{Asked}
-use Rattle.query_size.specs.Promise.{SizeGiven, sizeGivenBy, SizeCall}
-use Rattle.query_has.specs.Promise.{HasGiven, hasGivenBy, HasCall}
+use Rattle.query_size.specs.Promise.{sizeGivenBy, SizeCall}
+use Rattle.query_has.specs.Promise.{hasGivenBy, HasCall}
 use Rattle.file_save.specs.declared.Saved.{Saved}
-use Rattle.file_save.specs.Promise.{SaveGiven, saveGivenBy, SaveCall}
+use Rattle.file_save.specs.Promise.{saveGivenBy, SaveCall}
 use Rattle.file_load.specs.Promise.{LoadCall}
 use Rattle.store_audit.specs.declared.audit.Audited.{Audited}
 use Rattle.store_audit.specs.Promise.{AuditCall}
 use Rattle.lists.specs.Calls.{Operation, numberOf, Call, Operate, Size, Has, Save, Load, Audit, Answer}
+use Rattle.lists.specs.Acts.{placeReturns, sizeReturns, hasReturns, saveReturns, auditReturns}
 
 -- what a call comes to and leaves: the record last given back, and Fresh's words
 pub record State : Type 0 where
@@ -29,46 +30,39 @@ pub record State : Type 0 where
   pub lookup : List ℕ
   pub cache : List ℕ
 
--- the answers, by what the calls return
-abbrev pub placing : Given → Answer
-placing g = record { refusal = g .refusal; handle = g .handle; size = 0; yes = false; length = 0; bytes = [] }
+-- the state after a call that writes no word of the store
+abbrev pub sameWords : State → Store → State
+sameWords x s = record { store = s; nodes = x .nodes; lookup = x .lookup; cache = x .cache }
 
-abbrev pub sizing : SizeGiven → Answer
-sizing g = record { refusal = g .refusal; handle = 0; size = g .size; yes = false; length = 0; bytes = [] }
+-- the state after a call that was lent so many of the cache's first words, and left them as `part`: the rest stays
+abbrev pub withPart : State → ℕ → Store → (nodes lookup part : List ℕ) → State
+withPart x lent s nodes lookup part = record { store = s; nodes = nodes; lookup = lookup; cache = part ++ drop lent (x .cache) }
 
-abbrev pub asking : HasGiven → Answer
-asking g = record { refusal = g .refusal; handle = 0; size = 0; yes = g .member; length = 0; bytes = [] }
-
--- Save's file is the front of the output, as long as Save says
-abbrev pub saving : SaveGiven → List ℕ → Answer
-saving g out = record { refusal = g .refusal; handle = 0; size = 0; yes = false; length = g .length; bytes = take (g .length) out }
-
-abbrev pub auditing : Bool → Answer
-auditing sound = record { refusal = 0; handle = 0; size = 0; yes = sound; length = 0; bytes = [] }
-
--- One call, from a state to the next: "each is handed the record last given back, and is lent Fresh's node and lookup words whole, and any leading part of its cache, none included".
--- The six operations, Load and Audit are lent a part of the cache; the rest of it stays.
+-- One call, from a state to the next: "each is handed the record last given back, and is lent Fresh's node and lookup
+-- words whole, and any leading part of its cache, none included". The six operations, Load and Audit are lent a part
+-- of the cache, as many words as `lent` says.
 pub data Step (x : State) : Call → Answer → State → Type 0 where
-  operates : {op : Operation} {p q lent : ℕ} {r : Placed} {nodes lookup part : List ℕ}
+  operates : (lent : ℕ) {op : Operation} {p q : ℕ} {r : Placed} {nodes lookup part : List ℕ}
       → OperationCall (numberOf op) p q (x .store) (x .nodes) (x .lookup) (take lent (x .cache)) r nodes lookup part
-      → Step x (Operate op p q lent) (placing (givenBy (r .answer))) (record { store = r .store; nodes = nodes; lookup = lookup; cache = part ++ drop lent (x .cache) })
+      → Step x (Operate op p q) (placeReturns (givenBy (r .answer))) (withPart x lent (r .store) nodes lookup part)
   sizes : {p : ℕ} {scratch scratch′ : List ℕ} {r : Measured}
       → SizeCall (x .store) (x .nodes) (x .lookup) p scratch r scratch′
-      → Step x (Size p (length scratch)) (sizing (sizeGivenBy (r .answer))) (record { store = r .store; nodes = x .nodes; lookup = x .lookup; cache = x .cache })
+      → Step x (Size p (length scratch)) (sizeReturns (sizeGivenBy (r .answer))) (sameWords x (r .store))
   asks : {p : ℕ} {combination : List ℕ} {r : Asked}
       → HasCall (x .store) (x .nodes) (x .lookup) p (itemsOf combination) r
-      → Step x (Has p combination) (asking (hasGivenBy (r .answer))) (record { store = r .store; nodes = x .nodes; lookup = x .lookup; cache = x .cache })
+      → Step x (Has p combination) (hasReturns (hasGivenBy (r .answer))) (sameWords x (r .store))
   saves : {p : ℕ} {scratch out scratch′ out′ : List ℕ} {r : Saved}
       → SaveCall (x .store) (x .nodes) (x .lookup) p scratch out r scratch′ out′
-      → Step x (Save p (length scratch) (length out)) (saving (saveGivenBy (r .answer)) out′) (record { store = r .store; nodes = x .nodes; lookup = x .lookup; cache = x .cache })
-  loads : {file scratch : List ℕ} {lent : ℕ} {r : Placed} {nodes lookup part scratch′ : List ℕ}
+      → Step x (Save p (length scratch) (length out)) (saveReturns (saveGivenBy (r .answer)) out′) (sameWords x (r .store))
+  loads : (lent : ℕ) {file scratch : List ℕ} {r : Placed} {nodes lookup part scratch′ : List ℕ}
       → LoadCall (x .store) (x .nodes) (x .lookup) (take lent (x .cache)) file scratch r nodes lookup part scratch′
-      → Step x (Load file (length scratch) lent) (placing (givenBy (r .answer))) (record { store = r .store; nodes = nodes; lookup = lookup; cache = part ++ drop lent (x .cache) })
-  audits : {lent : ℕ} {r : Audited} {part : List ℕ}
+      → Step x (Load file (length scratch)) (placeReturns (givenBy (r .answer))) (withPart x lent (r .store) nodes lookup part)
+  audits : (lent : ℕ) {r : Audited} {part : List ℕ}
       → AuditCall (x .store) (x .nodes) (x .lookup) (take lent (x .cache)) r part
-      → Step x (Audit lent) (auditing (r .sound)) (record { store = r .store; nodes = x .nodes; lookup = x .lookup; cache = part ++ drop lent (x .cache) })
+      → Step x Audit (auditReturns (r .sound)) (withPart x lent (r .store) (x .nodes) (x .lookup) part)
 
--- A list of calls with its answers and the state after it, built call by call: each beginning of it is such a list. "Such a list starts from what a Fresh that wasn't refused left and gave."
+-- A list of calls with its answers and the state after it, built call by call: each beginning of it is such a list.
+-- "Such a list starts from what a Fresh that wasn't refused left and gave."
 pub data Runs (nodes lookup cache : List ℕ) : List Call → List Answer → State → Type 0 where
   fresh : {r : Freshened} {nodes′ lookup′ cache′ : List ℕ}
       → FreshCall nodes lookup cache r nodes′ lookup′ cache′ → freshNumber (r .answer) ≡ 0

@@ -1,49 +1,44 @@
--- The number that refuses a call, by the book: document 01, 'Numbers and trade words'.
-use Prim.Native.Nat.{ℕ, _+_, _*_, _-_}
+-- The number that refuses a call, by the book: document 01, 'Numbers and trade words'. A page for readers, in the
+-- document's order: proofs/Tabled shows that the book's answers, which cite the promises, are refused by it.
+use Prim.Native.Nat.{ℕ, _+_, _*_}
 use mathlib.Core.Bool.{Bool, cond, not, _&&_, _||_}
 use mathlib.Core.List.{List}
 use mathlib.Core.Option.{Option, none, some}
 use lib.Dec.{ltb}
 use lib.ListN.{length}
 use Rattle.family.specs.Family.{Family, size}
-use Rattle.family.specs.Operation.{subset1, subset0, change, union, intsec, diff}
 use Rattle.family.specs.Book.{at}
 use Rattle.family.specs.File.{fileOf, familyOf}
 use Rattle.store.specs.Words.{itemLimit}
+use Rattle.store.specs.Cache.{named}
 use Rattle.store.specs.Placing.{tooLarge}
-use Rattle.op_promise.specs.Promise.{isItem}
+use Rattle.store.specs.Tests.{isItem}
 use Rattle.query_sizes.specs.NodeSizes.{most}
-use Rattle.lists.specs.Calls.{Operation, Subset1, Subset0, Change, Union, Intsec, Diff, takesItem, Call, Operate, Size, Has, Save, Load, Audit}
-
--- "the count is the book's length less 2"
-abbrev pub count : List Family → ℕ
-count B = length B - 2
+use Rattle.lists.specs.Calls.{Operation, numberOf, Call, Operate, Size, Has, Save, Load, Audit}
+use Rattle.lists.specs.Acts.{count}
 
 -- "a handle above count + 1"
 abbrev pub above : List Family → ℕ → Bool
 above B h = ltb (count B + 1) h
 
--- The family that an operation names: "A call's handles are read in it", the book.
-abbrev pub operated : Operation → List Family → ℕ → ℕ → Family
-operated Subset1 B p v = subset1 v (at B p)
-operated Subset0 B p v = subset0 v (at B p)
-operated Change B p v = change v (at B p)
-operated Union B p q = union (at B p) (at B q)
-operated Intsec B p q = intsec (at B p) (at B q)
-operated Diff B p q = diff (at B p) (at B q)
+-- the operations 1 to 3 take an item, 4 to 6 a second handle
+abbrev pub onItem : Operation → Bool
+onItem op = ltb (numberOf op) 4
 
 -- 9: "the bytes are the file of no family"; then 5: "the result's parts not yet held outnumber capacity − count"
 abbrev pub fileRefusal : ℕ → List Family → Option Family → ℕ
 fileRefusal capacity B none = 9
 fileRefusal capacity B (some F) = cond (tooLarge capacity B F) 5 0
 
--- The table, for each call in the order "4, 3, 7, 9, 6, 8, 5"; 0 where nothing refuses the call, and never 10: "On a sound store 10 never comes".
--- 3: "item 0 or above 512". 7: "scratch shorter than stated", a word per node held for Size and Save, six words per file byte for Load. 6: "size above 18,446,744,073,709,551,615". 8: "output shorter than the file".
+-- The table, for each call in the order "4, 3, 7, 9, 6, 8, 5"; 0 where nothing refuses the call, and never 10: "On a
+-- sound store 10 never comes". 3: "item 0 or above 512". 7: "scratch shorter than stated", a word per node held for
+-- Size and Save, six words per file byte for Load. 6: "size above 18,446,744,073,709,551,615". 8: "output shorter than
+-- the file".
 unfoldable pub refusalOf : ℕ → List Family → Call → ℕ
-refusalOf capacity B (Operate op p q lent) =
-    cond (above B p || (not (takesItem op) && above B q)) 4 (cond (takesItem op && not (isItem q)) 3 (cond (tooLarge capacity B (operated op B p q)) 5 0))
+refusalOf capacity B (Operate op p q) =
+    cond (above B p || (not (onItem op) && above B q)) 4 (cond (onItem op && not (isItem q)) 3 (cond (tooLarge capacity B (named (numberOf op) B p q)) 5 0))
 refusalOf capacity B (Size p scratch) = cond (above B p) 4 (cond (ltb scratch (count B)) 7 (cond (ltb most (size (at B p))) 6 0))
 refusalOf capacity B (Has p combination) = cond (above B p) 4 0
 refusalOf capacity B (Save p scratch output) = cond (above B p) 4 (cond (ltb scratch (count B)) 7 (cond (ltb output (length (fileOf (at B p)))) 8 0))
-refusalOf capacity B (Load file scratch lent) = cond (ltb scratch (6 * length file)) 7 (fileRefusal capacity B (familyOf itemLimit file))
-refusalOf capacity B (Audit lent) = 0
+refusalOf capacity B (Load file scratch) = cond (ltb scratch (6 * length file)) 7 (fileRefusal capacity B (familyOf itemLimit file))
+refusalOf capacity B Audit = 0

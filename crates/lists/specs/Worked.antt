@@ -1,41 +1,43 @@
 -- The worked store of document 01: its starred lines as one list of calls, with what they are stated to give.
 use Prim.Native.Nat.{ℕ, _+_, _*_, _%_, _^_}
 use mathlib.Core.Path.{_≡_}
-use mathlib.Core.Bool.{false}
 use mathlib.Core.List.{List, [], _∷_}
 use lib.ListN.{length, take}
 use Rattle.table.specs.Start.{mixOf, startOf}
 use Rattle.store.specs.Capacity.{capacityOf}
 use Rattle.store.specs.Words.{wordsOf, lookupOf}
-use Rattle.lists.specs.Calls.{Subset1, Subset0, Change, Union, Intsec, Diff, Call, Operate, Save, Answer}
-use Rattle.lists.specs.Books.{refused, answersOf, bookOfCalls}
+use Rattle.lists.specs.Calls.{Subset1, Subset0, Change, Union, Intsec, Diff, Call, Operate, Save, Handle, Writes, Answer}
+use Rattle.lists.specs.Books.{answersOf, bookOfCalls}
 use Rattle.lists.specs.Runs.{State, Runs}
 
--- the starred lines in their order, with any part of the cache lent to each, and enough scratch and output for the two files
-abbrev pub worked : ℕ → List Call
-worked lent =
-    Operate Change 1 1 lent ∷
-    Operate Change 1 2 lent ∷
-    Operate Union 2 3 lent ∷
-    Operate Union 3 2 lent ∷
-    Operate Diff 4 2 lent ∷
-    Operate Intsec 4 1 lent ∷
-    Operate Subset1 4 2 lent ∷
-    Operate Subset0 4 2 lent ∷
-    Operate Change 4 1 lent ∷
-    Operate Change 1 3 lent ∷
-    Operate Change 5 1 lent ∷
+-- the starred lines in their order, with enough scratch and output for the two files
+abbrev pub worked : List Call
+worked =
+    Operate Change 1 1 ∷
+    Operate Change 1 2 ∷
+    Operate Union 2 3 ∷
+    Operate Union 3 2 ∷
+    Operate Diff 4 2 ∷
+    Operate Intsec 4 1 ∷
+    Operate Subset1 4 2 ∷
+    Operate Subset0 4 2 ∷
+    Operate Change 4 1 ∷
+    Operate Change 1 3 ∷
+    Operate Change 5 1 ∷
     Save 2 4 6 ∷
     Save 4 4 15 ∷
     []
 
 abbrev pub gives : ℕ → Answer
-gives handle = record { refusal = 0; handle = handle; size = 0; yes = false; length = 0; bytes = [] }
+gives handle = record { refusal = 0; value = Handle handle }
 
-abbrev pub saves : ℕ → List ℕ → Answer
-saves length bytes = record { refusal = 0; handle = 0; size = 0; yes = false; length = length; bytes = bytes }
+abbrev pub refusedWith : ℕ → Answer
+refusedWith n = record { refusal = n; value = Handle 0 }
 
--- "Change(1, 1) = 2", "Change(1, 2) = 3", "Union(2, 3) = 4", .., "Change(1, 3) is refused with 5, yet Change(5, 1) = 4", and the two files
+abbrev pub givesFile : ℕ → List ℕ → Answer
+givesFile long bytes = record { refusal = 0; value = Writes long bytes }
+
+-- "Change(1, 1) = 2", "Change(1, 2) = 3", .., "Change(1, 3) is refused with 5", "Change(5, 1) = 4", and the two files
 abbrev pub workedAnswers : List Answer
 workedAnswers =
     gives 2 ∷
@@ -47,10 +49,10 @@ workedAnswers =
     gives 1 ∷
     gives 2 ∷
     gives 5 ∷
-    refused 5 ∷
+    refusedWith 5 ∷
     gives 4 ∷
-    saves 6 (0x01 ∷ 0x01 ∷ 0x00 ∷ 0x00 ∷ 0x00 ∷ 0x00 ∷ []) ∷
-    saves 15 (0x01 ∷ 0x02 ∷ 0x00 ∷ 0x00 ∷ 0x00 ∷ 0x00 ∷ 0x06 ∷ 0x02 ∷ 0x00 ∷ 0x00 ∷ 0x00 ∷ 0x01 ∷ 0x00 ∷ 0x00 ∷ 0x00 ∷ []) ∷
+    givesFile 6 (0x01 ∷ 0x01 ∷ 0x00 ∷ 0x00 ∷ 0x00 ∷ 0x00 ∷ []) ∷
+    givesFile 15 (0x01 ∷ 0x02 ∷ 0x00 ∷ 0x00 ∷ 0x00 ∷ 0x00 ∷ 0x06 ∷ 0x02 ∷ 0x00 ∷ 0x00 ∷ 0x00 ∷ 0x01 ∷ 0x00 ∷ 0x00 ∷ 0x00 ∷ []) ∷
     []
 
 -- the words of the nodes 2 to 5: "words 1, 0, 1", of Change(1, 2), "words 2, 2, 1", "words 2, 1, 2"
@@ -61,20 +63,20 @@ workedWords = 1 ∷ 0 ∷ 1 ∷ 2 ∷ 0 ∷ 1 ∷ 2 ∷ 2 ∷ 1 ∷ 2 ∷ 1 ∷ 
 abbrev pub workedLookup : List ℕ
 workedLookup = 3 ∷ 2 ∷ 5 ∷ 0 ∷ 4 ∷ 0 ∷ 0 ∷ []
 
--- The list over the definitions, with any part of the cache lent to its calls.
-pub record WorkedList (lent : ℕ) : Type 0 where
+-- The list over the definitions.
+pub record WorkedList : Type 0 where
   -- "Fresh with 12 node words and 7 lookup words has capacity 4."
   pub capacity-is : capacityOf 12 ≡ 4
-  pub answers-are : answersOf 4 (worked lent) ≡ workedAnswers
+  pub answers-are : answersOf 4 worked ≡ workedAnswers
   -- "The store now holds 4."
-  pub count-is : length (bookOfCalls 4 (worked lent)) ≡ 4 + 2
-  pub words-are : wordsOf (bookOfCalls 4 (worked lent)) ≡ workedWords
+  pub count-is : length (bookOfCalls 4 worked) ≡ 4 + 2
+  pub words-are : wordsOf (bookOfCalls 4 worked) ≡ workedWords
   -- "The wrapped sum is 8,302,008, the slot 1."
   pub sum-is : _≡_ {A = ℕ} ((mixOf 1 + 65599 * (0 + 65599 * 1)) % 2 ^ 32) 8302008
   pub slot-is : startOf 1 0 1 7 ≡ 1
-  pub lookup-is : lookupOf 7 (bookOfCalls 4 (worked lent)) ≡ workedLookup
+  pub lookup-is : lookupOf 7 (bookOfCalls 4 worked) ≡ workedLookup
 
--- What every store of these lengths has after these calls.
+-- What every store of these lengths has after these calls, whatever parts of the cache they were lent.
 pub record WorkedStore (answers : List Answer) (x : State) : Type 0 where
   pub answers-are : answers ≡ workedAnswers
   pub count-is : x .store .count ≡ 4
@@ -82,5 +84,5 @@ pub record WorkedStore (answers : List Answer) (x : State) : Type 0 where
   pub lookup-is : x .lookup ≡ workedLookup
 
 abbrev pub WorkedClaim : Type 0
-WorkedClaim = (nodes lookup cache : List ℕ) (lent : ℕ) (answers : List Answer) (x : State)
-    → length nodes ≡ 12 → length lookup ≡ 7 → Runs nodes lookup cache (worked lent) answers x → WorkedStore answers x
+WorkedClaim = (nodes lookup cache : List ℕ) (answers : List Answer) (x : State)
+    → length nodes ≡ 12 → length lookup ≡ 7 → Runs nodes lookup cache worked answers x → WorkedStore answers x

@@ -1,6 +1,6 @@
 -- The ways out of `fork_at`: both operands split at their larger top, or words that hold no book.
 -- Two different operands that are no {} cannot both lack items, so the level is an item.
-use Prim.Native.Nat.{ℕ, zero, suc, _+_, _≤_, _<_, max}
+use Prim.Native.Nat.{ℕ, zero, suc, _+_, _≤_, _<_}
 use mathlib.Core.Path.{_≡_}
 use mathlib.Core.List.{List}
 use native.Mathlib.Omega.{arith}
@@ -12,7 +12,7 @@ use Rattle.store.proofs.Held.{within, at-node, top-node}
 use Rattle.op_cache.specs.declared.Call.{Call}
 use Rattle.op_families.specs.declared.recursion.Fork.{Fork}
 use Rattle.op_families.specs.declared.recursion.Fork.the-variants.{Two, Broken}
-use Rattle.op_families.specs.Inner.{ForkOf, two, broken, Proper, Forked}
+use Rattle.op_families.specs.Inner.{ForkOf, two, broken, ForkAsks, Forked}
 
 -- what a fork says, by the answer that was given
 pub fork-two : {nodes : List ℕ} {n : ℕ} {call : Call} {level p₀ q₀ top₀ p₁ q₁ top₁ : ℕ} {x : Fork} → x ≡ Two p₀ q₀ top₀ p₁ q₁ top₁ → ForkOf nodes n call level x → Forked nodes n call level p₀ q₀ top₀ p₁ q₁ top₁
@@ -34,14 +34,14 @@ leaf-handle H (suc zero) l e = omega arith
 leaf-handle {B} {n} {nodes} H (suc (suc p)) l e =
     absurd (let w = rw (at-node H (suc (suc p)) (omega arith) (omega arith)) at (within H (suc (suc p)) (omega arith)) in omega (arith, w .ordered .0, top-node nodes (suc (suc p)) (omega arith)))
 
-module _ (nodes : List ℕ) (n : ℕ) (call : Call) (level : ℕ) (lp : call .p ≤ n + 1) (lq : call .q ≤ n + 1) (is : level ≡ max (topAt nodes (call .p)) (topAt nodes (call .q))) (proper : Proper call) where
+module _ {nodes : List ℕ} {n : ℕ} {call : Call} {level : ℕ} (A : ForkAsks nodes n call level) where
   pub no-level : level ≡ 0 → ForkOf nodes n call level Broken
-  no-level e = broken (λ B lookup H. proper .apart (same H))
+  no-level e = broken (λ B lookup H. A .proper .apart (same H))
     where
       same : {B : List Family} {lookup : List ℕ} → Holds B n nodes lookup → call .p ≡ call .q
       same H =
-          let a = leaf-handle H (call .p) lp (omega arith) in
-          let b = leaf-handle H (call .q) lq (omega arith) in
-          let c = proper .first in
-          let d = proper .second in
+          let a = leaf-handle H (call .p) (A .first) (omega (arith, A .level-is)) in
+          let b = leaf-handle H (call .q) (A .second) (omega (arith, A .level-is)) in
+          let c = A .proper .first in
+          let d = A .proper .second in
           omega arith

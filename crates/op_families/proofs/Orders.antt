@@ -8,10 +8,16 @@ use Rattle.family.specs.Operation.{combine}
 use Rattle.family.specs.Book.{at}
 use Rattle.store.specs.Cache.{rule}
 use Rattle.op_cache.specs.declared.Call.{Call}
-use Rattle.op_families.specs.Inner.{OrderedAs, Shortcut}
+use Rattle.op_families.specs.Inner.{FamilyOperation, OrderedAs, Shortcut}
 use Rattle.store.proofs.Naming.{named-families, families-swap, both-same, both-none, first-union, first-none, second-none, second-same}
 
-module _ (call : Call) (l : 4 ≤ call .op) (m : call .op ≤ 6) where
+module _ (call : Call) (O : FamilyOperation (call .op)) where
+  l : 4 ≤ call .op
+  l = O .some
+
+  m : call .op ≤ 6
+  m = O .low
+
   pub as-asked : OrderedAs call call
   as-asked = record { op-is = refl; operands = inl (refl, refl); named-is = λ B f g. refl }
 

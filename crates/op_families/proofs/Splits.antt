@@ -1,40 +1,45 @@
 -- An operation on two families is the node of the operations on their two sides: the step of its recursion.
 -- The sides that the words give are those of the families, and combining goes part by part.
-use Prim.Native.Nat.{ℕ, _+_, _-_, _≤_, max}
-use mathlib.Core.Path.{_≡_, ap, _∙_}
+use Prim.Native.Nat.{ℕ, _-_, _≤_}
+use mathlib.Core.Path.{ap, _∙_}
 use mathlib.Core.List.{List}
 use native.Mathlib.Omega.{arith}
 use Rattle.family.specs.Family.{top}
 use Rattle.family.specs.Book.{at}
-use Rattle.store.specs.Words.{topAt}
 use Rattle.op_cache.specs.declared.Call.{Call}
 use Rattle.op_families.specs.Inner.{Forked}
 use Rattle.store.proofs.Naming.{named-families, families-step, families-within}
+use Rattle.store.specs.declared.record.Store.{Store}
+use Rattle.op_families.specs.Inner.{FamilyCall, ApplyAsks}
 use Rattle.op_step.proofs.Steps.{of, Taken, Split}
 use Rattle.store.proofs.Held.{low-at}
 
-module _ (call : Call) (n : ℕ) (nodes : List ℕ) (level : ℕ) (lp : call .p ≤ n + 1) where
-  -- two families
-  module _ (l : 4 ≤ call .op) (m : call .op ≤ 6) (lq : call .q ≤ n + 1) where
-    pub taken-families : Taken call n
-    taken-families = record { operation = (omega arith, omega arith); first = omega arith; second = (λ k. absurd (omega arith), λ k. omega arith) }
+module _ {call : Call} {level : ℕ} {s : Store} {nodes lookup : List ℕ} (A : ApplyAsks call level s nodes lookup) where
+  I : FamilyCall call s nodes lookup
+  I = A .taken
 
-    pub split-families : {p₀ q₀ top₀ p₁ q₁ top₁ : ℕ} (lookup : List ℕ) → level ≡ max (topAt nodes (call .p)) (topAt nodes (call .q)) → Forked nodes n call level p₀ q₀ top₀ p₁ q₁ top₁
-        → Split call (record { op = call .op; p = p₀; q = q₀ }) (record { op = call .op; p = p₁; q = q₁ }) level n nodes lookup
-    split-families {p₀} {q₀} {top₀} {p₁} {q₁} {top₁} lookup e K =
-        record {
-          taken = taken-families;
-          other = record { operation = (omega arith, omega arith); first = omega (arith, K .first .one-within); second = (λ k. absurd (omega arith), λ k. omega (arith, K .second .one-within)) };
-          is = λ B H.
-              named-families (call .op) B (call .p) (call .q) l
-              ∙ families-step (call .op) level (at B (call .p)) (at B (call .q)) (low-at H (call .p) level lp (omega arith)) (low-at H (call .q) level lq (omega arith)) (K .some)
-              ∙ rw (← K .first .lacks B lookup H, ← K .first .holds B lookup H, ← K .second .lacks B lookup H, ← K .second .holds B lookup H, named-families (call .op) B p₀ q₀ l, named-families (call .op) B p₁ q₁ l);
-          low = λ B H.
-              let w = families-within (call .op) (at B p₀) (at B q₀) (low-at H p₀ (level - 1) (K .first .zero-within) (omega (arith, K .first .zero-below, K .first .ztop)))
-              (low-at H q₀ (level - 1) (K .second .zero-within) (omega (arith, K .second .zero-below, K .second .ztop))) in
-              omega (arith, ap top (named-families (call .op) B p₀ q₀ l), w .low, K .some);
-          high = λ B H.
-              let w = families-within (call .op) (at B p₁) (at B q₁) (low-at H p₁ (level - 1) (K .first .one-within) (omega (arith, K .first .one-below, K .first .otop)))
-              (low-at H q₁ (level - 1) (K .second .one-within) (omega (arith, K .second .one-below, K .second .otop))) in
-              omega (arith, ap top (named-families (call .op) B p₁ q₁ l), w .low, K .some);
-        }
+  l : 4 ≤ call .op
+  l = I .operation .some
+
+  pub taken-families : Taken call (s .count)
+  taken-families = record { operation = (omega arith, omega arith); first = omega arith; second = (λ k. absurd (omega arith), λ k. omega arith) }
+
+  pub split-families : {p₀ q₀ top₀ p₁ q₁ top₁ : ℕ} → Forked nodes (s .count) call level p₀ q₀ top₀ p₁ q₁ top₁
+      → Split call (record { op = call .op; p = p₀; q = q₀ }) (record { op = call .op; p = p₁; q = q₁ }) level (s .count) nodes lookup
+  split-families {p₀} {q₀} {top₀} {p₁} {q₁} {top₁} K =
+      record {
+        taken = taken-families;
+        other = record { operation = (omega arith, omega arith); first = omega (arith, K .first .one-within); second = (λ k. absurd (omega arith), λ k. omega (arith, K .second .one-within)) };
+        is = λ B H.
+            named-families (call .op) B (call .p) (call .q) l
+            ∙ families-step (call .op) level (at B (call .p)) (at B (call .q)) (low-at H (call .p) level (I .first) (omega (arith, A .level-is))) (low-at H (call .q) level (I .second) (omega (arith, A .level-is))) (K .some)
+            ∙ rw (← K .first .lacks B lookup H, ← K .first .holds B lookup H, ← K .second .lacks B lookup H, ← K .second .holds B lookup H, named-families (call .op) B p₀ q₀ l, named-families (call .op) B p₁ q₁ l);
+        low = λ B H.
+            let w = families-within (call .op) (at B p₀) (at B q₀) (low-at H p₀ (level - 1) (K .first .zero-within) (omega (arith, K .first .zero-below, K .first .ztop)))
+            (low-at H q₀ (level - 1) (K .second .zero-within) (omega (arith, K .second .zero-below, K .second .ztop))) in
+            omega (arith, ap top (named-families (call .op) B p₀ q₀ l), w .low, K .some);
+        high = λ B H.
+            let w = families-within (call .op) (at B p₁) (at B q₁) (low-at H p₁ (level - 1) (K .first .one-within) (omega (arith, K .first .one-below, K .first .otop)))
+            (low-at H q₁ (level - 1) (K .second .one-within) (omega (arith, K .second .one-below, K .second .otop))) in
+            omega (arith, ap top (named-families (call .op) B p₁ q₁ l), w .low, K .some);
+      }

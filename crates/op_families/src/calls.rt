@@ -1,16 +1,16 @@
 // Union, Intsec and Diff: what refuses them, the recursion, and the end of the call.
-ghost use Prim.Native.Nat.{_≤_};
+ghost use Rattle.op_families.specs.Inner.{FamilyOperation};
 ghost use Rattle.op_promise.specs.Promise.{OperationCall};
 use op_cache::Call;
 use crate::recursion::apply;
 use crate::recursion::larger;
-use op_promise::Test;
-use op_promise::tested;
 use store_undo::finish;
 use store::node::top_of;
 use store::record::Placed;
 use store::record::Refusal;
 use store::record::Store;
+use store::tests::Test;
+use store::tests::tested;
 
 // An operation on two families.
 fn of_families(
@@ -22,10 +22,10 @@ fn of_families(
     p: u32,
     q: u32,
 ) -> Placed
-    requires { ⌜ (4 ≤ op) × (op ≤ 6) ⌝ }
+    requires { ⌜ FamilyOperation op ⌝ }
     ensures { λ r. ⌜ OperationCall op p q store (now (nodes .entry)) (now (lookup .entry)) (now (cache .entry)) r (now (nodes .exit)) (now (lookup .exit)) (now (cache .exit)) ⌝ }
 {
-    let found = tested(op, store, nodes.len(), lookup.len(), p, q);
+    let found = tested(store, nodes.len(), lookup.len(), p, q, Test::Clear, 0, 0);
     if let Test::Refuses(refusal) = found {
         return store.refused(refusal);
     }

@@ -1,11 +1,9 @@
 // Union (4), Intsec (5) and Diff (6): the recursion on the two sides; the larger top item falls at each call.
 ghost use mathlib.Core.Path.{_≡_};
-ghost use Prim.Native.Nat.{_+_, _*_, _<_, _≤_, max};
-ghost use lib.ListN.{length};
-ghost use Rattle.store.specs.Words.{itemLimit, topAt};
+ghost use Prim.Native.Nat.{_<_, max};
 ghost use Rattle.store.specs.Cache.{named};
-ghost use Rattle.store.specs.Inner.{Roomy, Ran};
-ghost use Rattle.op_families.specs.Inner.{ForkOf, Proper};
+ghost use Rattle.store.specs.Inner.{Ran};
+ghost use Rattle.op_families.specs.Inner.{ForkAsks, ApplyAsks, ExpandAsks, ForkOf};
 use op_cache::Call;
 use op_cache::Recalled;
 use op_cache::recall;
@@ -41,9 +39,7 @@ pub enum Fork {
 
 // The sides of both operands at their larger top.
 fn fork_at(nodes: &[u32], count: u32, call: Call, level: u32) -> Fork
-    requires { ⌜ (call .p ≤ count + 1) × (call .q ≤ count + 1) × (3 * count ≤ length (now nodes)) × (count ≤ 1000000) ⌝ }
-    requires { ⌜ level ≡ max (topAt (now nodes) (call .p)) (topAt (now nodes) (call .q)) ⌝ }
-    requires { ⌜ Proper call ⌝ }
+    requires { ⌜ ForkAsks (now nodes) count call level ⌝ }
     ensures { λ r. ⌜ ForkOf (now (nodes .entry)) count call level r ⌝ }
 {
     if level == 0 {
@@ -84,9 +80,7 @@ pub fn apply(
     lookup: &mut [u32],
     cache: &mut [u32],
 ) -> Placed
-    requires { ⌜ Roomy store (now nodes) (now lookup) ⌝ }
-    requires { ⌜ (4 ≤ asked .op) × (asked .op ≤ 6) × (asked .p ≤ store .count + 1) × (asked .q ≤ store .count + 1) ⌝ }
-    requires { ⌜ (level ≡ max (topAt (now nodes) (asked .p)) (topAt (now nodes) (asked .q))) × (level ≤ itemLimit) ⌝ }
+    requires { ⌜ ApplyAsks asked level store (now nodes) (now lookup) ⌝ }
     ensures { λ r. ⌜ Ran (λ B. named (asked .op) B (asked .p) (asked .q)) store (now (nodes .entry)) (now (lookup .entry)) (now (cache .entry)) r (now (nodes .exit)) (now (lookup .exit)) (now (cache .exit)) ⌝ }
 {
     let call = ordered(asked);
@@ -108,10 +102,7 @@ fn expand(
     lookup: &mut [u32],
     cache: &mut [u32],
 ) -> Placed
-    requires { ⌜ Roomy store (now nodes) (now lookup) ⌝ }
-    requires { ⌜ (4 ≤ call .op) × (call .op ≤ 6) × (call .p ≤ store .count + 1) × (call .q ≤ store .count + 1) ⌝ }
-    requires { ⌜ (level ≡ max (topAt (now nodes) (call .p)) (topAt (now nodes) (call .q))) × (level ≤ itemLimit) ⌝ }
-    requires { ⌜ Proper call ⌝ }
+    requires { ⌜ ExpandAsks call level store (now nodes) (now lookup) ⌝ }
     ensures { λ r. ⌜ Ran (λ B. named (call .op) B (call .p) (call .q)) store (now (nodes .entry)) (now (lookup .entry)) (now (cache .entry)) r (now (nodes .exit)) (now (lookup .exit)) (now (cache .exit)) ⌝ }
 {
     match fork_at(nodes, store.count, call, level) {

@@ -1,12 +1,11 @@
 // Union (4), Intsec (5) and Diff (6): the order of the operands, and the cases that need no recursion.
-ghost use Prim.Native.Nat.{_≤_};
-ghost use Rattle.op_families.specs.Inner.{OrderedAs, ShortcutOf};
+ghost use Rattle.op_families.specs.Inner.{FamilyOperation, OrderedAs, ShortcutOf};
 use op_cache::Call;
 use op_cache::Recalled;
 
 // The operands of Union and Intsec in rising order: one group of the cache serves both orders.
 pub fn ordered(call: Call) -> Call
-    requires { ⌜ (4 ≤ call .op) × (call .op ≤ 6) ⌝ }
+    requires { ⌜ FamilyOperation (call .op) ⌝ }
     ensures { λ r. ⌜ OrderedAs call r ⌝ }
 {
     if call.op == 6 {
@@ -24,7 +23,7 @@ pub fn ordered(call: Call) -> Call
 
 // Document 001's terminal cases: the result where a family is {} or both are the same.
 pub fn shortcut(call: Call) -> Recalled
-    requires { ⌜ (4 ≤ call .op) × (call .op ≤ 6) ⌝ }
+    requires { ⌜ FamilyOperation (call .op) ⌝ }
     ensures { λ r. ⌜ ShortcutOf call r ⌝ }
 {
     if call.p == call.q {

@@ -1,15 +1,16 @@
 // Subset1, Subset0 and Change: what refuses them, the recursion, and the end of the call.
-ghost use Prim.Native.Nat.{_≤_};
+ghost use Rattle.op_items.specs.Inner.{ItemOperation};
 ghost use Rattle.op_promise.specs.Promise.{OperationCall};
 use op_cache::Call;
 use crate::recursion::restrict;
-use op_promise::Test;
-use op_promise::tested;
 use store_undo::finish;
 use store::node::top_of;
 use store::record::Placed;
 use store::record::Refusal;
 use store::record::Store;
+use store::tests::Test;
+use store::tests::item_test;
+use store::tests::tested;
 
 // An operation on a family and an item.
 fn of_item(
@@ -21,10 +22,11 @@ fn of_item(
     p: u32,
     item: u32,
 ) -> Placed
-    requires { ⌜ (1 ≤ op) × (op ≤ 3) ⌝ }
+    requires { ⌜ ItemOperation op ⌝ }
     ensures { λ r. ⌜ OperationCall op p item store (now (nodes .entry)) (now (lookup .entry)) (now (cache .entry)) r (now (nodes .exit)) (now (lookup .exit)) (now (cache .exit)) ⌝ }
 {
-    let found = tested(op, store, nodes.len(), lookup.len(), p, item);
+    let own = item_test(item);
+    let found = tested(store, nodes.len(), lookup.len(), p, 0, own, 0, 0);
     if let Test::Refuses(refusal) = found {
         return store.refused(refusal);
     }

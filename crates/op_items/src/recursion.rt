@@ -1,9 +1,8 @@
 // Subset1 (1), Subset0 (2) and Change (3): the recursion on the two sides; the top item falls at each call.
-ghost use mathlib.Core.Path.{_≡_};
-ghost use Prim.Native.Nat.{_+_, _<_, _≤_};
-ghost use Rattle.store.specs.Words.{itemLimit, topAt};
+ghost use Rattle.op_items.specs.Inner.{RestrictAsks, ExpandAsks};
+ghost use Prim.Native.Nat.{_<_};
 ghost use Rattle.store.specs.Cache.{named};
-ghost use Rattle.store.specs.Inner.{Roomy, Ran};
+ghost use Rattle.store.specs.Inner.{Ran};
 use op_cache::Call;
 use op_cache::Recalled;
 use op_cache::recall;
@@ -26,9 +25,7 @@ pub fn restrict(
     lookup: &mut [u32],
     cache: &mut [u32],
 ) -> Placed
-    requires { ⌜ Roomy store (now nodes) (now lookup) ⌝ }
-    requires { ⌜ (1 ≤ call .op) × (call .op ≤ 3) × (call .p ≤ store .count + 1) × (1 ≤ call .q) × (call .q ≤ itemLimit) ⌝ }
-    requires { ⌜ (level ≡ topAt (now nodes) (call .p)) × (level ≤ itemLimit) ⌝ }
+    requires { ⌜ RestrictAsks call level store (now nodes) (now lookup) ⌝ }
     ensures { λ r. ⌜ Ran (λ B. named (call .op) B (call .p) (call .q)) store (now (nodes .entry)) (now (lookup .entry)) (now (cache .entry)) r (now (nodes .exit)) (now (lookup .exit)) (now (cache .exit)) ⌝ }
 {
     if level < call.q {
@@ -52,9 +49,7 @@ fn expand(
     lookup: &mut [u32],
     cache: &mut [u32],
 ) -> Placed
-    requires { ⌜ Roomy store (now nodes) (now lookup) ⌝ }
-    requires { ⌜ (1 ≤ call .op) × (call .op ≤ 3) × (call .p ≤ store .count + 1) × (1 ≤ call .q) × (call .q ≤ itemLimit) ⌝ }
-    requires { ⌜ (level ≡ topAt (now nodes) (call .p)) × (level ≤ itemLimit) × (call .q < level) ⌝ }
+    requires { ⌜ ExpandAsks call level store (now nodes) (now lookup) ⌝ }
     ensures { λ r. ⌜ Ran (λ B. named (call .op) B (call .p) (call .q)) store (now (nodes .entry)) (now (lookup .entry)) (now (cache .entry)) r (now (nodes .exit)) (now (lookup .exit)) (now (cache .exit)) ⌝ }
 {
     match sides_at(nodes, store.count, call.p, level) {

@@ -1,3 +1,1 @@
--- What the contracts of `op_promise` cite.
 pub mod Promise
-pub mod Inner

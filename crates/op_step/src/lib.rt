@@ -1,15 +1,12 @@
 // The end of a step of the recursions of document 001, and the laws of their steps.
-ghost use Prim.Native.Nat.{ℕ, _+_, _≤_};
-ghost use mathlib.Core.Path.{_≡_};
 ghost use Rattle.store.specs.declared.record.PlaceAnswer;
-ghost use Rattle.store.specs.Words.{itemLimit};
-ghost use Rattle.store.specs.Inner.{Roomy};
 ghost use Rattle.op_step.specs.Inner.{Joined, RememberedAnswer};
 use op_cache::Call;
 use op_cache::remember;
 use store_node::getnode::get_node;
 use store::record::PlaceAnswer;
 use store::record::Placed;
+ghost use Rattle.op_step.specs.Inner.{JoinAsks};
 
 // Keeps the answer of a call in the cache, where it is a handle.
 fn remember_answer(cache: &mut [u32], call: Call, answer: PlaceAnswer)
@@ -30,8 +27,7 @@ pub fn join(
     level: u32,
     zero: u32,
 ) -> Placed
-    requires { ⌜ Roomy (second .store) (now nodes) (now lookup) ⌝ }
-    requires { ⌜ (1 ≤ level) × (level ≤ itemLimit) × (zero ≤ second .store .count + 1) × ((h : ℕ) → second .answer ≡ PlaceAnswer.Handle h → h ≤ second .store .count + 1) ⌝ }
+    requires { ⌜ JoinAsks second (now nodes) (now lookup) level zero ⌝ }
     ensures { λ r. ⌜ Joined second (now (nodes .entry)) (now (lookup .entry)) (now (cache .entry)) call level zero r (now (nodes .exit)) (now (lookup .exit)) (now (cache .exit)) ⌝ }
 {
     let answer = second.answer;

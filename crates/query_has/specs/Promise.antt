@@ -1,9 +1,9 @@
 -- The promise of Has: document 01, 'Calls' and 'Numbers and trade words'.
-use Prim.Native.Nat.{ℕ, _+_, _-_}
+use Prim.Native.Nat.{ℕ, _-_}
 use mathlib.Core.Path.{_≡_}
 use mathlib.Core.Bool.{Bool, true, false, cond}
 use mathlib.Core.List.{List, []}
-use lib.Dec.{ltb}
+use lib.Dec.{eqb}
 use lib.ListN.{length}
 use Rattle.family.specs.Family.{Family, has}
 use Rattle.family.specs.Book.{at}
@@ -16,6 +16,7 @@ use Rattle.store.specs.Sound.{Sound}
 use Rattle.query_has.specs.declared.HasAnswer.{HasAnswer}
 use Rattle.query_has.specs.declared.HasAnswer.the-variants.{Yes, No, Refused}
 use Rattle.query_has.specs.declared.Asked.{Asked}
+use Rattle.store.specs.Tests.{testsOf}
 
 -- what Has gives besides the record: the refusal's number, 0 where there is none, and yes or no, no where it is refused
 pub record HasGiven : Type 0 where
@@ -27,9 +28,13 @@ hasGivenBy Yes = record { refusal = 0; member = true }
 hasGivenBy No = record { refusal = 0; member = false }
 hasGivenBy (Refused r) = record { refusal = refusalNumber r; member = false }
 
--- "Has(P, c) says yes exactly when c is in P"; 4: "a handle above count + 1", where the count is the book's length less 2
+-- the tests of Has, for the book that the store holds: one handle, and no scratch
+unfoldable pub hasRefusal : List Family → ℕ → ℕ
+hasRefusal B p = testsOf (length B - 2) p 0 0 0 0
+
+-- "Has(P, c) says yes exactly when c is in P"
 unfoldable pub hasAnswer : List Family → ℕ → List ℕ → HasGiven
-hasAnswer B p c = cond (ltb (length B - 2 + 1) p) (record { refusal = 4; member = false }) (record { refusal = 0; member = has (at B p) c })
+hasAnswer B p c = record { refusal = hasRefusal B p; member = cond (eqb (hasRefusal B p) 0) (has (at B p) c) false }
 
 -- Has's promise. It changes no word, and hands the record back as it came.
 pub record HasCall (s : Store) (nodes lookup : List ℕ) (p : ℕ) (c : List ℕ) (r : Asked) : Type 0 where

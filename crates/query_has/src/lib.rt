@@ -3,12 +3,15 @@ ghost use mathlib.Core.Path.{_≡_};
 ghost use mathlib.Core.Bool.{false};
 ghost use Prim.Native.Nat.{_+_, _*_, _≤_};
 ghost use lib.ListN.{length};
+ghost use Rattle.store.specs.Inner.{WalkAsks};
 ghost use Rattle.family.specs.Combination.{isNone, itemsOf};
 ghost use Rattle.query_has.specs.Promise.{HasCall};
 ghost use Rattle.query_has.specs.Inner.{Memberly, Stepped};
 use combination::Combination;
 use store::record::Refusal;
 use store::record::Store;
+use store::tests::Test;
+use store::tests::tested;
 
 // What Has answers.
 pub enum HasAnswer {
@@ -59,7 +62,7 @@ fn ends(at: u32, rest: Combination) -> bool
 
 // Whether the combination is a member of p: one way down, at most 512 nodes.
 fn is_member(nodes: &[u32], count: u32, p: u32, combination: Combination) -> bool
-    requires { ⌜ (p ≤ count + 1) × (3 * count ≤ length (now nodes)) × (count ≤ 1000000) ⌝ }
+    requires { ⌜ WalkAsks (now nodes) count p ⌝ }
     ensures { λ r. ⌜ Memberly (now (nodes .entry)) count p (itemsOf (combination .words)) r ⌝ }
 {
     let mut way = Way {
@@ -87,16 +90,11 @@ fn is_member(nodes: &[u32], count: u32, p: u32, combination: Combination) -> boo
 pub fn has(store: Store, nodes: &[u32], lookup: &[u32], p: u32, combination: Combination) -> Asked
     ensures { λ r. ⌜ HasCall store (now (nodes .entry)) (now (lookup .entry)) p (itemsOf (combination .words)) r ⌝ }
 {
-    if !store.fits(nodes.len(), lookup.len()) {
+    let found = tested(store, nodes.len(), lookup.len(), p, 0, Test::Clear, 0, 0);
+    if let Test::Refuses(refusal) = found {
         return Asked {
             store: store,
-            answer: HasAnswer::Refused(Refusal::Damaged),
-        };
-    }
-    if !store.holds(p) {
-        return Asked {
-            store: store,
-            answer: HasAnswer::Refused(Refusal::Handle),
+            answer: HasAnswer::Refused(refusal),
         };
     }
     if is_member(nodes, store.count, p, combination) {

@@ -5,6 +5,8 @@ use query_sizes::fill_sizes;
 use query_sizes::size_at;
 use store::record::Refusal;
 use store::record::Store;
+use store::tests::Test;
+use store::tests::tested;
 
 // What Size answers.
 pub enum SizeAnswer {
@@ -22,23 +24,21 @@ pub struct Measured {
 pub fn size(store: Store, nodes: &[u32], lookup: &[u32], p: u32, sizes: &mut [u64]) -> Measured
     ensures { λ r. ⌜ SizeCall store (now (nodes .entry)) (now (lookup .entry)) p (now (sizes .entry)) r (now (sizes .exit)) ⌝ }
 {
-    if !store.fits(nodes.len(), lookup.len()) {
-        return Measured {
-            store: store,
-            answer: SizeAnswer::Refused(Refusal::Damaged),
-        };
-    }
-    if !store.holds(p) {
-        return Measured {
-            store: store,
-            answer: SizeAnswer::Refused(Refusal::Handle),
-        };
-    }
     let count = store.count;
-    if sizes.len() < count as usize {
+    let found = tested(
+        store,
+        nodes.len(),
+        lookup.len(),
+        p,
+        0,
+        Test::Clear,
+        sizes.len(),
+        count as usize,
+    );
+    if let Test::Refuses(refusal) = found {
         return Measured {
             store: store,
-            answer: SizeAnswer::Refused(Refusal::Scratch),
+            answer: SizeAnswer::Refused(refusal),
         };
     }
     fill_sizes(nodes, sizes, count);

@@ -1,5 +1,5 @@
 -- What the functions below Size promise each other. A reader of the promise can pass this page over.
-use Prim.Native.Nat.{ℕ, _+_, _-_, _≤_, _<_, min}
+use Prim.Native.Nat.{ℕ, _+_, _-_, _≤_, _<_, min, _*_}
 use mathlib.Core.Path.{_≡_}
 use mathlib.Core.Bool.{Bool}
 use mathlib.Core.List.{List}
@@ -13,6 +13,12 @@ use Rattle.query_sizes.specs.NodeSizes.{most}
 -- the words of the first j of n nodes are their sizes
 abbrev pub SizesTo : List ℕ → ℕ → ℕ → List ℕ → Type 0
 SizesTo nodes n j sizes = (B : List Family) (lookup : List ℕ) → Holds B n nodes lookup → (k : ℕ) → k < j → getD sizes k 0 ≡ min (size (at B (k + 2))) most
+
+-- the words of the nodes held, and a word for each
+pub record FillAsks (nodes sizes : List ℕ) (count : ℕ) : Type 0 where
+  pub words : 3 * count ≤ length nodes
+  pub scratch : count ≤ length sizes
+  pub small : count ≤ 1000000
 
 -- the first j words are filled, the later ones as they were
 pub record Filled (nodes : List ℕ) (n j : ℕ) (sizes sizes′ : List ℕ) : Type 0 where

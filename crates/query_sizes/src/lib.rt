@@ -1,10 +1,10 @@
 // The sizes of the nodes held, each from those of its sides; and whether one is above the largest number.
 ghost use mathlib.Core.Path.{_≡_};
-ghost use Prim.Native.Nat.{_+_, _*_, _≤_, min};
-ghost use lib.ListN.{length};
+ghost use Prim.Native.Nat.{_+_, _*_, min};
+ghost use Rattle.store.specs.Inner.{WalkAsks};
 ghost use Rattle.query_sizes.specs.NodeSizes.{most};
 ghost use Rattle.store.specs.Words.{wordOf};
-ghost use Rattle.query_sizes.specs.Inner.{Filled, Exceeding};
+ghost use Rattle.query_sizes.specs.Inner.{FillAsks, Filled, Exceeding};
 
 // The size of a handle, from the words of the nodes before; 0 where no word has it.
 pub fn size_at(sizes: &[u64], handle: u32) -> u64
@@ -32,7 +32,7 @@ fn capped_sum(a: u64, b: u64) -> u64
 
 // Fills word j with the size of node j + 2, at most 2^64 - 1, for every node held.
 pub fn fill_sizes(nodes: &[u32], sizes: &mut [u64], count: u32)
-    requires { ⌜ (3 * count ≤ length (now nodes)) × (count ≤ length (now sizes)) × (count ≤ 1000000) ⌝ }
+    requires { ⌜ FillAsks (now nodes) (now sizes) count ⌝ }
     ensures { λ _. ⌜ Filled (now (nodes .entry)) count count (now (sizes .entry)) (now (sizes .exit)) ⌝ }
 {
     let mut j: u32 = 0;
@@ -47,7 +47,7 @@ pub fn fill_sizes(nodes: &[u32], sizes: &mut [u64], count: u32)
 
 // Whether a size whose word is 2^64 - 1 is above that: where the zero side is {}, the one side's size decides.
 pub fn exceeds(nodes: &[u32], sizes: &[u64], count: u32, p: u32) -> bool
-    requires { ⌜ (p ≤ count + 1) × (3 * count ≤ length (now nodes)) × (count ≤ 1000000) ⌝ }
+    requires { ⌜ WalkAsks (now nodes) count p ⌝ }
     ensures { λ r. ⌜ Exceeding (now (nodes .entry)) (now (sizes .entry)) count p r ⌝ }
 {
     let mut at = p;

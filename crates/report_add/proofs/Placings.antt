@@ -24,7 +24,8 @@ use Rattle.store.specs.Placing.{tooLarge, placeAnswer, placeBook}
 use Rattle.store.specs.Promise.{leaves, placing, PlaceCall}
 use Rattle.store.proofs.Decoding.{sound-holds}
 use Rattle.store.proofs.Recovering.{book-of-words}
-use Rattle.op_promise.specs.Promise.{isItem, operationRefusal, OperationCall}
+use Rattle.store.specs.Tests.{isItem, testsOf}
+use Rattle.op_promise.specs.Promise.{operationRefusal, OperationCall}
 use Rattle.report_add.specs.Promise.{called, After}
 
 -- the two ways that a call has which nothing refuses before it places
@@ -53,9 +54,14 @@ module _ (F : Family) (s : Store) (nodes lookup : List ℕ) where
   unfolding called
   placed-new t = rw t
 
+-- handles that are held and an item pass the tests
 item-taken : (count p v : ℕ) → p ≤ count + 1 → 0 < v → v ≤ 512 → operationRefusal 3 count p v ≡ 0
-unfolding operationRefusal isItem
-item-taken count p v lp n l = rw (le-ltb (count + 1) p lp, lt-ltb 0 v n, le-leb v 512 l)
+unfolding operationRefusal testsOf isItem
+item-taken count p v lp n l = rw (le-ltb (count + 1) p lp, le-ltb (count + 1) 0 (omega arith), lt-ltb 0 v n, le-leb v 512 l)
+
+handles-taken : (op count p q : ℕ) → 4 ≤ op → p ≤ count + 1 → q ≤ count + 1 → operationRefusal op count p q ≡ 0
+unfolding operationRefusal testsOf
+handles-taken op count p q n lp lq = rw (le-ltb op 4 n, le-ltb (count + 1) p lp, le-ltb (count + 1) q lq)
 
 module _ {s : Store} {nodes lookup cache : List ℕ} (S : Sound s nodes lookup cache) where
   book : Book itemLimit (bookOf nodes (s .count))
@@ -107,7 +113,7 @@ module _ {s : Store} {nodes lookup cache : List ℕ} (S : Sound s nodes lookup c
     -- Union, Intsec and Diff
     pub combine-after : (op : ℕ) → 4 ≤ op → (rule op false false ≡ false) → (q : ℕ) → q ≤ s .count + 1 → OperationCall op p q s nodes lookup cache r nodes′ lookup′ cache′
         → After (s .capacity) r nodes′ lookup′ cache′ (called (s .capacity) (bookOf nodes (s .count)) (combine (rule op) (at (bookOf nodes (s .count)) p) (at (bookOf nodes (s .count)) q)))
-    unfolding named operationRefusal
+    unfolding named restrict
     combine-after op n f q lq P =
         placed-after (within-combine (rule op) f _ _ (handle-within p lp) (handle-within q lq))
-        (rw (le-ltb (s .count + 1) p lp, le-ltb (s .count + 1) q lq, le-ltb op 4 n) at P)
+        (rw (handles-taken op (s .count) p q n lp lq, le-ltb op 4 n) at P)

@@ -16,5 +16,6 @@ pub mod Sounds
 pub mod Answers
 pub mod Plain
 pub mod Calls
+pub mod Testing
 pub mod Tested
 pub mod Recovering

@@ -27,7 +27,7 @@ flat-has B (F ∷ Fs) rest (suc k) l =
 
 module _ {limit : ℕ} (C : List Family) (book : Book limit C) (rest : List ℕ) where
   -- the word of the family numbered m + 2 is its top, and the other two are its sides' numbers
-  words-has : (m : ℕ) → m + 2 < length C → Has (wordsOf C ++ rest) m (top (at C (2 + m))) (number C (withoutSide (at C (2 + m)))) (number C (withSide (at C (2 + m))))
+  pub words-has : (m : ℕ) → m + 2 < length C → Has (wordsOf C ++ rest) m (top (at C (2 + m))) (number C (withoutSide (at C (2 + m)))) (number C (withSide (at C (2 + m))))
   unfolding wordsOf
   words-has m l = rw (← getD-drop 2 C m empty) (flat-has C (drop 2 C) rest m (omega (arith, length-drop 2 C)))
 

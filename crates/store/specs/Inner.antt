@@ -58,6 +58,25 @@ pub record Kept (s : Store) (nodes lookup : List ℕ) (s′ : Store) (nodes′ l
   pub below : (k : ℕ) → k < 3 * s .count → getD nodes′ k 0 ≡ getD nodes k 0
   pub above : (k : ℕ) → 3 * s′ .count ≤ k → getD nodes′ k 0 ≡ getD nodes k 0
 
+-- a handle of so many nodes, and their words
+pub record TopAsks (nodes : List ℕ) (n p : ℕ) : Type 0 where
+  pub held : p ≤ n + 1
+  pub words : 3 * n ≤ length nodes
+
+-- the same for a walk down from the handle
+pub record WalkAsks (nodes : List ℕ) (n p : ℕ) : Type 0 where
+  pub held : p ≤ n + 1
+  pub words : 3 * n ≤ length nodes
+  pub small : n ≤ 1000000
+
+-- a handle, the words of the nodes, and a level that is not below the handle's top
+pub record SidesAsks (nodes : List ℕ) (n p level : ℕ) : Type 0 where
+  pub held : p ≤ n + 1
+  pub words : 3 * n ≤ length nodes
+  pub small : n ≤ 1000000
+  pub top-low : topAt nodes p ≤ level
+  pub some : 0 < level
+
 -- the sides of p at a level, with their tops
 pub record TwoSides (nodes : List ℕ) (n p level z o zt ot : ℕ) : Type 0 where
   pub zero-within : z ≤ n + 1

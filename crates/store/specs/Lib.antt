@@ -1,6 +1,7 @@
 pub mod Capacity
 pub mod Refusals
 pub mod Words
+pub mod Tests
 pub mod Cache
 pub mod Sound
 pub mod Placing

@@ -1,11 +1,10 @@
--- The tests of Size and Save, whose scratch is "one word per node held": document 01, 'Numbers and trade words'.
-use Prim.Native.Nat.{ℕ, _+_, _-_}
-use mathlib.Core.Bool.{cond}
+-- The tests of Size and Save, whose scratch is "one word per node held": document 01, 'Calls'.
+use Prim.Native.Nat.{ℕ, _-_}
 use mathlib.Core.List.{List}
-use lib.Dec.{ltb}
 use lib.ListN.{length}
 use Rattle.family.specs.Family.{Family}
+use Rattle.store.specs.Tests.{testsOf}
 
--- "4: a handle above count + 1", then "7: scratch shorter than stated"; 0 where neither holds. The count is the book's length less 2.
+-- the tests of one handle, and of scratch with a word per node held: "the count is the book's length less 2"
 unfoldable pub scratchTests : List Family → ℕ → ℕ → ℕ
-scratchTests B p words = cond (ltb (length B - 2 + 1) p) 4 (cond (ltb words (length B - 2)) 7 0)
+scratchTests B p words = testsOf (length B - 2) p 0 0 words (length B - 2)

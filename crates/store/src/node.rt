@@ -1,13 +1,12 @@
 // Reading nodes: the top of a handle, and its two sides at an item. Every child is tested before it is handed on.
 ghost use mathlib.Core.Path.{_≡_};
-ghost use Prim.Native.Nat.{_+_, _*_, _<_, _≤_};
-ghost use lib.ListN.{length};
+ghost use Prim.Native.Nat.{_+_, _*_, _<_};
 ghost use Rattle.store.specs.Words.{topAt};
-ghost use Rattle.store.specs.Inner.{SidesOf};
+ghost use Rattle.store.specs.Inner.{TopAsks, SidesAsks, SidesOf};
 
 // The top of a handle: 0 for the handles 0 and 1.
 pub fn top_of(nodes: &[u32], count: u32, p: u32) -> u32
-    requires { ⌜ (p ≤ count + 1) × (3 * count ≤ length (now nodes)) ⌝ }
+    requires { ⌜ TopAsks (now nodes) count p ⌝ }
     ensures { λ r. ⌜ r ≡ topAt (now (nodes .entry)) p ⌝ }
 {
     if p < 2 {
@@ -29,8 +28,7 @@ pub enum Sides {
 
 // The sides of p at a level that is not below its top: its children where the level is its top, else p itself and {}.
 pub fn sides_at(nodes: &[u32], count: u32, p: u32, level: u32) -> Sides
-    requires { ⌜ (p ≤ count + 1) × (3 * count ≤ length (now nodes)) × (count ≤ 1000000) ⌝ }
-    requires { ⌜ (topAt (now nodes) p ≤ level) × (0 < level) ⌝ }
+    requires { ⌜ SidesAsks (now nodes) count p level ⌝ }
     ensures { λ r. ⌜ SidesOf (now (nodes .entry)) count p level r ⌝ }
 {
     let top = top_of(nodes, count, p);

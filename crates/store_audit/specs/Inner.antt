@@ -7,8 +7,19 @@ use Rattle.store.specs.declared.record.Store.{Store}
 use Rattle.store.specs.Words.{bookOf}
 use Rattle.store.specs.Cache.{True}
 use Rattle.store.specs.Sound.{Sound, Node}
-use lib.ListN.{getD}
+use lib.ListN.{getD, length}
 use Rattle.table.specs.Own.{ownOf}
+
+-- the words of node number k + 2
+pub record RowAsks (nodes : List ℕ) (k : ℕ) : Type 0 where
+  pub words : 3 * k + 3 ≤ length nodes
+  pub few : k < 1000000
+
+-- the words of so many nodes, and a lookup of at least one slot
+pub record RowsAsks (nodes lookup : List ℕ) (count : ℕ) : Type 0 where
+  pub words : 3 * count ≤ length nodes
+  pub few : count ≤ 1000000
+  pub slots : 0 < length lookup
 
 -- an answer is yes exactly when the store is sound with each cache that is true of its book
 pub record Tells (s : Store) (nodes lookup : List ℕ) (r : Bool) : Type 0 where

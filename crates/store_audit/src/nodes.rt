@@ -1,13 +1,13 @@
 // The nodes held, one after another.
-ghost use Prim.Native.Nat.{_+_, _*_, _≤_, _<_};
-ghost use lib.ListN.{length};
+ghost use Rattle.store_audit.specs.Inner.{RowAsks, RowsAsks};
+ghost use Prim.Native.Nat.{_+_, _*_, _<_};
 ghost use Rattle.store_audit.specs.Inner.{Decides, NodeAt, NodesTo};
 use crate::slots::is_entered;
 use store::node::top_of;
 
 // Whether the words of node k + 2 are an item, a child before it, and a child before it that is not {}, both with smaller tops.
 fn obeys(nodes: &[u32], k: u32) -> bool
-    requires { ⌜ (3 * k + 3 ≤ length (now nodes)) × (k < 1000000) ⌝ }
+    requires { ⌜ RowAsks (now nodes) k ⌝ }
     ensures { λ r. ⌜ Decides (NodeAt (now (nodes .entry)) k) r ⌝ }
 {
     let base = 3 * k as usize;
@@ -34,7 +34,7 @@ fn obeys(nodes: &[u32], k: u32) -> bool
 
 // Whether each of the first count nodes obeys the rules of a node and has its own slot.
 pub fn all_obey(nodes: &[u32], lookup: &[u32], count: u32) -> bool
-    requires { ⌜ (3 * count ≤ length (now nodes)) × (count ≤ 1000000) × (0 < length (now lookup)) ⌝ }
+    requires { ⌜ RowsAsks (now nodes) (now lookup) count ⌝ }
     ensures { λ r. ⌜ Decides (NodesTo (now (nodes .entry)) (now (lookup .entry)) count) r ⌝ }
 {
     let mut k: u32 = 0;

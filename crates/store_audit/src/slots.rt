@@ -1,14 +1,14 @@
 // The slots of the lookup: a node's own, and how many hold a number.
+ghost use Rattle.table.specs.Inner.{OwnAsks};
 ghost use mathlib.Core.Path.{_≡_};
-ghost use Prim.Native.Nat.{_+_, _*_, _≤_, _<_};
-ghost use lib.ListN.{length};
+ghost use Prim.Native.Nat.{_+_, _<_};
 ghost use Rattle.table.specs.Entered.{used};
 ghost use Rattle.store_audit.specs.Inner.{Decides, OwnAt};
 use table::own_slots::own_slot;
 
 // Whether the search for the words of node k + 2 among the nodes before it stops at the slot that holds k + 2.
 pub fn is_entered(nodes: &[u32], lookup: &[u32], k: u32) -> bool
-    requires { ⌜ (3 * k + 3 ≤ length (now nodes)) × (k < 1000000) × (0 < length (now lookup)) ⌝ }
+    requires { ⌜ OwnAsks (now nodes) (now lookup) k ⌝ }
     ensures { λ r. ⌜ Decides (OwnAt (now (nodes .entry)) (now (lookup .entry)) k) r ⌝ }
 {
     let slot = own_slot(nodes, lookup, k);

@@ -1,7 +1,7 @@
 -- What making a node promises: on any words that fit, and where the words hold a book. A reader of the promises can pass this page over.
 use Rattle.store.specs.declared.record.PlaceAnswer.the-variants.{Handle}
 use Rattle.store.specs.declared.record.Placed.{Placed}
-use Prim.Native.Nat.{ℕ, _+_, _≤_, _-_, _<_}
+use Prim.Native.Nat.{ℕ, _+_, _≤_, _-_, _<_, _*_}
 use mathlib.Core.Path.{_≡_}
 use mathlib.Core.List.{List, [], _∷_, _++_}
 use lib.ListN.{length}
@@ -12,7 +12,21 @@ use Rattle.store_node.specs.declared.unique.Made.{Made}
 use Rattle.store_node.specs.declared.unique.Made.the-variants.{Found, New, Full as NoRoom}
 use Rattle.store_node.specs.declared.unique.Making.{Making}
 use Rattle.store.specs.Words.{itemLimit}
-use Rattle.store.specs.Inner.{Holds, Handed, Kept, Answer}
+use Rattle.store.specs.Inner.{Holds, Handed, Kept, Answer, Roomy}
+
+-- room for the words of the node after `count` others, and a slot
+pub record EnterAsks (nodes lookup : List ℕ) (count slot : ℕ) : Type 0 where
+  pub words : 3 * count + 3 ≤ length nodes
+  pub few : count < 1000000
+  pub within : slot < length lookup
+
+-- the words of a node whose children are held
+pub record NodeAsks (s : Store) (nodes lookup : List ℕ) (item z o : ℕ) : Type 0 where
+  pub roomy : Roomy s nodes lookup
+  pub item-some : 1 ≤ item
+  pub item-low : item ≤ itemLimit
+  pub zero-held : z ≤ s .count + 1
+  pub one-held : o ≤ s .count + 1
 
 -- making the node F in a book: found there, new at its end, or no room for it
 pub data MadeOf (B : List Family) (F : Family) (capacity n : ℕ) (nodes lookup : List ℕ) : Made → Type 0 where

@@ -1,8 +1,5 @@
 // Getnode of document 001: the family of an item and two sides.
-ghost use Prim.Native.Nat.{_+_, _≤_};
-ghost use Rattle.store.specs.Words.{itemLimit};
-ghost use Rattle.store_node.specs.Inner.{NodeIt};
-ghost use Rattle.store.specs.Inner.{Roomy};
+ghost use Rattle.store_node.specs.Inner.{NodeAsks, NodeIt};
 use store::record::Placed;
 use store::record::Refusal;
 use store::record::Store;
@@ -18,8 +15,7 @@ pub fn get_node(
     zero: u32,
     one: u32,
 ) -> Placed
-    requires { ⌜ Roomy store (now nodes) (now lookup) ⌝ }
-    requires { ⌜ (1 ≤ item) × (item ≤ itemLimit) × (zero ≤ store .count + 1) × (one ≤ store .count + 1) ⌝ }
+    requires { ⌜ NodeAsks store (now nodes) (now lookup) item zero one ⌝ }
     ensures { λ r. ⌜ NodeIt store (now (nodes .entry)) (now (lookup .entry)) item zero one r (now (nodes .exit)) (now (lookup .exit)) ⌝ }
 {
     if one == 0 {

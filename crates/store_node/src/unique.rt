@@ -1,10 +1,9 @@
 // A node found in the unique table, or added to it.
 ghost use mathlib.Core.Path.{_≡_};
-ghost use Prim.Native.Nat.{_+_, _*_, _<_, _≤_};
-ghost use lib.ListN.{length, set};
-ghost use Rattle.store.specs.Words.{itemLimit};
-ghost use Rattle.store.specs.Inner.{Roomy, putNode};
-ghost use Rattle.store_node.specs.Inner.{MadeIt};
+ghost use Prim.Native.Nat.{_+_, _*_, _<_};
+ghost use lib.ListN.{set};
+ghost use Rattle.store.specs.Inner.{putNode};
+ghost use Rattle.store_node.specs.Inner.{EnterAsks, NodeAsks, MadeIt};
 use store::record::Store;
 use table::probe::probe;
 
@@ -31,7 +30,7 @@ fn enter(
     zero: u32,
     one: u32,
 )
-    requires { ⌜ (3 * count + 3 ≤ length (now nodes)) × (count < 1000000) × (slot < length (now lookup)) ⌝ }
+    requires { ⌜ EnterAsks (now nodes) (now lookup) count slot ⌝ }
     ensures { λ _. ⌜ now (nodes .exit) ≡ putNode (now (nodes .entry)) count item zero one ⌝ }
     ensures { λ _. ⌜ now (lookup .exit) ≡ set (now (lookup .entry)) slot (count + 2) ⌝ }
 {
@@ -51,8 +50,7 @@ pub fn make(
     zero: u32,
     one: u32,
 ) -> Making
-    requires { ⌜ Roomy store (now nodes) (now lookup) ⌝ }
-    requires { ⌜ (1 ≤ item) × (item ≤ itemLimit) × (zero ≤ store .count + 1) × (one ≤ store .count + 1) ⌝ }
+    requires { ⌜ NodeAsks store (now nodes) (now lookup) item zero one ⌝ }
     ensures { λ r. ⌜ MadeIt store (now (nodes .entry)) (now (lookup .entry)) item zero one r (now (nodes .exit)) (now (lookup .exit)) ⌝ }
 {
     let count = store.count;

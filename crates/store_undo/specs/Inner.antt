@@ -1,5 +1,5 @@
 -- What taking nodes back and ending a call promise. A reader of the promises can pass this page over.
-use Prim.Native.Nat.{ℕ, _*_, _-_, _/_}
+use Prim.Native.Nat.{ℕ, _*_, _-_, _/_, _≤_}
 use mathlib.Core.Path.{_≡_}
 use mathlib.Core.List.{List}
 use lib.ListN.{length}
@@ -9,6 +9,12 @@ use Rattle.store.specs.declared.record.Store.{Store}
 use Rattle.store.specs.declared.record.Refusal.{Refusal}
 use Rattle.store.specs.declared.record.PlaceAnswer.the-variants.{Handle, Refused}
 use Rattle.store.specs.declared.record.Placed.{Placed}
+use Rattle.store.specs.Inner.{Roomy}
+
+-- words that fit the record, and no more nodes to keep than are held
+pub record UndoAsks (s : Store) (nodes lookup : List ℕ) (keep : ℕ) : Type 0 where
+  pub roomy : Roomy s nodes lookup
+  pub fewer : keep ≤ s .count
 
 -- the newest nodes taken back until `keep` are left
 pub record RolledBack (s : Store) (nodes lookup : List ℕ) (keep : ℕ) (s′ : Store) (nodes′ lookup′ : List ℕ) : Type 0 where

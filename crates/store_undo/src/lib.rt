@@ -1,7 +1,5 @@
 // Taking back the newest nodes.
-ghost use Prim.Native.Nat.{_≤_};
-ghost use Rattle.store_undo.specs.Inner.{RolledBack, Finished};
-ghost use Rattle.store.specs.Inner.{Roomy};
+ghost use Rattle.store_undo.specs.Inner.{UndoAsks, RolledBack, Finished};
 use table::own_slots::clear_newest;
 use store::record::PlaceAnswer;
 use store::record::Placed;
@@ -11,8 +9,7 @@ use words::zero_groups;
 
 // Takes back the newest nodes until `keep` are left: empties their slots, the newest first, and zeroes their words.
 pub fn rollback(store: Store, nodes: &mut [u32], lookup: &mut [u32], keep: u32) -> Store
-    requires { ⌜ Roomy store (now nodes) (now lookup) ⌝ }
-    requires { ⌜ keep ≤ store .count ⌝ }
+    requires { ⌜ UndoAsks store (now nodes) (now lookup) keep ⌝ }
     ensures { λ r. ⌜ RolledBack store (now (nodes .entry)) (now (lookup .entry)) keep r (now (nodes .exit)) (now (lookup .exit)) ⌝ }
 {
     let count = store.count;
@@ -29,8 +26,7 @@ pub fn finish(
     lookup: &mut [u32],
     cache: &mut [u32],
 ) -> Placed
-    requires { ⌜ Roomy (placed .store) (now nodes) (now lookup) ⌝ }
-    requires { ⌜ keep ≤ placed .store .count ⌝ }
+    requires { ⌜ UndoAsks (placed .store) (now nodes) (now lookup) keep ⌝ }
     ensures { λ r. ⌜ Finished placed keep (now (nodes .entry)) (now (lookup .entry)) (now (cache .entry)) r (now (nodes .exit)) (now (lookup .exit)) (now (cache .exit)) ⌝ }
 {
     let answer = placed.answer;

@@ -3,3 +3,4 @@ pub mod Own
 pub mod Start
 pub mod Probe
 pub mod Entered
+pub mod Inner

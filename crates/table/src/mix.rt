@@ -1,6 +1,6 @@
 // The mixing numbers.
 ghost use mathlib.Core.Path.{_≡_};
-ghost use Prim.Native.Nat.{_≤_};
+ghost use Rattle.table.specs.Inner.{AnItem};
 ghost use Rattle.table.specs.Start.{mixOf};
 
 // i * 40503 modulo 65536 for the items i from 1 to 512; item i stands at i - 1.
@@ -527,7 +527,7 @@ fn wide(x: u16) -> u32
 
 // The mixing number of an item.
 pub fn mix(item: u32) -> u32
-    requires { ⌜ (1 ≤ item) × (item ≤ 512) ⌝ }
+    requires { ⌜ AnItem item ⌝ }
     ensures { λ r. ⌜ r ≡ mixOf item ⌝ }
 {
     wide(MIX[(item - 1) as usize])

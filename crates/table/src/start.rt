@@ -1,7 +1,8 @@
 // The start slot of a node's words.
 ghost use mathlib.Core.Path.{_≡_};
-ghost use Prim.Native.Nat.{_*_, _%_, _^_, _≤_, _<_};
+ghost use Prim.Native.Nat.{_*_, _%_, _^_, _<_};
 ghost use Rattle.table.specs.Start.{startOf};
+ghost use Rattle.table.specs.Inner.{StartAsks};
 use crate::mix::mix;
 use std::num::wrapping_add_u32;
 use std::num::wrapping_sub_u32;
@@ -14,11 +15,11 @@ pub fn times_65599(x: u32) -> u32
 }
 
 // The slot at which the search for a node's words begins.
-pub fn start_slot(item: u32, zero: u32, one: u32, length: usize) -> usize
-    requires { ⌜ (1 ≤ item) × (item ≤ 512) × (0 < length) ⌝ }
-    ensures { λ r. ⌜ r ≡ startOf item zero one length ⌝ }
+pub fn start_slot(item: u32, zero: u32, one: u32, slots: usize) -> usize
+    requires { ⌜ StartAsks item slots ⌝ }
+    ensures { λ r. ⌜ r ≡ startOf item zero one slots ⌝ }
 {
     let children = wrapping_add_u32(zero, times_65599(one));
     let sum = wrapping_add_u32(mix(item), times_65599(children));
-    sum as usize % length
+    sum as usize % slots
 }

@@ -1,12 +1,13 @@
 // Lists of 32-bit words: zeroing a part. The case splits that all proofs use stand in proofs/.
 ghost use mathlib.Core.Path.{_≡_};
-ghost use Prim.Native.Nat.{_≤_, _/_, _*_};
+ghost use Prim.Native.Nat.{_/_, _*_};
 ghost use lib.ListN.{length};
 ghost use Rattle.words.specs.Words.{zeroed};
+ghost use Rattle.words.specs.Inner.{Stretch};
 
 // Zeroes the words from one place up to another.
 pub fn zero(words: &mut [u32], from: usize, to: usize)
-    requires { ⌜ (from ≤ to) × (to ≤ length (now words)) ⌝ }
+    requires { ⌜ Stretch (now words) from to ⌝ }
     ensures { λ _. ⌜ now (words .exit) ≡ zeroed from to (now (words .entry)) ⌝ }
 {
     let mut k = from;

@@ -1,26 +1,36 @@
 -- `load` tests the record and the scratch, reads the file and places its parts.
 -- Each way out is one law of loading.
-use borrow.Author.Needs.{needs}
 use native.Mathlib.Omega.{arith}
-use mathlib.Core.Path.{sym, _∙_}
-use borrow.Author.Tests.{not-true, not-false}
-use Rattle.store.proofs.Calls.{fits-roomy}
-use Rattle.file_load.proofs.Loads.{parts-of, parts-nodes, load-misfit, load-short, load-none, load-leaf, load-roomy, load-parts}
+use Rattle.store.proofs.Testing.{tested-clear}
+use Rattle.file_load.proofs.Loads.{parts-of, parts-nodes, load-refused, load-none, load-leaf, load-roomy, load-parts}
 use borrow.Author.Needs.{needs}
 use Rattle.file_load.proofs.load.Statement.{statement}
 use Rattle.file_load.proofs.load.Tie as tie
 
-fits-requires : tie.Need-fits-requires
-fits-requires c κs = search needs
+tested-requires : tie.Need-tested-requires
+tested-requires c κs = search needs
+
+enum-known-found : tie.Need-enum-known-found
+enum-known-found c = search needs
 
 refused-requires : tie.Need-refused-requires
 refused-requires c κs = search needs
 
-refused-requires-2 : tie.Need-refused-requires-2
-refused-requires-2 c κs = search needs
+returns : tie.Need-returns
+returns c =
+    search load-refused
+
+enum-told : tie.Need-enum-told
+enum-told c = search needs
 
 read-file-requires : tie.Need-read-file-requires
-read-file-requires c κs = search needs
+read-file-requires c κs =
+    let at-told : tie.After-enum-told = search in
+    let at-tested : tie.After-tested = search in
+    let at-start : tie.Start = search in
+    let a = at-start .args in
+    let P = tested-clear (a .nodes .now) (a .lookup .now) (at-tested .tested .ensures) (at-told .enum-told .given .1) in
+    omega (arith, P .passed .room)
 
 enum-known-content : tie.Need-enum-known-content
 enum-known-content c = search needs
@@ -31,14 +41,59 @@ placed-requires c κs = search needs
 enum-known-content-2 : tie.Need-enum-known-content-2
 enum-known-content-2 c = search needs
 
-enum-told : tie.Need-enum-told
-enum-told c = search needs
+place-parts-requires : tie.Need-place-parts-requires
+place-parts-requires c κs =
+    let at-content2 : tie.After-content2 = search in
+    let at-read-file : tie.After-read-file = search (at-content2) in
+    let at-told : tie.After-enum-told = search (at-read-file) in
+    let at-tested : tie.After-tested = search (at-told) in
+    let at-start : tie.Start = search (at-tested) in
+    let a = at-start .args in
+    let P = tested-clear (a .nodes .now) (a .lookup .now) (at-tested .tested .ensures) (at-told .enum-told .given .1) in
+    let R = parts-of _ (at-content2 .content2 .given .1) (at-read-file .read-file .ensures .outcome) in
+    record {
+      roomy = P .roomy;
+      local = parts-nodes R;
+      room = omega (arith, at-read-file .read-file .ensures .long, P .passed .room);
+      few = R .few;
+      low = R .low;
+    }
 
-refused-requires-3 : tie.Need-refused-requires-3
-refused-requires-3 c κs = search needs
+finish-requires : tie.Need-finish-requires
+finish-requires c κs =
+    let at-place-parts : tie.After-place-parts = search in
+    let at-content2 : tie.After-content2 = search in
+    let at-read-file : tie.After-read-file = search (at-content2) in
+    let at-told : tie.After-enum-told = search (at-read-file) in
+    let at-tested : tie.After-tested = search (at-told) in
+    let at-start : tie.Start = search (at-tested) in
+    let a = at-start .args in
+    let P = tested-clear (a .nodes .now) (a .lookup .now) (at-tested .tested .ensures) (at-told .enum-told .given .1) in
+    let W = at-place-parts .place-parts .ensures in
+    record {
+      roomy = load-roomy (a .store) (a .nodes .now) (a .lookup .now) (a .cache .now) (a .file .now) (a .words .now) (at-place-parts .place-parts .result) P (at-read-file .read-file .ensures) _ (at-content2 .content2 .given .1) W;
+      fewer = W .kept .grows;
+    }
+
+enum-told-2 : tie.Need-enum-told-2
+enum-told-2 c = search needs
+
+refused-requires-2 : tie.Need-refused-requires-2
+refused-requires-2 c κs = search needs
 
 same-length : tie.Need-same-length
 same-length c = search needs
+
+returns-2 : tie.Need-returns-2
+returns-2 c =
+    let at-content : tie.After-content = search in
+    let at-read-file : tie.After-read-file = search in
+    let at-told : tie.After-enum-told = search in
+    let at-tested : tie.After-tested = search in
+    let at-start : tie.Start = search in
+    let a = at-start .args in
+    let P = tested-clear (a .nodes .now) (a .lookup .now) (at-tested .tested .ensures) (at-told .enum-told .given .1) in
+    load-leaf (a .store) (a .nodes .now) (a .lookup .now) (a .cache .now) (a .file .now) (a .words .now) _ P (at-read-file .read-file .ensures) _ (at-content .content .given .1) (c .placed .ensures .0) (c .placed .ensures .1)
 
 same-length-2 : tie.Need-same-length-2
 same-length-2 c = search needs
@@ -52,113 +107,57 @@ same-length-4 c = search needs
 same-length-5 : tie.Need-same-length-5
 same-length-5 c = search needs
 
-same-length-6 : tie.Need-same-length-6
-same-length-6 c = search needs
-
-returns : tie.Need-returns
-returns c =
-    let at-start : tie.Start = search in
-    let a = at-start .args in
-    load-misfit (a .store) (a .nodes .now) (a .lookup .now) (a .cache .now) (a .file .now) (a .words .now) _ (sym ((c .before .before) .fits2 .ensures) ∙ not-true _ ((c .before) .if1 .taken)) (c .refused .ensures .0) (c .refused .ensures .1)
-
-returns-2 : tie.Need-returns-2
-returns-2 c =
-    let at-start : tie.Start = search in
-    let a = at-start .args in
-    load-short (a .store) (a .nodes .now) (a .lookup .now) (a .cache .now) (a .file .now) (a .words .now) _ (sym ((c .before .before .before) .fits2 .ensures) ∙ not-false _ ((c .before .before) .if1 .left))
-    ((c .before) .if2 .taken) (c .refused2 .ensures .0) (c .refused2 .ensures .1)
-
-place-parts-requires : tie.Need-place-parts-requires
-place-parts-requires c κs =
-    let at-content2 : tie.After-content2 = search in
-    let at-read-file : tie.After-read-file = search in
-    let at-if2 : tie.Else2 = search in
-    let at-if1 : tie.Else1 = search in
-    let at-fits2 : tie.After-fits2 = search in
-    let at-start : tie.Start = search in
-    let a = at-start .args in
-    let R = parts-of _ (at-content2 .content2 .given .1) (at-read-file .read-file .ensures .outcome) in (
-      fits-roomy (a .store) (a .nodes .now) (a .lookup .now) (sym (at-fits2 .fits2 .ensures) ∙ not-false _ (at-if1 .if1 .left)),
-      (parts-nodes R, (omega (arith, at-read-file .read-file .ensures .long, at-if2 .if2 .left), R .few, R .low)),
-    )
-
-finish-requires : tie.Need-finish-requires
-finish-requires c κs =
-    let at-place-parts : tie.After-place-parts = search in
-    let at-content2 : tie.After-content2 = search in
-    let at-read-file : tie.After-read-file = search in
-    let at-if2 : tie.Else2 = search in
-    let at-if1 : tie.Else1 = search in
-    let at-fits2 : tie.After-fits2 = search in
-    let at-start : tie.Start = search (at-fits2) in
-    let a = at-start .args in
-    let P = at-place-parts .place-parts .ensures in (
-      load-roomy (a .store) (a .nodes .now) (a .lookup .now) (a .cache .now) (a .file .now) (a .words .now) (at-place-parts .place-parts .result) (sym (at-fits2 .fits2 .ensures) ∙ not-false _ (at-if1 .if1 .left))
-          (at-if2 .if2 .left) (at-read-file .read-file .ensures) _ (at-content2 .content2 .given .1) P,
-      P .kept .grows,
-    )
-
 returns-3 : tie.Need-returns-3
 returns-3 c =
-    let at-read-file : tie.After-read-file = search in
-    let at-if2 : tie.Else2 = search in
-    let at-if1 : tie.Else1 = search in
-    let at-fits2 : tie.After-fits2 = search in
-    let at-start : tie.Start = search in
-    let a = at-start .args in
-    load-leaf (a .store) (a .nodes .now) (a .lookup .now) (a .cache .now) (a .file .now) (a .words .now) _ (sym (at-fits2 .fits2 .ensures) ∙ not-false _ (at-if1 .if1 .left))
-    (at-if2 .if2 .left) (at-read-file .read-file .ensures) _ ((c .before .before) .content .given .1)
-    (c .placed .ensures .0) (c .placed .ensures .1)
-
-returns-4 : tie.Need-returns-4
-returns-4 c =
     let at-finish : tie.After-finish = search in
     let at-place-parts : tie.After-place-parts = search in
     let at-content2 : tie.After-content2 = search in
     let at-read-file : tie.After-read-file = search (at-content2) in
-    let at-if2 : tie.Else2 = search (at-content2) in
-    let at-if1 : tie.Else1 = search (at-content2) in
-    let at-fits2 : tie.After-fits2 = search (at-content2) in
-    let at-start : tie.Start = search (at-content2) in
+    let at-told : tie.After-enum-told = search (at-read-file) in
+    let at-tested : tie.After-tested = search (at-told) in
+    let at-start : tie.Start = search (at-tested) in
     let a = at-start .args in
-    load-parts (a .store) (a .nodes .now) (a .lookup .now) (a .cache .now) (a .file .now) (a .words .now) _ (sym (at-fits2 .fits2 .ensures) ∙ not-false _ (at-if1 .if1 .left))
-    (at-if2 .if2 .left) (at-read-file .read-file .ensures) _ (at-content2 .content2 .given .1) (at-place-parts .place-parts .ensures) (at-finish .finish .ensures)
+    let P = tested-clear (a .nodes .now) (a .lookup .now) (at-tested .tested .ensures) (at-told .enum-told .given .1) in
+    load-parts (a .store) (a .nodes .now) (a .lookup .now) (a .cache .now) (a .file .now) (a .words .now) _ P (at-read-file .read-file .ensures) _ (at-content2 .content2 .given .1)
+    (at-place-parts .place-parts .ensures) (at-finish .finish .ensures)
 
-returns-5 : tie.Need-returns-5
-returns-5 c =
+same-length-6 : tie.Need-same-length-6
+same-length-6 c = search needs
+
+returns-4 : tie.Need-returns-4
+returns-4 c =
+    let at-told2 : tie.After-enum-told2 = search in
     let at-read-file : tie.After-read-file = search in
-    let at-if2 : tie.Else2 = search in
-    let at-if1 : tie.Else1 = search in
-    let at-fits2 : tie.After-fits2 = search in
+    let at-told : tie.After-enum-told = search in
+    let at-tested : tie.After-tested = search in
     let at-start : tie.Start = search in
     let a = at-start .args in
-    load-none (a .store) (a .nodes .now) (a .lookup .now) (a .cache .now) (a .file .now) (a .words .now) _ (sym (at-fits2 .fits2 .ensures) ∙ not-false _ (at-if1 .if1 .left))
-    (at-if2 .if2 .left) (at-read-file .read-file .ensures) ((c .before) .enum-told .given .1)
-    (c .refused3 .ensures .0) (c .refused3 .ensures .1)
+    let P = tested-clear (a .nodes .now) (a .lookup .now) (at-tested .tested .ensures) (at-told .enum-told .given .1) in
+    load-none (a .store) (a .nodes .now) (a .lookup .now) (a .cache .now) (a .file .now) (a .words .now) _ P (at-read-file .read-file .ensures) (at-told2 .enum-told2 .given .1) (c .refused2 .ensures .0) (c .refused2 .ensures .1)
 
 pub load-spec : {M : Type 1} → statement M
 load-spec =
     tie.close
     (tie.spec
-    fits-requires
+    tested-requires
+    enum-known-found
     refused-requires
     returns
-    refused-requires-2
-    returns-2
+    enum-told
     read-file-requires
     enum-known-content
     placed-requires
     enum-known-content-2
     place-parts-requires
     finish-requires
-    enum-told
-    refused-requires-3
+    enum-told-2
+    refused-requires-2
     same-length
-    returns-3
+    returns-2
     same-length-2
     same-length-3
     same-length-4
     same-length-5
-    returns-4
+    returns-3
     same-length-6
-    returns-5)
+    returns-4)

@@ -1,7 +1,6 @@
 -- `handle_at` gives a local number's handle in the store: 0 and 1 keep their meaning.
 -- Both ways out are one branch of the definition.
 use borrow.Author.Needs.{needs}
-use mathlib.Core.Path.{sym}
 use Rattle.file_place.proofs.Placements.{handle-leaf, handle-inner}
 use borrow.Author.Needs.{needs}
 use Rattle.file_place.proofs.handle_at.Statement.{statement}
@@ -23,10 +22,10 @@ shared-slice-read-result : tie.Need-shared-slice-read-result
 shared-slice-read-result c = search needs
 
 returns : tie.Need-returns
-returns c = let a = (c .before) .args in sym (handle-leaf (a .bytes) (a .words .now) (a .p) (c .if1 .taken))
+returns c = search handle-leaf
 
 returns-2 : tie.Need-returns-2
-returns-2 c = let a = (c .before .before) .args in sym (handle-inner (a .bytes) (a .words .now) (a .p) ((c .before) .if1 .left))
+returns-2 c = search handle-inner
 
 pub handle-at-spec : {M : Type 1} → statement M
 handle-at-spec =

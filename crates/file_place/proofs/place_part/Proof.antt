@@ -51,14 +51,16 @@ get-node-requires c κs =
     let at-handle-at : tie.After-handle-at = search in
     let at-start : tie.Start = search in
     let p = at-start .pre in
-    (p .0, (p .1 .0 .item-some, p .1 .0 .item-low, omega (arith, at-handle-at .handle-at .ensures, p .1 .1 .0 .each _ (p .1 .0 .zero-before)), omega (arith, (c .before .before .before) .handle-at2 .ensures, p .1 .1 .0 .each _ (p .1 .0 .one-before))))
+    record {
+      roomy = p .roomy;
+      item-some = p .local .item-some;
+      item-low = p .local .item-low;
+      zero-held = omega (arith, at-handle-at .handle-at .ensures, p .handles .each _ (p .local .zero-before));
+      one-held = omega (arith, (c .before .before .before) .handle-at2 .ensures, p .handles .each _ (p .local .one-before));
+    }
 
 returns : tie.Need-returns
-returns c =
-    let at-get-node : tie.After-get-node = search in
-    let at-handle-at2 : tie.After-handle-at2 = search in
-    let at-handle-at : tie.After-handle-at = search in
-    node-as _ _ (at-handle-at .handle-at .ensures) (at-handle-at2 .handle-at2 .ensures) (at-get-node .get-node .ensures)
+returns c = search node-as
 
 pub place-part-spec : {M : Type 1} → statement M
 place-part-spec =

@@ -1,7 +1,7 @@
 -- `place_parts` places one local part after another; so many are left.
 -- Each way out is one law of the turns.
 use borrow.Author.Needs.{needs}
-use mathlib.Core.Path.{refl, ap, _∙_}
+use mathlib.Core.Path.{ap, _∙_}
 use Prim.Native.Nat.{_-_}
 use native.Mathlib.Omega.{arith}
 use Rattle.store.specs.declared.record.PlaceAnswer.the-variants.{Handle}
@@ -16,7 +16,7 @@ abbrev μ-loop : tie.MeasureT-loop
 μ-loop nodes₀ lookup₀ words₀ bytes parts current₀ k₀ nodes lookup words current k = parts - k
 
 loop-holds : tie.Need-loop-holds Inv-loop μ-loop
-loop-holds c = let a = (c .before .before .before) .args in turns-start (a .store) (a .nodes .now) (a .lookup .now) (a .words .now) (a .bytes) (a .parts) ((c .before .before .before) .pre .0)
+loop-holds c = search turns-start
 
 place-part-requires : tie.Need-place-part-requires Inv-loop μ-loop
 place-part-requires c κs =
@@ -25,14 +25,13 @@ place-part-requires c κs =
     let a = at-start .args in
     let l = at-loop .loop in
     let p = at-start .pre in
-    let few = p .1 .1 .1 in
-    let room = p .1 .1 .0 in (
-      turns-roomy (a .store) (a .nodes .now) (a .lookup .now) (a .words .now) (a .bytes) (a .parts) few room (p .1 .0) (l .k) (l .current) (l .nodes) (l .lookup) (l .words) (l .inv) (p .0),
-      (
-        turns-node (a .store) (a .nodes .now) (a .lookup .now) (a .words .now) (a .bytes) (a .parts) few room (p .1 .0) (l .k) (l .current) (l .nodes) (l .lookup) (l .words) (l .inv) ((c .before .before .before) .loop-test .taken),
-        (l .inv .handles, (omega (arith, room, l .inv .long), omega (arith, few, (c .before .before .before) .loop-test .taken))),
-      ),
-    )
+    record {
+      roomy = turns-roomy (a .store) (a .nodes .now) (a .lookup .now) (a .words .now) (a .bytes) (a .parts) (p .few) (p .room) (p .local) (l .k) (l .current) (l .nodes) (l .lookup) (l .words) (l .inv) (p .roomy);
+      local = turns-node (a .store) (a .nodes .now) (a .lookup .now) (a .words .now) (a .bytes) (a .parts) (p .few) (p .room) (p .local) (l .k) (l .current) (l .nodes) (l .lookup) (l .words) (l .inv) ((c .before .before .before) .loop-test .taken);
+      handles = l .inv .handles;
+      room = omega (arith, p .room, l .inv .long);
+      below = omega (arith, p .few, (c .before .before .before) .loop-test .taken);
+    }
 
 enum-known-answer : tie.Need-enum-known-answer Inv-loop μ-loop
 enum-known-answer c = search needs
@@ -44,13 +43,13 @@ same-length : tie.Need-same-length Inv-loop μ-loop
 same-length c =
     let at-place-part : tie.After-place-part Inv-loop μ-loop = search in
     let at-loop : tie.At-loop Inv-loop μ-loop = search in
-    at-place-part .place-part .kept .1 .0 ∙ at-loop .loop .inv .kept .long
+    at-place-part .place-part .ensures .kept .long ∙ at-loop .loop .inv .kept .long
 
 same-length-2 : tie.Need-same-length-2 Inv-loop μ-loop
 same-length-2 c =
     let at-place-part : tie.After-place-part Inv-loop μ-loop = search in
     let at-loop : tie.At-loop Inv-loop μ-loop = search in
-    at-place-part .place-part .kept .1 .1 .0 ∙ at-loop .loop .inv .kept .long-lookup
+    at-place-part .place-part .ensures .kept .long-lookup ∙ at-loop .loop .inv .kept .long-lookup
 
 same-length-3 : tie.Need-same-length-3 Inv-loop μ-loop
 same-length-3 c =
@@ -58,22 +57,13 @@ same-length-3 c =
     at-loop .loop .inv .long
 
 returns : tie.Need-returns Inv-loop μ-loop
-returns c =
-    let at-place-part : tie.After-place-part Inv-loop μ-loop = search in
-    let at-loop-test : tie.In-loop Inv-loop μ-loop = search in
-    let at-loop : tie.At-loop Inv-loop μ-loop = search in
-    let at-start : tie.Start Inv-loop μ-loop = search in
-    let a = at-start .args in
-    let l = at-loop .loop in
-    let p = at-start .pre in
-    turns-refused (a .store) (a .nodes .now) (a .lookup .now) (a .words .now) (a .bytes) (a .parts) (p .1 .1 .1) (p .1 .1 .0) (p .1 .0) (l .k) (l .current) (l .nodes) (l .lookup) (l .words) (l .inv) (at-loop-test .loop-test .taken)
-    (at-place-part .place-part .ensures) _ (c .enum-told .given .1)
+returns c = search turns-refused
 
 mul-words : tie.Need-mul-words Inv-loop μ-loop
 mul-words c =
     let at-loop : tie.At-loop Inv-loop μ-loop = search in
     let at-start : tie.Start Inv-loop μ-loop = search in
-    omega (arith, at-start .pre .1 .1 .0, at-loop .loop .inv .long)
+    omega (arith, at-start .pre .room, at-loop .loop .inv .long)
 
 cast-words : tie.Need-cast-words Inv-loop μ-loop
 cast-words c = search needs
@@ -83,26 +73,26 @@ add-words c =
     let at-loop-test : tie.In-loop Inv-loop μ-loop = search in
     let at-loop : tie.At-loop Inv-loop μ-loop = search in
     let at-start : tie.Start Inv-loop μ-loop = search in
-    omega (arith, at-start .pre .1 .1 .0, at-start .pre .1 .1 .1, at-loop-test .loop-test .taken, at-loop .loop .inv .long)
+    omega (arith, at-start .pre .room, at-start .pre .few, at-loop-test .loop-test .taken, at-loop .loop .inv .long)
 
 mul-words-2 : tie.Need-mul-words-2 Inv-loop μ-loop
 mul-words-2 c =
     let at-loop : tie.At-loop Inv-loop μ-loop = search in
     let at-start : tie.Start Inv-loop μ-loop = search in
-    omega (arith, at-start .pre .1 .1 .0, at-loop .loop .inv .long)
+    omega (arith, at-start .pre .room, at-loop .loop .inv .long)
 
 slice-write-words : tie.Need-slice-write-words Inv-loop μ-loop
 slice-write-words c =
     let at-loop-test : tie.In-loop Inv-loop μ-loop = search in
     let at-loop : tie.At-loop Inv-loop μ-loop = search in
     let at-start : tie.Start Inv-loop μ-loop = search in
-    omega (arith, at-start .pre .1 .1 .0, at-start .pre .1 .1 .1, at-loop-test .loop-test .taken, at-loop .loop .inv .long)
+    omega (arith, at-start .pre .room, at-start .pre .few, at-loop-test .loop-test .taken, at-loop .loop .inv .long)
 
 add-k : tie.Need-add-k Inv-loop μ-loop
 add-k c =
     let at-loop-test : tie.In-loop Inv-loop μ-loop = search in
     let at-start : tie.Start Inv-loop μ-loop = search in
-    omega (arith, at-start .pre .1 .1 .2, at-loop-test .loop-test .taken)
+    omega (arith, at-start .pre .low, at-loop-test .loop-test .taken)
 
 loop-less : tie.Need-loop-less Inv-loop μ-loop
 loop-less c =
@@ -110,26 +100,17 @@ loop-less c =
     omega (arith, at-loop-test .loop-test .taken)
 
 loop-again : tie.Need-loop-again Inv-loop μ-loop
-loop-again c =
-    let at-place-part : tie.After-place-part Inv-loop μ-loop = search in
-    let at-loop-test : tie.In-loop Inv-loop μ-loop = search in
-    let at-loop : tie.At-loop Inv-loop μ-loop = search in
-    let at-start : tie.Start Inv-loop μ-loop = search in
-    let a = at-start .args in
-    let l = at-loop .loop in
-    let p = at-start .pre in
-    turns-next (a .store) (a .nodes .now) (a .lookup .now) (a .words .now) (a .bytes) (a .parts) (p .1 .1 .1) (p .1 .1 .0) (p .1 .0) (l .k) (l .current) (l .nodes) (l .lookup) (l .words) (l .inv) (at-loop-test .loop-test .taken)
-    (at-place-part .place-part .ensures) _ ((c .before .before) .answer .given .1) refl
+loop-again c = search turns-next
 
 add-handle-at : tie.Need-add-handle-at Inv-loop μ-loop
 add-handle-at c =
     let at-start : tie.Start Inv-loop μ-loop = search in
-    omega (arith, at-start .pre .1 .1 .2)
+    omega (arith, at-start .pre .low)
 
 handle-at-requires : tie.Need-handle-at-requires Inv-loop μ-loop
 handle-at-requires c κs =
     let at-start : tie.Start Inv-loop μ-loop = search in
-    let p = at-start .pre in (omega (arith, p .1 .1 .0, (c .before .before) .loop .inv .long), omega (arith, p .1 .1 .1))
+    let p = at-start .pre in (omega (arith, p .room, (c .before .before) .loop .inv .long), omega (arith, p .few))
 
 placed-requires : tie.Need-placed-requires Inv-loop μ-loop
 placed-requires c κs = search needs
@@ -156,7 +137,7 @@ returns-2 c =
     let a = at-start .args in
     let l = at-loop .loop in
     let p = at-start .pre in
-    turns-done (a .store) (a .nodes .now) (a .lookup .now) (a .words .now) (a .bytes) (a .parts) (p .1 .1 .1) (p .1 .1 .0) (p .1 .0) (l .k) (l .current) (l .nodes) (l .lookup) (l .words) (l .inv) (omega (arith, (c .before .before .before) .loop-test .left))
+    turns-done (a .store) (a .nodes .now) (a .lookup .now) (a .words .now) (a .bytes) (a .parts) (p .few) (p .room) (p .local) (l .k) (l .current) (l .nodes) (l .lookup) (l .words) (l .inv) (omega (arith, (c .before .before .before) .loop-test .left))
     _ (c .placed .ensures .0) (c .placed .ensures .1 ∙ ap Handle ((c .before) .handle-at .ensures))
 
 pub place-parts-spec : {M : Type 1} → statement M

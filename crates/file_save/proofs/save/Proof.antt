@@ -1,44 +1,27 @@
 -- `save` tests in document 01's order, then writes the file of a leaf or of a node.
 -- Each way out is one law of saving.
-use borrow.Author.Needs.{needs}
-use mathlib.Core.Path.{refl}
 use native.Mathlib.Omega.{arith}
-use Rattle.store.proofs.Fitting.{test-refused, test-passed, handle-refused, handle-passed}
-use Rattle.store.proofs.Calls.{fits-roomy}
-use Rattle.file_save.proofs.Saves.{save-misfit, save-handle, save-scratch, save-leaf, save-parts}
+use Rattle.store.proofs.Testing.{tested-clear}
+use Rattle.file_save.proofs.Saves.{save-refused, save-leaf, save-parts}
+use borrow.Author.Needs.{needs}
 use Rattle.file_save.proofs.save.Statement.{statement}
 use Rattle.file_save.proofs.save.Tie as tie
 
-fits-requires : tie.Need-fits-requires
-fits-requires c κs = search needs
+cast-tested : tie.Need-cast-tested
+cast-tested c = search needs
+
+tested-requires : tie.Need-tested-requires
+tested-requires c κs = search needs
+
+enum-known-found : tie.Need-enum-known-found
+enum-known-found c = search needs
 
 returns : tie.Need-returns
 returns c =
-    let at-start : tie.Start = search in
-    let a = at-start .args in
-    save-misfit (a .store) (a .nodes .now) (a .lookup .now) (a .p) (a .links .now) (a .out .now) _ refl (test-refused ((c .before) .fits2 .ensures) (c .if1 .taken)) refl
+    search save-refused
 
-holds-requires : tie.Need-holds-requires
-holds-requires c κs = search needs
-
-returns-2 : tie.Need-returns-2
-returns-2 c =
-    let at-start : tie.Start = search in
-    let a = at-start .args in
-    save-handle (a .store) (a .nodes .now) (a .lookup .now) (a .p) (a .links .now) (a .out .now) (test-passed ((c .before .before .before) .fits2 .ensures) ((c .before .before) .if1 .left))
-    (handle-refused (a .p) (a .store .count) ((c .before) .holds .ensures) (c .if2 .taken)) _ refl refl
-
-cast-if3 : tie.Need-cast-if3
-cast-if3 c = search needs
-
-returns-3 : tie.Need-returns-3
-returns-3 c =
-    let at-if1 : tie.Else1 = search in
-    let at-fits2 : tie.After-fits2 = search in
-    let at-start : tie.Start = search in
-    let a = at-start .args in
-    save-scratch (a .store) (a .nodes .now) (a .lookup .now) (a .p) (a .links .now) (a .out .now) (test-passed (at-fits2 .fits2 .ensures) (at-if1 .if1 .left))
-    (handle-passed (a .p) (a .store .count) ((c .before .before .before) .holds .ensures) ((c .before .before) .if2 .left)) (c .if3 .taken) _ refl refl
+enum-told : tie.Need-enum-told
+enum-told c = search needs
 
 save-leaf-requires : tie.Need-save-leaf-requires
 save-leaf-requires c κs = search needs
@@ -46,32 +29,28 @@ save-leaf-requires c κs = search needs
 same-length : tie.Need-same-length
 same-length c = search needs
 
-returns-4 : tie.Need-returns-4
-returns-4 c =
-    let at-if4 : tie.Then4 = search in
-    let at-if3 : tie.Else3 = search in
-    let at-if2 : tie.Else2 = search in
-    let at-holds : tie.After-holds = search in
-    let at-if1 : tie.Else1 = search in
-    let at-fits2 : tie.After-fits2 = search in
+returns-2 : tie.Need-returns-2
+returns-2 c =
+    let at-told : tie.After-enum-told = search in
+    let at-tested : tie.After-tested = search in
     let at-start : tie.Start = search in
     let a = at-start .args in
-    save-leaf (a .store) (a .nodes .now) (a .lookup .now) (a .p) (a .links .now) (a .out .now) (test-passed (at-fits2 .fits2 .ensures) (at-if1 .if1 .left))
-    (handle-passed (a .p) (a .store .count) (at-holds .holds .ensures) (at-if2 .if2 .left)) (at-if3 .if3 .left)
-    (at-if4 .if4 .taken) ((c .before .before) .save-leaf .result) ((c .before .before) .save-leaf .ensures)
+    let P = tested-clear (a .nodes .now) (a .lookup .now) (at-tested .tested .ensures) (at-told .enum-told .given .1) in
+    search save-leaf
 
 save-parts-requires : tie.Need-save-parts-requires
 save-parts-requires c κs =
-    let at-if2 : tie.Else2 = search in
-    let at-holds : tie.After-holds = search in
     let at-if1 : tie.Else1 = search in
-    let at-fits2 : tie.After-fits2 = search in
+    let at-told : tie.After-enum-told = search in
+    let at-tested : tie.After-tested = search in
     let at-start : tie.Start = search in
     let a = at-start .args in
-    let R = fits-roomy (a .store) (a .nodes .now) (a .lookup .now) (test-passed (at-fits2 .fits2 .ensures) (at-if1 .if1 .left)) in (
-      (omega (arith, R .within, R .words), omega (arith, R .within, R .small), (c .before .before .before) .if3 .left),
-      ((c .before .before) .if4 .left, handle-passed (a .p) (a .store .count) (at-holds .holds .ensures) (at-if2 .if2 .left)),
-    )
+    let P = tested-clear (a .nodes .now) (a .lookup .now) (at-tested .tested .ensures) (at-told .enum-told .given .1) in
+    record {
+      lent = record { words = omega (arith, P .roomy .within, P .roomy .words); few = omega (arith, P .roomy .within, P .roomy .small); linkable = P .passed .room };
+      two = at-if1 .if1 .left;
+      inside = P .passed .first;
+    }
 
 same-length-2 : tie.Need-same-length-2
 same-length-2 c = search needs
@@ -79,34 +58,28 @@ same-length-2 c = search needs
 same-length-3 : tie.Need-same-length-3
 same-length-3 c = search needs
 
-returns-5 : tie.Need-returns-5
-returns-5 c =
-    let at-save-parts : tie.After-save-parts = search in
-    let at-if3 : tie.Else3 = search in
-    let at-if2 : tie.Else2 = search in
-    let at-holds : tie.After-holds = search in
-    let at-if1 : tie.Else1 = search in
-    let at-fits2 : tie.After-fits2 = search in
+returns-3 : tie.Need-returns-3
+returns-3 c =
+    let at-told : tie.After-enum-told = search in
+    let at-tested : tie.After-tested = search in
     let at-start : tie.Start = search in
     let a = at-start .args in
-    save-parts (a .store) (a .nodes .now) (a .lookup .now) (a .p) (a .links .now) (a .out .now) (test-passed (at-fits2 .fits2 .ensures) (at-if1 .if1 .left))
-    (handle-passed (a .p) (a .store .count) (at-holds .holds .ensures) (at-if2 .if2 .left)) (at-if3 .if3 .left)
-    (at-save-parts .save-parts .result) (at-save-parts .save-parts .ensures)
+    let P = tested-clear (a .nodes .now) (a .lookup .now) (at-tested .tested .ensures) (at-told .enum-told .given .1) in
+    search save-parts
 
 pub save-spec : {M : Type 1} → statement M
 save-spec =
     tie.close
     (tie.spec
-    fits-requires
+    cast-tested
+    tested-requires
+    enum-known-found
     returns
-    holds-requires
-    returns-2
-    cast-if3
-    returns-3
+    enum-told
     save-leaf-requires
     same-length
-    returns-4
+    returns-2
     save-parts-requires
     same-length-2
     same-length-3
-    returns-5)
+    returns-3)

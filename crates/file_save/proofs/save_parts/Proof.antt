@@ -15,7 +15,7 @@ returns : tie.Need-returns
 returns c =
     let at-start : tie.Start = search in
     let a = at-start .args in
-    parts-damaged (a .store) (a .p) (a .nodes .now) (a .links .now) (a .out .now) (at-start .pre .1 .0) (at-start .pre .1 .1) _ refl (omega (arith, (c .before) .top-of .ensures, c .if1 .taken))
+    parts-damaged (a .store) (a .p) (a .nodes .now) (a .links .now) (a .out .now) (at-start .pre .two) (at-start .pre .inside) _ refl (omega (arith, (c .before) .top-of .ensures, c .if1 .taken))
 
 cast-zero : tie.Need-cast-zero
 cast-zero c = search needs
@@ -28,10 +28,14 @@ walk-requires c κs =
     let at-if1 : tie.Else1 = search in
     let at-top-of : tie.After-top-of = search in
     let at-start : tie.Start = search in
-    let p = at-start .pre in (
-      (p .1 .1, p .0 .0, p .0 .1, omega (arith, p .0 .2, (c .before .before .before) .zero .kept .0)),
-      ((at-top-of .top-of .ensures, omega (arith, at-if1 .if1 .left)), record { last-held = omega arith; item-low = omega arith; few = omega arith; some = omega arith; short = omega arith }),
-    )
+    let p = at-start .pre in
+    record {
+      inside = p .inside;
+      lent = record { words = p .lent .words; few = p .lent .few; linkable = omega (arith, p .lent .linkable, (c .before .before .before) .zero .kept .0) };
+      level-is = at-top-of .top-of .ensures;
+      level-low = omega (arith, at-if1 .if1 .left);
+      trail-fits = record { last-held = omega arith; item-low = omega arith; few = omega arith; some = omega arith; short = omega arith };
+    }
 
 enum-known-trail : tie.Need-enum-known-trail
 enum-known-trail c = search needs
@@ -43,25 +47,13 @@ same-length : tie.Need-same-length
 same-length c = search needs
 
 returns-2 : tie.Need-returns-2
-returns-2 c =
-    let at-walk : tie.After-walk = search in
-    let at-zero : tie.After-zero = search in
-    let at-start : tie.Start = search in
-    let a = at-start .args in
-    parts-broken (a .store) (a .p) (a .nodes .now) (a .links .now) (a .out .now) (at-start .pre .1 .0) (at-start .pre .1 .1) (at-start .pre .0 .2)
-    (at-zero .zero .ensures) _ (refl, refl, refl, refl) (at-walk .walk .ensures) _ refl (c .enum-told .given .1)
+returns-2 c = search parts-broken
 
 same-length-2 : tie.Need-same-length-2
 same-length-2 c = search needs
 
 returns-3 : tie.Need-returns-3
-returns-3 c =
-    let at-walk : tie.After-walk = search in
-    let at-zero : tie.After-zero = search in
-    let at-start : tie.Start = search in
-    let a = at-start .args in
-    parts-short (a .store) (a .p) (a .nodes .now) (a .links .now) (a .out .now) (at-start .pre .1 .0) (at-start .pre .1 .1) (at-start .pre .0 .2) (at-zero .zero .ensures)
-    _ (refl, refl, refl, refl) (at-walk .walk .ensures) _ ((c .before .before) .trail .given .1) _ refl (c .if2 .taken) refl
+returns-3 c = search parts-short
 
 write-file-requires : tie.Need-write-file-requires
 write-file-requires c κs =
@@ -70,8 +62,11 @@ write-file-requires c κs =
     let at-zero : tie.After-zero = search in
     let at-start : tie.Start = search in
     let p = at-start .pre in
-    let F = at-walk .walk .ensures .fits _ (at-trail .trail .given .1) in
-    ((p .0 .0, p .0 .1, omega (arith, p .0 .2, at-walk .walk .ensures .long, at-zero .zero .kept .0)), (omega (arith, F .some, (c .before .before) .if2 .left), F .few))
+    let F = at-walk .walk .ensures .trail-fits _ (at-trail .trail .given .1) in
+    (
+      record { words = p .lent .words; few = p .lent .few; linkable = omega (arith, p .lent .linkable, at-walk .walk .ensures .long, at-zero .zero .kept .0) },
+      record { five = omega (arith, F .some, (c .before .before) .if2 .left); few = F .few },
+    )
 
 same-length-3 : tie.Need-same-length-3
 same-length-3 c = search needs
@@ -88,8 +83,8 @@ returns-4 c =
     let at-zero : tie.After-zero = search in
     let at-start : tie.Start = search (at-zero) in
     let a = at-start .args in
-    parts-unwritten (a .store) (a .p) (a .nodes .now) (a .links .now) (a .out .now) (at-start .pre .1 .0) (at-start .pre .1 .1) (at-start .pre .0 .2)
-    (at-zero .zero .ensures) _ (refl, refl, refl, refl) (at-walk .walk .ensures) _ (at-trail .trail .given .1) (at-if2 .if2 .left) (at-write-file .write-file .ensures) _ refl (not-true _ (c .if3 .taken))
+    parts-unwritten (a .store) (a .p) (a .nodes .now) (a .links .now) (a .out .now) (at-start .pre .two) (at-start .pre .inside) (at-start .pre .lent .linkable)
+    (at-zero .zero .ensures) (at-walk .walk .ensures) _ (at-trail .trail .given .1) (at-if2 .if2 .left) (at-write-file .write-file .ensures) _ refl (not-true _ (c .if3 .taken))
 
 same-length-5 : tie.Need-same-length-5
 same-length-5 c = search needs
@@ -106,8 +101,8 @@ returns-5 c =
     let at-zero : tie.After-zero = search in
     let at-start : tie.Start = search (at-zero) in
     let a = at-start .args in
-    parts-done (a .store) (a .p) (a .nodes .now) (a .links .now) (a .out .now) (at-start .pre .1 .0) (at-start .pre .1 .1) (at-start .pre .0 .2) (at-zero .zero .ensures) _
-    (refl, refl, refl, refl) (at-walk .walk .ensures) _ (at-trail .trail .given .1) (at-if2 .if2 .left) (at-write-file .write-file .ensures) _ refl refl
+    parts-done (a .store) (a .p) (a .nodes .now) (a .links .now) (a .out .now) (at-start .pre .two) (at-start .pre .inside) (at-start .pre .lent .linkable) (at-zero .zero .ensures)
+    (at-walk .walk .ensures) _ (at-trail .trail .given .1) (at-if2 .if2 .left) (at-write-file .write-file .ensures) _ refl refl
 
 pub save-parts-spec : {M : Type 1} → statement M
 save-parts-spec =

@@ -14,7 +14,7 @@ write-parts-requires : tie.Need-write-parts-requires
 write-parts-requires c κs =
     let at-put-header : tie.After-put-header = search in
     let at-start : tie.Start = search in
-    (at-start .pre .0, (omega (arith, at-start .pre .1 .0, at-put-header .put-header .kept .0), at-start .pre .1 .1))
+    (at-start .pre .0, record { five = omega (arith, at-start .pre .1 .five, at-put-header .put-header .kept .0); few = at-start .pre .1 .few })
 
 same-length : tie.Need-same-length
 same-length c = search needs
@@ -23,16 +23,10 @@ same-length-2 : tie.Need-same-length-2
 same-length-2 c =
     let at-write-parts : tie.After-write-parts = search in
     let at-put-header : tie.After-put-header = search in
-    at-write-parts .write-parts .kept .1 .1 .1 .1 .1 .0 ∙ at-put-header .put-header .kept .0
+    at-write-parts .write-parts .ensures .long-out ∙ at-put-header .put-header .kept .0
 
 returns : tie.Need-returns
-returns c =
-    let at-write-parts : tie.After-write-parts = search in
-    let at-put-header : tie.After-put-header = search in
-    let at-start : tie.Start = search in
-    let a = at-start .args in
-    file-written (a .trail) (a .nodes .now) (a .count) (a .links .now) (a .out .now) (at-start .pre .1 .0) (at-put-header .put-header .ensures)
-    (at-put-header .put-header .kept .0) (at-write-parts .write-parts .ensures)
+returns c = search file-written
 
 pub write-file-spec : {M : Type 1} → statement M
 write-file-spec =

@@ -93,41 +93,28 @@ same-length-3 : tie.Need-same-length-3
 same-length-3 c = search needs
 
 returns : tie.Need-returns
-returns c =
-    let at-start : tie.Start = search in
-    let a = at-start .args in
-    let p = at-start .pre in
-    enter-past (a .words .now) (a .bytes) (a .k) (a .part .item) (a .part .zero) (a .part .one) _ (p .0 .0) (p .0 .1) (probed (a .words .now) (a .bytes) (a .k) (a .part .item) (a .part .zero) (a .part .one) ((c .before) .probe .ensures)) (c .if1 .taken)
+returns c = search (enter-past, probed)
 
 returns-2 : tie.Need-returns-2
-returns-2 c =
-    let at-start : tie.Start = search in
-    let a = at-start .args in
-    let p = at-start .pre in
-    enter-old (a .words .now) (a .bytes) (a .k) (a .part .item) (a .part .zero) (a .part .one) _ (p .0 .0) (p .0 .1) (probed (a .words .now) (a .bytes) (a .k) (a .part .item) (a .part .zero) (a .part .one) ((c .before .before .before) .probe .ensures)) ((c .before .before) .if1 .left) (c .if2 .taken)
+returns-2 c = search (enter-old, probed)
 
 slice-write-words-2 : tie.Need-slice-write-words-2
 slice-write-words-2 c =
     let at-start : tie.Start = search in
-    simp length-set (omega (arith, at-start .pre .0 .0, at-start .pre .0 .1))
+    simp length-set (omega (arith, at-start .pre .table .room, at-start .pre .table .below))
 
 slice-write-words-3 : tie.Need-slice-write-words-3
 slice-write-words-3 c =
     let at-start : tie.Start = search in
-    simp length-set (omega (arith, at-start .pre .0 .0, at-start .pre .0 .1))
+    simp length-set (omega (arith, at-start .pre .table .room, at-start .pre .table .below))
 
 slice-write-words-4 : tie.Need-slice-write-words-4
 slice-write-words-4 c =
     let at-start : tie.Start = search in
-    simp length-set (omega (arith, at-start .pre .0 .0, (c .before .before) .if1 .left))
+    simp length-set (omega (arith, at-start .pre .table .room, (c .before .before) .if1 .left))
 
 returns-3 : tie.Need-returns-3
-returns-3 c =
-    let at-start : tie.Start = search in
-    let a = at-start .args in
-    let p = at-start .pre in
-    enter-new (a .words .now) (a .bytes) (a .k) (a .part .item) (a .part .zero) (a .part .one) _ (p .0 .0) (p .0 .1) (probed (a .words .now) (a .bytes) (a .k) (a .part .item) (a .part .zero) (a .part .one) ((c .before .before .before) .probe .ensures)) ((c .before .before) .if1 .left) (c .if2 .left)
-    (stored (a .words .now) (a .k) (a .part .item) (a .part .zero) (a .part .one) _ _)
+returns-3 c = search (enter-new, probed, stored)
 
 pub enter-spec : {M : Type 1} → statement M
 enter-spec =

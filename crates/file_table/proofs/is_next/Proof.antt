@@ -20,25 +20,16 @@ top-of-requires-2 : tie.Need-top-of-requires-2
 top-of-requires-2 c κs = search needs
 
 returns : tie.Need-returns
-returns c = let a = (c .before .before .before) .args in next-item (a .words .now) (a .k) (a .part .item) (a .part .zero) (a .part .one) (c .if1 .taken)
+returns c = search next-item
 
 returns-2 : tie.Need-returns-2
-returns-2 c =
-    let at-start : tie.Start = search in
-    let a = at-start .args in next-zero (a .words .now) (a .k) (a .part .item) (a .part .zero) (a .part .one) ((c .before .before) .if1 .left) (c .if2 .taken)
+returns-2 c = search next-zero
 
 returns-3 : tie.Need-returns-3
-returns-3 c =
-    let at-if1 : tie.Else1 = search in
-    let at-start : tie.Start = search in
-    let a = at-start .args in next-one (a .words .now) (a .k) (a .part .item) (a .part .zero) (a .part .one) (at-if1 .if1 .left) ((c .before .before) .if2 .left) (c .if3 .taken)
+returns-3 c = search next-one
 
 returns-4 : tie.Need-returns-4
-returns-4 c =
-    let at-if2 : tie.Else2 = search in
-    let at-if1 : tie.Else1 = search in
-    let at-start : tie.Start = search in
-    let a = at-start .args in next-none (a .words .now) (a .k) (a .part .item) (a .part .zero) (a .part .one) (at-if1 .if1 .left) (at-if2 .if2 .left) ((c .before .before) .if3 .left) (c .if4 .taken)
+returns-4 c = search next-none
 
 returns-5 : tie.Need-returns-5
 returns-5 c =

@@ -29,7 +29,7 @@ enter-requires c κs =
     let a = at-start .args in
     let p = at-start .pre in
     let f = follows-is (a .words .now) (a .k) (a .part .item) (a .part .zero) (a .part .one) (sym ((c .before .before) .is-next .ensures) ∙ not-false _ ((c .before) .if1 .left)) in
-    (p, (omega (arith, f .zero-low), f .item))
+    record { table = p; item-some = omega (arith, f .zero-low); item-low = f .item }
 
 returns-2 : tie.Need-returns-2
 returns-2 c =

@@ -7,7 +7,7 @@ use Rattle.file_write.proofs.local.Statement.{statement}
 use Rattle.file_write.proofs.local.Tie as tie
 
 returns : tie.Need-returns
-returns c = word-leaf ((c .before) .args .links .now) ((c .before) .args .handle) (c .if1 .taken)
+returns c = search word-leaf
 
 cast-j : tie.Need-cast-j
 cast-j c = search needs
@@ -19,10 +19,10 @@ shared-slice-read-result : tie.Need-shared-slice-read-result
 shared-slice-read-result c = search needs
 
 returns-2 : tie.Need-returns-2
-returns-2 c = word-node ((c .before .before .before) .args .links .now) ((c .before .before .before) .args .handle) ((c .before .before) .if1 .left)
+returns-2 c = search word-node
 
 returns-3 : tie.Need-returns-3
-returns-3 c = word-none ((c .before .before) .args .links .now) ((c .before .before) .args .handle) ((c .before) .if1 .left) (c .if2 .left)
+returns-3 c = search word-none
 
 pub local-spec : {M : Type 1} → statement M
 local-spec =

@@ -6,43 +6,40 @@ use Rattle.file_write.proofs.Cursors.{turn-low, turn-high, turn-item, l
 use Rattle.file_write.proofs.write_part.Statement.{statement}
 use Rattle.file_write.proofs.write_part.Tie as tie
 
+abbrev begun : tie.After-length-of → tie.Start
+begun c = search
+
 returns : tie.Need-returns
-returns c =
-    let at-start : tie.Start = search in
-    let a = at-start .args in turn-low (a .cursor) (a .nodes .now) (a .count) (a .links .now) (a .out .now) (c .if1 .taken)
+returns c = search turn-low
 
 add-if2 : tie.Need-add-if2
 add-if2 c =
     let at-start : tie.Start = search in
-    omega (arith, at-start .pre .0 .1)
+    omega (arith, at-start .pre .0 .few)
 
 returns-2 : tie.Need-returns-2
-returns-2 c =
-    let at-start : tie.Start = search in
-    let a = at-start .args in turn-high (a .cursor) (a .nodes .now) (a .count) (a .links .now) (a .out .now) (c .if2 .taken)
+returns-2 c = search turn-high
 
 cast-j : tie.Need-cast-j
 cast-j c =
     let at-start : tie.Start = search in
-    omega (arith, at-start .pre .0 .1, c .if2 .left)
+    omega (arith, at-start .pre .0 .few, c .if2 .left)
 
 mul-part-at : tie.Need-mul-part-at
 mul-part-at c =
     let at-start : tie.Start = search in
-    omega (arith, at-start .pre .0 .1, (c .before) .if1 .left, c .if2 .left)
+    omega (arith, at-start .pre .0 .few, (c .before) .if1 .left, c .if2 .left)
 
 part-at-requires : tie.Need-part-at-requires
 part-at-requires c κs =
     let at-start : tie.Start = search in
-    omega (arith, at-start .pre .0 .0, at-start .pre .0 .1, (c .before .before) .if1 .left, (c .before) .if2 .left)
+    omega (arith, at-start .pre .0 .words, at-start .pre .0 .few, (c .before .before) .if1 .left, (c .before) .if2 .left)
 
 same-length : tie.Need-same-length
 same-length c = search needs
 
 returns-3 : tie.Need-returns-3
-returns-3 c =
-    let at-start : tie.Start = search in
-    let a = at-start .args in turn-item (a .cursor) (a .nodes .now) (a .count) (a .links .now) (a .out .now) _ ((c .before .before) .part-at .ensures) (c .if3 .taken)
+returns-3 c = search turn-item
 
 add-length-of : tie.Need-add-length-of
 add-length-of c =
@@ -61,11 +58,7 @@ same-length-2 : tie.Need-same-length-2
 same-length-2 c = search needs
 
 returns-4 : tie.Need-returns-4
-returns-4 c =
-    let at-part-at : tie.After-part-at = search in
-    let at-start : tie.Start = search in
-    let a = at-start .args in
-    turn-full (a .cursor) (a .nodes .now) (a .count) (a .links .now) (a .out .now) _ (at-part-at .part-at .ensures) _ ((c .before) .length-of .ensures .0) (at-start .pre .1 .within) (c .if4 .taken)
+returns-4 c = search turn-full
 
 sub-put-record : tie.Need-sub-put-record
 sub-put-record c =
@@ -82,11 +75,10 @@ part-put-record-end c = search needs
 
 put-record-requires : tie.Need-put-record-requires
 put-record-requires c κs =
-    let at-if3 : tie.Else3 = search in
     let at-part-at : tie.After-part-at = search in
     let at-start : tie.Start = search in
     let a = at-start .args in (
-      (omega (arith, at-start .pre .1 .item-low), omega (arith, at-if3 .if3 .left)),
+      omega (arith, at-start .pre .1 .item-low),
       omega (
         arith,
         length-is (a .cursor) (a .nodes .now) (a .count) (a .links .now) (a .out .now) _ (at-part-at .part-at .ensures) _ ((c .before .before) .length-of .ensures .0),
@@ -103,7 +95,7 @@ slice-read-next c =
     let at-if2 : tie.Else2 = search in
     let at-if1 : tie.Else1 = search in
     let at-start : tie.Start = search in
-    omega (arith, at-start .pre .0 .2, at-if1 .if1 .left, at-if2 .if2 .left)
+    omega (arith, at-start .pre .0 .linkable, at-if1 .if1 .left, at-if2 .if2 .left)
 
 add-number : tie.Need-add-number
 add-number c =
@@ -115,19 +107,19 @@ mul-links c =
     let at-if2 : tie.Else2 = search in
     let at-if1 : tie.Else1 = search in
     let at-start : tie.Start = search in
-    omega (arith, at-start .pre .0 .1, at-if1 .if1 .left, at-if2 .if2 .left)
+    omega (arith, at-start .pre .0 .few, at-if1 .if1 .left, at-if2 .if2 .left)
 
 slice-write-links : tie.Need-slice-write-links
 slice-write-links c =
     let at-if2 : tie.Else2 = search in
     let at-if1 : tie.Else1 = search in
     let at-start : tie.Start = search in
-    omega (arith, at-start .pre .0 .2, at-if1 .if1 .left, at-if2 .if2 .left)
+    omega (arith, at-start .pre .0 .linkable, at-if1 .if1 .left, at-if2 .if2 .left)
 
 add-t16 : tie.Need-add-t16
 add-t16 c =
     let at-length-of : tie.After-length-of = search in
-    let at-start : tie.Start = search in
+    let at-start : tie.Start = begun at-length-of in
     omega (arith, at-start .pre .1 .short, at-start .pre .1 .number-low, at-length-of .length-of .ensures .1)
 
 same-length-3 : tie.Need-same-length-3
@@ -145,10 +137,10 @@ returns-5 c =
     let at-part-at : tie.After-part-at = search in
     let at-if2 : tie.Else2 = search in
     let at-if1 : tie.Else1 = search in
-    let at-start : tie.Start = search in
+    let at-start : tie.Start = search (at-if2) in
     let a = at-start .args in
     turn-done (a .cursor) (a .nodes .now) (a .count) (a .links .now) (a .out .now) _ (at-part-at .part-at .ensures) _ (at-length-of .length-of .ensures .0)
-    (at-start .pre .0 .2) (at-start .pre .1) (at-if1 .if1 .left) (at-if2 .if2 .left)
+    (at-start .pre .0 .linkable) (at-start .pre .1) (at-if1 .if1 .left) (at-if2 .if2 .left)
     (at-if3 .if3 .left) (at-length-of .length-of .ensures .1)
     (omega (arith, at-if4 .if4 .left, at-start .pre .1 .within)) (at-put-record .put-record .ensures .1)
 

@@ -4,27 +4,27 @@ use borrow.Author.Needs.{needs}
 use Prim.Native.Nat.{_-_}
 use mathlib.Core.Path.{_∙_}
 use native.Mathlib.Omega.{arith}
-use Rattle.file_write.proofs.Writes.{Left, left-start, left-fits, left-broken, left-step, left-done}
+use Rattle.file_write.proofs.Writes.{PartsLeft, left-start, left-fits, left-broken, left-step, left-done}
 use Rattle.file_write.proofs.write_parts.Statement.{statement}
 use Rattle.file_write.proofs.write_parts.Tie as tie
 
 abbrev Inv-loop : tie.InvT-loop
-Inv-loop first parts nodes count links₀ out₀ cursor₀ left₀ links out cursor left = Left first parts nodes count links₀ out₀ cursor left links out
+Inv-loop first parts nodes count links₀ out₀ cursor₀ left₀ links out cursor left = PartsLeft first parts nodes count links₀ out₀ cursor left links out
 
 abbrev μ-loop : tie.MeasureT-loop
 μ-loop first parts nodes count links₀ out₀ cursor₀ left₀ links out cursor left = left
 
 loop-holds : tie.Need-loop-holds Inv-loop μ-loop
-loop-holds c = let a = (c .before .before .before) .args in left-start (a .first) (a .parts) (a .nodes .now) (a .count) (a .links .now) (a .out .now) ((c .before .before .before) .pre .1 .0)
+loop-holds c = search left-start
 
 write-part-requires : tie.Need-write-part-requires Inv-loop μ-loop
 write-part-requires c κs =
     let at-start : tie.Start Inv-loop μ-loop = search in
     let a = at-start .args in
     let l = (c .before .before .before) .loop in (
-      (at-start .pre .0 .0, at-start .pre .0 .1, omega (arith, at-start .pre .0 .2, l .inv .long)),
+      record { words = at-start .pre .0 .words; few = at-start .pre .0 .few; linkable = omega (arith, at-start .pre .0 .linkable, l .inv .long) },
       left-fits (a .first) (a .parts)
-          (a .nodes .now) (a .count) (a .links .now) (a .out .now) (l .cursor) (l .left) (l .inv) (at-start .pre .1 .1),
+          (a .nodes .now) (a .count) (a .links .now) (a .out .now) (l .cursor) (l .left) (l .inv) (at-start .pre .1 .few),
     )
 
 enum-known-next : tie.Need-enum-known-next Inv-loop μ-loop
@@ -37,24 +37,16 @@ same-length : tie.Need-same-length Inv-loop μ-loop
 same-length c =
     let at-write-part : tie.After-write-part Inv-loop μ-loop = search in
     let at-loop : tie.At-loop Inv-loop μ-loop = search in
-    at-write-part .write-part .kept .1 .1 .1 .0 ∙ at-loop .loop .inv .long
+    at-write-part .write-part .ensures .long ∙ at-loop .loop .inv .long
 
 same-length-2 : tie.Need-same-length-2 Inv-loop μ-loop
 same-length-2 c =
     let at-write-part : tie.After-write-part Inv-loop μ-loop = search in
     let at-loop : tie.At-loop Inv-loop μ-loop = search in
-    at-write-part .write-part .kept .1 .1 .1 .1 .0 ∙ at-loop .loop .inv .long-out
+    at-write-part .write-part .ensures .long-out ∙ at-loop .loop .inv .long-out
 
 returns : tie.Need-returns Inv-loop μ-loop
-returns c =
-    let at-write-part : tie.After-write-part Inv-loop μ-loop = search in
-    let at-loop-test : tie.In-loop Inv-loop μ-loop = search in
-    let at-loop : tie.At-loop Inv-loop μ-loop = search in
-    let at-start : tie.Start Inv-loop μ-loop = search in
-    let a = at-start .args in
-    let l = at-loop .loop in
-    left-broken (a .first) (a .parts) (a .nodes .now) (a .count) (a .links .now) (a .out .now) (l .cursor) (l .left) (l .inv) (at-loop-test .loop-test .taken)
-    (at-write-part .write-part .ensures) (c .enum-told .given .1)
+returns c = search left-broken
 
 sub-left : tie.Need-sub-left Inv-loop μ-loop
 sub-left c =
@@ -67,15 +59,7 @@ loop-less c =
     omega (arith, at-loop-test .loop-test .taken)
 
 loop-again : tie.Need-loop-again Inv-loop μ-loop
-loop-again c =
-    let at-write-part : tie.After-write-part Inv-loop μ-loop = search in
-    let at-loop-test : tie.In-loop Inv-loop μ-loop = search in
-    let at-loop : tie.At-loop Inv-loop μ-loop = search in
-    let at-start : tie.Start Inv-loop μ-loop = search in
-    let a = at-start .args in
-    let l = at-loop .loop in
-    left-step (a .first) (a .parts) (a .nodes .now) (a .count) (a .links .now) (a .out .now) (l .cursor) (l .left) (l .inv) (at-loop-test .loop-test .taken)
-    (at-write-part .write-part .ensures) _ ((c .before) .next .given .1)
+loop-again c = search left-step
 
 same-length-3 : tie.Need-same-length-3 Inv-loop μ-loop
 same-length-3 c = (c .before) .loop .inv .long

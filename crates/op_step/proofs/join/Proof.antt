@@ -22,7 +22,13 @@ get-node-requires c κs =
     let at-answer : tie.After-answer = search in
     let at-start : tie.Start = search in
     let p = at-start .pre in
-    (p .0, (p .1 .0, p .1 .1, p .1 .2, p .1 .3 _ (at-answer .answer .given .1)))
+    record {
+      roomy = p .roomy;
+      item-some = p .level-some;
+      item-low = p .level-low;
+      zero-held = p .zero-held;
+      one-held = p .one-held _ (at-answer .answer .given .1);
+    }
 
 remember-answer-requires : tie.Need-remember-answer-requires
 remember-answer-requires c κs = search needs

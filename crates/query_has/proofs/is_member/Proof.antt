@@ -16,7 +16,7 @@ abbrev μ-loop : tie.MeasureT-loop
 μ-loop nodes count p way₀ left₀ way left = left
 
 loop-holds : tie.Need-loop-holds Inv-loop μ-loop
-loop-holds c = along-start ((c .before) .args .nodes .now) ((c .before) .args .count) ((c .before) .args .p) _ ((c .before) .pre .0)
+loop-holds c = along-start ((c .before) .args .nodes .now) ((c .before) .args .count) ((c .before) .args .p) _ ((c .before) .pre .held)
 
 ends-requires : tie.Need-ends-requires Inv-loop μ-loop
 ends-requires c κs = search needs
@@ -24,22 +24,22 @@ ends-requires c κs = search needs
 add-if3 : tie.Need-add-if3 Inv-loop μ-loop
 add-if3 c =
     let at-start : tie.Start Inv-loop μ-loop = search in
-    omega (arith, at-start .pre .2)
+    omega (arith, at-start .pre .small)
 
 cast-step : tie.Need-cast-step Inv-loop μ-loop
 cast-step c =
     let at-start : tie.Start Inv-loop μ-loop = search in
-    omega (arith, at-start .pre .2, c .if3 .left)
+    omega (arith, at-start .pre .small, c .if3 .left)
 
 mul-step : tie.Need-mul-step Inv-loop μ-loop
 mul-step c =
     let at-start : tie.Start Inv-loop μ-loop = search in
-    omega (arith, at-start .pre .2, c .if3 .left)
+    omega (arith, at-start .pre .small, c .if3 .left)
 
 step-requires : tie.Need-step-requires Inv-loop μ-loop
 step-requires c κs =
     let at-start : tie.Start Inv-loop μ-loop = search in
-    omega (arith, at-start .pre .1, at-start .pre .2, (c .before .before) .if1 .left, c .if3 .left)
+    omega (arith, at-start .pre .words, at-start .pre .small, (c .before .before) .if1 .left, c .if3 .left)
 
 sub-left : tie.Need-sub-left Inv-loop μ-loop
 sub-left c = omega (arith, (c .before .before) .if2 .left)

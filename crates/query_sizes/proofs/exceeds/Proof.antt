@@ -14,32 +14,32 @@ abbrev μ-loop : tie.MeasureT-loop
 μ-loop nodes sizes count p at₀ left₀ at left = left
 
 loop-holds : tie.Need-loop-holds Inv-loop μ-loop
-loop-holds c = down-start ((c .before .before) .args .nodes .now) ((c .before .before) .args .sizes .now) ((c .before .before) .args .count) ((c .before .before) .args .p) ((c .before .before) .pre .0)
+loop-holds c = down-start ((c .before .before) .args .nodes .now) ((c .before .before) .args .sizes .now) ((c .before .before) .args .count) ((c .before .before) .args .p) ((c .before .before) .pre .held)
 
 cast-base : tie.Need-cast-base Inv-loop μ-loop
 cast-base c =
     let at-start : tie.Start Inv-loop μ-loop = search in
-    omega (arith, at-start .pre .2, (c .before .before) .loop .inv .inside, (c .before) .if1 .left)
+    omega (arith, at-start .pre .small, (c .before .before) .loop .inv .inside, (c .before) .if1 .left)
 
 mul-base : tie.Need-mul-base Inv-loop μ-loop
 mul-base c =
     let at-start : tie.Start Inv-loop μ-loop = search in
-    omega (arith, at-start .pre .2, (c .before .before) .loop .inv .inside, (c .before) .if1 .left)
+    omega (arith, at-start .pre .small, (c .before .before) .loop .inv .inside, (c .before) .if1 .left)
 
 add-size-at : tie.Need-add-size-at Inv-loop μ-loop
 add-size-at c =
     let at-start : tie.Start Inv-loop μ-loop = search in
-    omega (arith, at-start .pre .2, (c .before .before) .loop .inv .inside, (c .before) .if1 .left)
+    omega (arith, at-start .pre .small, (c .before .before) .loop .inv .inside, (c .before) .if1 .left)
 
 mul-size-at : tie.Need-mul-size-at Inv-loop μ-loop
 mul-size-at c =
     let at-start : tie.Start Inv-loop μ-loop = search in
-    omega (arith, at-start .pre .1, at-start .pre .2, (c .before .before) .loop .inv .inside, (c .before) .if1 .left)
+    omega (arith, at-start .pre .words, at-start .pre .small, (c .before .before) .loop .inv .inside, (c .before) .if1 .left)
 
 shared-slice-read-size-at : tie.Need-shared-slice-read-size-at Inv-loop μ-loop
 shared-slice-read-size-at c =
     let at-start : tie.Start Inv-loop μ-loop = search in
-    omega (arith, at-start .pre .1, at-start .pre .2, (c .before .before .before) .loop .inv .inside, (c .before .before) .if1 .left)
+    omega (arith, at-start .pre .words, at-start .pre .small, (c .before .before .before) .loop .inv .inside, (c .before .before) .if1 .left)
 
 size-at-requires : tie.Need-size-at-requires Inv-loop μ-loop
 size-at-requires c κs = search needs
@@ -48,20 +48,20 @@ add-next : tie.Need-add-next Inv-loop μ-loop
 add-next c =
     let at-loop : tie.At-loop Inv-loop μ-loop = search in
     let at-start : tie.Start Inv-loop μ-loop = search in
-    omega (arith, at-start .pre .2, at-loop .loop .inv .inside, (c .before .before .before) .if1 .left)
+    omega (arith, at-start .pre .small, at-loop .loop .inv .inside, (c .before .before .before) .if1 .left)
 
 mul-next : tie.Need-mul-next Inv-loop μ-loop
 mul-next c =
     let at-loop : tie.At-loop Inv-loop μ-loop = search in
     let at-start : tie.Start Inv-loop μ-loop = search in
-    omega (arith, at-start .pre .1, at-start .pre .2, at-loop .loop .inv .inside, (c .before .before .before) .if1 .left)
+    omega (arith, at-start .pre .words, at-start .pre .small, at-loop .loop .inv .inside, (c .before .before .before) .if1 .left)
 
 shared-slice-read-next : tie.Need-shared-slice-read-next Inv-loop μ-loop
 shared-slice-read-next c =
     let at-if1 : tie.Else1 Inv-loop μ-loop = search in
     let at-loop : tie.At-loop Inv-loop μ-loop = search in
     let at-start : tie.Start Inv-loop μ-loop = search in
-    omega (arith, at-start .pre .1, at-start .pre .2, at-loop .loop .inv .inside, at-if1 .if1 .left)
+    omega (arith, at-start .pre .words, at-start .pre .small, at-loop .loop .inv .inside, at-if1 .if1 .left)
 
 size-at-requires-2 : tie.Need-size-at-requires-2 Inv-loop μ-loop
 size-at-requires-2 c κs = search needs
@@ -72,7 +72,7 @@ sub-result c = search needs
 add-if5 : tie.Need-add-if5 Inv-loop μ-loop
 add-if5 c =
     let at-start : tie.Start Inv-loop μ-loop = search in
-    omega (arith, at-start .pre .2)
+    omega (arith, at-start .pre .small)
 
 sub-left : tie.Need-sub-left Inv-loop μ-loop
 sub-left c =

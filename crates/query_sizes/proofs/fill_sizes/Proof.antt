@@ -20,12 +20,12 @@ loop-holds c = (omega arith, filled-none ((c .before .before) .args .nodes .now)
 cast-base : tie.Need-cast-base Inv-loop μ-loop
 cast-base c =
     let at-start : tie.Start Inv-loop μ-loop = search in
-    omega (arith, at-start .pre .2, c .loop-test .taken)
+    omega (arith, at-start .pre .small, c .loop-test .taken)
 
 mul-base : tie.Need-mul-base Inv-loop μ-loop
 mul-base c =
     let at-start : tie.Start Inv-loop μ-loop = search in
-    omega (arith, at-start .pre .2, c .loop-test .taken)
+    omega (arith, at-start .pre .small, c .loop-test .taken)
 
 add-size-at : tie.Need-add-size-at Inv-loop μ-loop
 add-size-at c = search needs
@@ -78,7 +78,7 @@ loop-again c =
     let l = at-loop .loop in (
       omega (arith, at-loop-test .loop-test .taken),
       filled-step _ _ _ (at-loop-test .loop-test .taken)
-          (omega (arith, at-start .pre .1, at-loop-test .loop-test .taken)) (at-size-at .size-at .ensures) ((c .before) .size-at2 .ensures) (c .capped-sum .ensures) (l .inv .1),
+          (omega (arith, at-start .pre .scratch, at-loop-test .loop-test .taken)) (at-size-at .size-at .ensures) ((c .before) .size-at2 .ensures) (c .capped-sum .ensures) (l .inv .1),
     )
 
 same-length : tie.Need-same-length Inv-loop μ-loop

@@ -28,19 +28,13 @@ same-length : tie.Need-same-length
 same-length c = search needs
 
 returns : tie.Need-returns
-returns c = let a = (c .before .before .before) .args in file-none (a .file .now) (a .words .now) _ (c .if1 .taken)
+returns c = search file-none
 
 returns-2 : tie.Need-returns-2
-returns-2 c =
-    let at-if2 : tie.Then2 = search in
-    let at-if1 : tie.Else1 = search in
-    let at-start : tie.Start = search in
-    let a = at-start .args in file-rest (a .file .now) _ (a .words .now) _ (at-if1 .if1 .left) (at-if2 .if2 .taken) (part-from (a .file .now) 1) ((c .before .before) .read-parts .ensures)
+returns-2 c = search (file-rest, part-from)
 
 returns-3 : tie.Need-returns-3
-returns-3 c =
-    let at-start : tie.Start = search in
-    let a = at-start .args in file-over (a .file .now) (a .words .now) _ ((c .before .before .before) .if1 .left) ((c .before) .if2 .left) (c .if3 .taken)
+returns-3 c = search file-over
 
 returns-4 : tie.Need-returns-4
 returns-4 c =
@@ -55,10 +49,7 @@ returns-5 c =
     let a = at-start .args in file-leaf (a .file .now) (a .words .now) _ (at-if1 .if1 .left) ((c .before .before .before) .if2 .left) ((c .before .before) .if3 .left) 2 1 (c .if5 .taken) (omega arith) refl
 
 returns-6 : tie.Need-returns-6
-returns-6 c =
-    let at-if1 : tie.Else1 = search in
-    let at-start : tie.Start = search in
-    let a = at-start .args in file-other (a .file .now) (a .words .now) _ (at-if1 .if1 .left) ((c .before .before .before) .if2 .left) ((c .before .before) .if3 .left) ((c .before) .if4 .left) (c .if5 .left)
+returns-6 c = search file-other
 
 pub read-file-spec : {M : Type 1} → statement M
 read-file-spec =

@@ -11,8 +11,8 @@ use borrow.Author.Needs.{needs}
 use Rattle.file_read.proofs.file.read_parts.Statement.{statement}
 use Rattle.file_read.proofs.file.read_parts.Tie as tie
 
-four-requires : tie.Need-four-requires
-four-requires c κs = search needs
+number-requires : tie.Need-number-requires
+number-requires c κs = search needs
 
 sub-read-table : tie.Need-sub-read-table
 sub-read-table c = search needs
@@ -33,44 +33,40 @@ same-length-2 : tie.Need-same-length-2
 same-length-2 c = search needs
 
 returns : tie.Need-returns
-returns c = let a = (c .before .before .before) .args in file-short (a .rest .now) (a .words .now) (a .bytes) (c .if1 .taken)
+returns c = search file-short
 
 returns-2 : tie.Need-returns-2
-returns-2 c =
-    let at-start : tie.Start = search in
-    let a = at-start .args in file-zero (a .rest .now) (a .words .now) (a .bytes) _ ((c .before .before) .if1 .left) ((c .before) .four .ensures) (c .if2 .taken)
+returns-2 c = search file-zero
 
 returns-3 : tie.Need-returns-3
-returns-3 c =
-    let at-start : tie.Start = search in
-    let a = at-start .args in file-many (a .rest .now) (a .words .now) (a .bytes) _ ((c .before .before .before) .if1 .left) ((c .before .before) .four .ensures) ((c .before) .if2 .left) (c .if3 .taken)
+returns-3 c = search file-many
 
 returns-4 : tie.Need-returns-4
 returns-4 c =
     let at-if3 : tie.Else3 = search in
     let at-if2 : tie.Else2 = search in
-    let at-four : tie.After-four = search in
+    let at-number : tie.After-number = search in
     let at-if1 : tie.Else1 = search in
     let at-start : tie.Start = search in
     let a = at-start .args in
-    file-unread (a .rest .now) (a .words .now) (a .bytes) _ (at-if1 .if1 .left) (at-four .four .ensures) (at-if2 .if2 .left) (omega (arith, at-four .four .ok, at-if3 .if3 .left)) (table-part (drop 4 (a .rest .now)) (part-from (a .rest .now) 4) ((c .before .before .before) .read-table .ensures)) (not-true _ (c .if4 .taken))
+    file-unread (a .rest .now) (a .words .now) (a .bytes) _ (at-if1 .if1 .left) (at-number .number .ensures) (at-if2 .if2 .left) (omega (arith, at-number .number .ok, at-if3 .if3 .left)) (table-part (drop 4 (a .rest .now)) (part-from (a .rest .now) 4) ((c .before .before .before) .read-table .ensures)) (not-true _ (c .if4 .taken))
 
 returns-5 : tie.Need-returns-5
 returns-5 c =
     let at-if3 : tie.Else3 = search in
     let at-if2 : tie.Else2 = search in
-    let at-four : tie.After-four = search in
+    let at-number : tie.After-number = search in
     let at-if1 : tie.Else1 = search in
     let at-start : tie.Start = search in
     let a = at-start .args in
-    file-parts (a .rest .now) (a .words .now) (a .bytes) _ (at-if1 .if1 .left) (at-four .four .ensures) (at-if2 .if2 .left) (omega (arith, at-four .four .ok, at-if3 .if3 .left)) (table-part (drop 4 (a .rest .now)) (part-from (a .rest .now) 4) ((c .before .before .before) .read-table .ensures)) (at-start .pre .1) (not-false _ (c .if4 .left))
+    file-parts (a .rest .now) (a .words .now) (a .bytes) _ (at-if1 .if1 .left) (at-number .number .ensures) (at-if2 .if2 .left) (omega (arith, at-number .number .ok, at-if3 .if3 .left)) (table-part (drop 4 (a .rest .now)) (part-from (a .rest .now) 4) ((c .before .before .before) .read-table .ensures)) (at-start .pre .1) (not-false _ (c .if4 .left))
 
 pub read-parts-spec : {M : Type 1} → statement M
 read-parts-spec =
     tie.close
     (tie.spec
     returns
-    four-requires
+    number-requires
     returns-2
     returns-3
     sub-read-table

@@ -1,7 +1,6 @@
 -- `read_table` empties the local lookup, reads the records and walks the placing order from the last part.
 -- Each way out is one law of the local table of a file.
 use borrow.Author.Needs.{needs}
-use mathlib.Core.Path.{refl}
 use native.Mathlib.Omega.{arith}
 use borrow.Author.Tests.{not-true, not-false}
 use Rattle.file_read.proofs.Tables.{blank-table, table-unread, table-room, table-nodes, table-broken, table-done}
@@ -43,15 +42,11 @@ read-records-requires : tie.Need-read-records-requires
 read-records-requires c κs =
     let at-start : tie.Start = search in
     let a = at-start .args in
-    let p = at-start .pre in
-    ((omega (arith, p .0, (c .before .before .before) .zero .kept .0), p .1, p .2), blank-table (a .bytes) (a .words .now) (p .0) ((c .before .before .before) .zero .ensures))
+    let p = at-start .pre .0 in
+    (record { room = omega (arith, p .room, (c .before .before .before) .zero .kept .0); few = p .few; low = p .low }, blank-table (a .bytes) (a .words .now) (p .room) ((c .before .before .before) .zero .ensures))
 
 returns : tie.Need-returns
-returns c =
-    let at-zero : tie.After-zero = search in
-    let at-start : tie.Start = search in
-    let a = at-start .args in
-    table-unread (a .records .now) (a .parts) (a .words .now) (a .bytes) (at-start .pre .0) (at-zero .zero .ensures) ((c .before .before .before) .read-records .ensures) (not-true _ (c .if1 .taken))
+returns c = search (table-unread, not-true)
 
 in-order-requires : tie.Need-in-order-requires
 in-order-requires c κs =
@@ -59,29 +54,20 @@ in-order-requires c κs =
     let at-zero : tie.After-zero = search in
     let at-start : tie.Start = search in
     let a = at-start .args in
-    let p = at-start .pre in
-    let e = not-false _ ((c .before) .if1 .left) in (
-      (table-room (a .records .now) (a .parts) (a .words .now) (a .bytes) (p .0) (at-zero .zero .ensures) (at-read-records .read-records .ensures) e (p .1), omega arith, omega arith),
-      table-nodes (a .records .now) (a .parts) (a .words .now) (a .bytes) (p .0) (at-zero .zero .ensures) (at-read-records .read-records .ensures) e,
-    )
+    let p = at-start .pre .0 in
+    let e = not-false _ ((c .before) .if1 .left) in
+    record {
+      room = table-room (a .records .now) (a .parts) (a .words .now) (a .bytes) (p .room) (at-zero .zero .ensures) (at-read-records .read-records .ensures) e (p .few);
+      inside = omega arith;
+      some-placed = omega arith;
+      local = table-nodes (a .records .now) (a .parts) (a .words .now) (a .bytes) (p .room) (at-zero .zero .ensures) (at-read-records .read-records .ensures) e;
+    }
 
 returns-2 : tie.Need-returns-2
-returns-2 c =
-    let at-if1 : tie.Else1 = search in
-    let at-read-records : tie.After-read-records = search in
-    let at-zero : tie.After-zero = search in
-    let at-start : tie.Start = search in
-    let a = at-start .args in
-    table-broken (a .records .now) (a .parts) (a .words .now) (a .bytes) (at-start .pre .0) (at-zero .zero .ensures) (at-read-records .read-records .ensures) (not-false _ (at-if1 .if1 .left)) ((c .before .before) .in-order .ensures) (c .enum-told .given .1)
+returns-2 c = search (table-broken, not-false)
 
 returns-3 : tie.Need-returns-3
-returns-3 c =
-    let at-if1 : tie.Else1 = search in
-    let at-read-records : tie.After-read-records = search in
-    let at-zero : tie.After-zero = search in
-    let at-start : tie.Start = search in
-    let a = at-start .args in
-    table-done (a .records .now) (a .parts) (a .words .now) (a .bytes) (at-start .pre .0) (at-zero .zero .ensures) (at-read-records .read-records .ensures) (not-false _ (at-if1 .if1 .left)) ((c .before .before .before) .in-order .ensures) _ ((c .before) .last .given .1) _ refl
+returns-3 c = search (table-done, not-false)
 
 pub read-table-spec : {M : Type 1} → statement M
 read-table-spec =

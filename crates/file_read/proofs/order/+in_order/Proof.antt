@@ -14,7 +14,7 @@ use Rattle.file_read.proofs.order.+in_order.{statement}
 use Rattle.file_read.proofs.order.+in_order.Tie.{close}
 
 abbrev μ-in-order : Measures 1 in-order-kinds.ps ℕ
-μ-in-order κs a = a .1 .1 .0
+μ-in-order κs (nodes, (count, (p, last))) = p
 
 abbrev in-order-at : ℕ → In 1 in-order-kinds.ps
 in-order-at t = and 1 in-order-kinds.ps (is 1 in-order-kinds.ps μ-in-order t) in-order.Pre
@@ -28,35 +28,32 @@ in-order-claims t = (in-order-below t, in-order.Post)
 
 in-order-returns :
     (t : ℕ) →
-    in-order-lts.Need-returns (in-order-below t, in-order.Post) (in-order-at t) in-order.Post
-in-order-returns t c =
-    let a = (c .before .before) .args in
-    let q = (c .before .before) .pre .1 in
-    walk-placed (a .nodes .now) (a .count) (a .p) (a .last) (q .0 .1) (q .0 .2) (c .if1 .taken)
+    in-order-lts.Need-returns (in-order-claims t) (in-order-at t) in-order.Post
+in-order-returns t c = search walk-placed
 
 in-order-sub-base :
     (t : ℕ) →
-    in-order-lts.Need-sub-base (in-order-below t, in-order.Post) (in-order-at t) in-order.Post
+    in-order-lts.Need-sub-base (in-order-claims t) (in-order-at t) in-order.Post
 in-order-sub-base t c = search needs
 
 in-order-cast-base :
     (t : ℕ) →
-    in-order-lts.Need-cast-base (in-order-below t, in-order.Post) (in-order-at t) in-order.Post
+    in-order-lts.Need-cast-base (in-order-claims t) (in-order-at t) in-order.Post
 in-order-cast-base t c = search needs
 
 in-order-mul-base :
     (t : ℕ) →
-    in-order-lts.Need-mul-base (in-order-below t, in-order.Post) (in-order-at t) in-order.Post
+    in-order-lts.Need-mul-base (in-order-claims t) (in-order-at t) in-order.Post
 in-order-mul-base t c = search needs
 
 in-order-add-in-order :
     (t : ℕ) →
-    in-order-lts.Need-add-in-order (in-order-below t, in-order.Post) (in-order-at t) in-order.Post
+    in-order-lts.Need-add-in-order (in-order-claims t) (in-order-at t) in-order.Post
 in-order-add-in-order t c = search needs
 
 in-order-mul-in-order :
     (t : ℕ) →
-    in-order-lts.Need-mul-in-order (in-order-below t, in-order.Post) (in-order-at t) in-order.Post
+    in-order-lts.Need-mul-in-order (in-order-claims t) (in-order-at t) in-order.Post
 in-order-mul-in-order t c = search needs
 
 in-order-shared-slice-read-in-order : (t : ℕ) → in-order-lts.Need-shared-slice-read-in-order (in-order-claims t) (in-order-at t) in-order.Post
@@ -66,9 +63,9 @@ in-order-in-order-requires : (t : ℕ) → in-order-lts.Need-in-order-requires (
 in-order-in-order-requires t c κs =
     let a = (c .before .before .before) .args in
     let q = (c .before .before .before) .pre .1 in
-    let E = q .1 .each (a .p - 2) (omega (arith, q .0 .1, q .0 .2, (c .before) .if1 .left)) in (
-      omega (arith, (c .before .before .before) .pre .0, E .zero-before, q .0 .2, (c .before) .if1 .left),
-      ((q .0 .0, omega (arith, E .zero-before, q .0 .1, q .0 .2, (c .before) .if1 .left), q .0 .2), q .1),
+    let E = q .local .each (a .p - 2) (omega (arith, q .inside, q .some-placed, (c .before) .if1 .left)) in (
+      omega (arith, (c .before .before .before) .pre .0, E .zero-before, q .some-placed, (c .before) .if1 .left),
+      record { room = q .room; inside = omega (arith, E .zero-before, q .inside, q .some-placed, (c .before) .if1 .left); some-placed = q .some-placed; local = q .local },
     )
 
 in-order-enum-known-first : (t : ℕ) → in-order-lts.Need-enum-known-first (in-order-claims t) (in-order-at t) in-order.Post
@@ -76,18 +73,13 @@ in-order-enum-known-first t c = search needs
 
 in-order-enum-told :
     (t : ℕ) →
-    in-order-lts.Need-enum-told (in-order-below t, in-order.Post) (in-order-at t) in-order.Post
+    in-order-lts.Need-enum-told (in-order-claims t) (in-order-at t) in-order.Post
 in-order-enum-told t c = search needs
 
 in-order-returns-2 :
     (t : ℕ) →
-    in-order-lts.Need-returns-2 (in-order-below t, in-order.Post) (in-order-at t) in-order.Post
-in-order-returns-2 t c =
-    let at-if1 : in-order-lts.Else1 (in-order-below t, in-order.Post) (in-order-at t) in-order.Post = search in
-    let at-start : in-order-lts.Start (in-order-below t, in-order.Post) (in-order-at t) in-order.Post = search in
-    let a = at-start .args in
-    let q = at-start .pre .1 in
-    walk-first (a .nodes .now) (a .count) (a .p) (a .last) (q .0 .1) (q .0 .2) (at-if1 .if1 .left) ((c .before .before) .in-order .ensures) (c .enum-told .given .1)
+    in-order-lts.Need-returns-2 (in-order-claims t) (in-order-at t) in-order.Post
+in-order-returns-2 t c = search walk-first
 
 in-order-add-in-order-2 : (t : ℕ) → in-order-lts.Need-add-in-order-2 (in-order-claims t) (in-order-at t) in-order.Post
 in-order-add-in-order-2 t c = search needs
@@ -105,9 +97,14 @@ in-order-in-order-requires-2 t c κs =
     let at-start : in-order-lts.Start (in-order-claims t) (in-order-at t) in-order.Post = search in
     let a = at-start .args in
     let q = at-start .pre .1 in
-    let E = q .1 .each (a .p - 2) (omega (arith, q .0 .1, q .0 .2, at-if1 .if1 .left)) in (
-      omega (arith, at-start .pre .0, E .one-before, q .0 .2, at-if1 .if1 .left),
-      ((q .0 .0, omega (arith, E .one-before, q .0 .1, q .0 .2, at-if1 .if1 .left), at-in-order .in-order .ensures .low _ ((c .before .before) .first .given .1)), q .1),
+    let E = q .local .each (a .p - 2) (omega (arith, q .inside, q .some-placed, at-if1 .if1 .left)) in (
+      omega (arith, at-start .pre .0, E .one-before, q .some-placed, at-if1 .if1 .left),
+      record {
+        room = q .room;
+        inside = omega (arith, E .one-before, q .inside, q .some-placed, at-if1 .if1 .left);
+        some-placed = at-in-order .in-order .ensures .low _ ((c .before .before) .first .given .1);
+        local = q .local;
+      },
     )
 
 in-order-enum-known-second : (t : ℕ) → in-order-lts.Need-enum-known-second (in-order-claims t) (in-order-at t) in-order.Post
@@ -115,58 +112,35 @@ in-order-enum-known-second t c = search needs
 
 in-order-enum-told-2 :
     (t : ℕ) →
-    in-order-lts.Need-enum-told-2 (in-order-below t, in-order.Post) (in-order-at t) in-order.Post
+    in-order-lts.Need-enum-told-2 (in-order-claims t) (in-order-at t) in-order.Post
 in-order-enum-told-2 t c = search needs
 
 in-order-returns-3 :
     (t : ℕ) →
-    in-order-lts.Need-returns-3 (in-order-below t, in-order.Post) (in-order-at t) in-order.Post
-in-order-returns-3 t c =
-    let at-first : in-order-lts.After-first (in-order-below t, in-order.Post) (in-order-at t) in-order.Post = search in
-    let at-in-order : in-order-lts.After-in-order (in-order-below t, in-order.Post) (in-order-at t) in-order.Post = search in
-    let at-if1 : in-order-lts.Else1 (in-order-below t, in-order.Post) (in-order-at t) in-order.Post = search in
-    let at-start : in-order-lts.Start (in-order-below t, in-order.Post) (in-order-at t) in-order.Post = search in
-    let a = at-start .args in
-    let q = at-start .pre .1 in
-    walk-second (a .nodes .now) (a .count) (a .p) (a .last) (q .0 .1) (q .0 .2) (at-if1 .if1 .left) (at-in-order .in-order .ensures) _ (at-first .first .given .1) ((c .before .before) .in-order2 .ensures) (c .enum-told2 .given .1)
+    in-order-lts.Need-returns-3 (in-order-claims t) (in-order-at t) in-order.Post
+in-order-returns-3 t c = search walk-second
 
 in-order-sub-if2 :
     (t : ℕ) →
-    in-order-lts.Need-sub-if2 (in-order-below t, in-order.Post) (in-order-at t) in-order.Post
+    in-order-lts.Need-sub-if2 (in-order-claims t) (in-order-at t) in-order.Post
 in-order-sub-if2 t c = search needs
 
 in-order-returns-4 :
     (t : ℕ) →
-    in-order-lts.Need-returns-4 (in-order-below t, in-order.Post) (in-order-at t) in-order.Post
-in-order-returns-4 t c =
-    let at-in-order2 : in-order-lts.After-in-order2 (in-order-below t, in-order.Post) (in-order-at t) in-order.Post = search in
-    let at-first : in-order-lts.After-first (in-order-below t, in-order.Post) (in-order-at t) in-order.Post = search in
-    let at-in-order : in-order-lts.After-in-order (in-order-below t, in-order.Post) (in-order-at t) in-order.Post = search in
-    let at-if1 : in-order-lts.Else1 (in-order-below t, in-order.Post) (in-order-at t) in-order.Post = search in
-    let at-start : in-order-lts.Start (in-order-below t, in-order.Post) (in-order-at t) in-order.Post = search in
-    let a = at-start .args in
-    let q = at-start .pre .1 in
-    walk-other (a .nodes .now) (a .count) (a .p) (a .last) (q .0 .1) (q .0 .2) (at-if1 .if1 .left) (at-in-order .in-order .ensures) _ (at-first .first .given .1) (at-in-order2 .in-order2 .ensures) _ ((c .before .before) .second .given .1) (c .if2 .taken)
+    in-order-lts.Need-returns-4 (in-order-claims t) (in-order-at t) in-order.Post
+in-order-returns-4 t c = search walk-other
 
 in-order-returns-5 :
     (t : ℕ) →
-    in-order-lts.Need-returns-5 (in-order-below t, in-order.Post) (in-order-at t) in-order.Post
-in-order-returns-5 t c =
-    let at-in-order2 : in-order-lts.After-in-order2 (in-order-below t, in-order.Post) (in-order-at t) in-order.Post = search in
-    let at-first : in-order-lts.After-first (in-order-below t, in-order.Post) (in-order-at t) in-order.Post = search in
-    let at-in-order : in-order-lts.After-in-order (in-order-below t, in-order.Post) (in-order-at t) in-order.Post = search in
-    let at-if1 : in-order-lts.Else1 (in-order-below t, in-order.Post) (in-order-at t) in-order.Post = search in
-    let at-start : in-order-lts.Start (in-order-below t, in-order.Post) (in-order-at t) in-order.Post = search in
-    let a = at-start .args in
-    let q = at-start .pre .1 in
-    walk-next (a .nodes .now) (a .count) (a .p) (a .last) (q .0 .1) (q .0 .2) (at-if1 .if1 .left) (at-in-order .in-order .ensures) _ (at-first .first .given .1) (at-in-order2 .in-order2 .ensures) _ ((c .before .before) .second .given .1) (c .if2 .left)
+    in-order-lts.Need-returns-5 (in-order-claims t) (in-order-at t) in-order.Post
+in-order-returns-5 t c = search walk-next
 
 pub +in-order-spec : {M : Type 1} → statement M
 +in-order-spec =
     close
     μ-in-order
     λ t. in-order-lts.spec
-    (in-order-below t, in-order.Post)
+    (in-order-claims t)
     (in-order-at t)
     in-order.Post
     (in-order-returns t)

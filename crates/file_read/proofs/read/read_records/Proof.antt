@@ -1,23 +1,23 @@
 -- `read_records` takes record after record from the rest of the bytes; so many are left.
 -- Each way out is one law of the definition's turns.
 use borrow.Author.Needs.{needs}
-use mathlib.Core.Path.{refl, _∙_}
+use mathlib.Core.Path.{_∙_}
 use Prim.Native.Nat.{_-_}
 use native.Mathlib.Omega.{arith}
 use borrow.Author.Tests.{not-true, not-false}
 use Rattle.file_record.proofs.Taking.{part-from}
-use Rattle.file_read.proofs.Recording.{Upto, upto-start, upto-none, upto-room, upto-fits, upto-unfit, upto-step, upto-done}
+use Rattle.file_read.proofs.Recording.{RecordsTaken, taken-start, taken-none, taken-room, taken-fits, taken-unfit, taken-step, taken-done}
 use Rattle.file_read.proofs.read.read_records.Statement.{statement}
 use Rattle.file_read.proofs.read.read_records.Tie as tie
 
 abbrev Inv-loop : tie.InvT-loop
-Inv-loop records parts words₀ bytes rest₀ last₀ k₀ words rest last k = Upto records parts words₀ bytes rest last k words
+Inv-loop records parts words₀ bytes rest₀ last₀ k₀ words rest last k = RecordsTaken records parts words₀ bytes rest last k words
 
 abbrev μ-loop : tie.MeasureT-loop
 μ-loop records parts words₀ bytes rest₀ last₀ k₀ words rest last k = parts - k
 
 loop-holds : tie.Need-loop-holds Inv-loop μ-loop
-loop-holds c = let a = (c .before .before) .args in upto-start (a .records .now) (a .parts) (a .words .now) (a .bytes) ((c .before .before) .pre .1) _ refl refl
+loop-holds c = search taken-start
 
 read-record-requires : tie.Need-read-record-requires Inv-loop μ-loop
 read-record-requires c κs = omega (arith, (c .before) .loop .inv .item-low)
@@ -34,12 +34,7 @@ same-length c =
     at-loop .loop .inv .long
 
 returns : tie.Need-returns Inv-loop μ-loop
-returns c =
-    let at-loop : tie.At-loop Inv-loop μ-loop = search in
-    let at-start : tie.Start Inv-loop μ-loop = search in
-    let a = at-start .args in
-    let l = at-loop .loop in
-    upto-none (a .records .now) (a .parts) (a .words .now) (a .bytes) (l .rest .now) (l .last) (l .k) (l .words) (l .inv) ((c .before .before .before) .loop-test .taken) ((c .before .before) .read-record .ensures) (c .enum-told .given .1)
+returns c = search taken-none
 
 take-part-requires : tie.Need-take-part-requires Inv-loop μ-loop
 take-part-requires c κs =
@@ -50,7 +45,7 @@ take-part-requires c κs =
     let a = at-start .args in
     let l = at-loop .loop in
     let p = at-start .pre .0 in
-    (omega (arith, p .0, l .inv .long), upto-room (a .records .now) (a .parts) (a .words .now) (a .bytes) (l .rest .now) (l .last) (l .k) (l .words) (l .inv) (at-loop-test .loop-test .taken) (at-read-record .read-record .ensures) _ _ ((c .before .before) .part .given .1) (p .1), omega (arith, p .2, at-loop-test .loop-test .taken))
+    record { room = omega (arith, p .room, l .inv .long); below = taken-room (a .records .now) (a .parts) (a .words .now) (a .bytes) (l .rest .now) (l .last) (l .k) (l .words) (l .inv) (at-loop-test .loop-test .taken) (at-read-record .read-record .ensures) _ _ ((c .before .before) .part .given .1) (p .few); low = omega (arith, p .low, at-loop-test .loop-test .taken) }
 
 same-length-2 : tie.Need-same-length-2 Inv-loop μ-loop
 same-length-2 c =
@@ -58,33 +53,13 @@ same-length-2 c =
     (c .before .before .before) .take-part .kept .0 ∙ at-loop .loop .inv .long
 
 returns-2 : tie.Need-returns-2 Inv-loop μ-loop
-returns-2 c =
-    let at-part : tie.After-part Inv-loop μ-loop = search in
-    let at-read-record : tie.After-read-record Inv-loop μ-loop = search in
-    let at-loop-test : tie.In-loop Inv-loop μ-loop = search in
-    let at-loop : tie.At-loop Inv-loop μ-loop = search in
-    let at-start : tie.Start Inv-loop μ-loop = search in
-    let a = at-start .args in
-    let l = at-loop .loop in
-    upto-unfit (a .records .now) (a .parts) (a .words .now) (a .bytes) (l .rest .now) (l .last) (l .k) (l .words) (l .inv) (at-loop-test .loop-test .taken) (at-read-record .read-record .ensures) _ _ (at-part .part .given .1) ((c .before .before .before) .take-part .ensures) (not-true _ (c .if1 .taken))
+returns-2 c = search (taken-unfit, not-true)
 
 sub-rest : tie.Need-sub-rest Inv-loop μ-loop
-sub-rest c =
-    let at-part : tie.After-part Inv-loop μ-loop = search in
-    let at-read-record : tie.After-read-record Inv-loop μ-loop = search in
-    let at-loop-test : tie.In-loop Inv-loop μ-loop = search in
-    let at-loop : tie.At-loop Inv-loop μ-loop = search in
-    let at-start : tie.Start Inv-loop μ-loop = search in
-    let a = at-start .args in let l = at-loop .loop in upto-fits (a .records .now) (a .parts) (a .words .now) (a .bytes) (l .rest .now) (l .last) (l .k) (l .words) (l .inv) (at-loop-test .loop-test .taken) (at-read-record .read-record .ensures) _ _ (at-part .part .given .1)
+sub-rest c = search taken-fits
 
 part-rest-start : tie.Need-part-rest-start Inv-loop μ-loop
-part-rest-start c =
-    let at-part : tie.After-part Inv-loop μ-loop = search in
-    let at-read-record : tie.After-read-record Inv-loop μ-loop = search in
-    let at-loop-test : tie.In-loop Inv-loop μ-loop = search in
-    let at-loop : tie.At-loop Inv-loop μ-loop = search in
-    let at-start : tie.Start Inv-loop μ-loop = search in
-    let a = at-start .args in let l = at-loop .loop in upto-fits (a .records .now) (a .parts) (a .words .now) (a .bytes) (l .rest .now) (l .last) (l .k) (l .words) (l .inv) (at-loop-test .loop-test .taken) (at-read-record .read-record .ensures) _ _ (at-part .part .given .1)
+part-rest-start c = search taken-fits
 
 part-rest-end : tie.Need-part-rest-end Inv-loop μ-loop
 part-rest-end c = search needs
@@ -93,13 +68,13 @@ add-k : tie.Need-add-k Inv-loop μ-loop
 add-k c =
     let at-loop-test : tie.In-loop Inv-loop μ-loop = search in
     let at-start : tie.Start Inv-loop μ-loop = search in
-    omega (arith, at-start .pre .0 .2, at-loop-test .loop-test .taken)
+    omega (arith, at-start .pre .0 .low, at-loop-test .loop-test .taken)
 
 add-t18 : tie.Need-add-t18 Inv-loop μ-loop
 add-t18 c =
     let at-loop-test : tie.In-loop Inv-loop μ-loop = search in
     let at-start : tie.Start Inv-loop μ-loop = search in
-    omega (arith, at-start .pre .0 .2, at-loop-test .loop-test .taken)
+    omega (arith, at-start .pre .0 .low, at-loop-test .loop-test .taken)
 
 loop-less : tie.Need-loop-less Inv-loop μ-loop
 loop-less c =
@@ -107,26 +82,13 @@ loop-less c =
     omega (arith, at-loop-test .loop-test .taken)
 
 loop-again : tie.Need-loop-again Inv-loop μ-loop
-loop-again c =
-    let at-take-part : tie.After-take-part Inv-loop μ-loop = search in
-    let at-part : tie.After-part Inv-loop μ-loop = search in
-    let at-read-record : tie.After-read-record Inv-loop μ-loop = search in
-    let at-loop-test : tie.In-loop Inv-loop μ-loop = search in
-    let at-loop : tie.At-loop Inv-loop μ-loop = search in
-    let at-start : tie.Start Inv-loop μ-loop = search in
-    let a = at-start .args in
-    let l = at-loop .loop in
-    upto-step (a .records .now) (a .parts) (a .words .now) (a .bytes) (l .rest .now) (l .last) (l .k) (l .words) (l .inv) (at-loop-test .loop-test .taken) (at-read-record .read-record .ensures) _ _ (at-part .part .given .1) (at-take-part .take-part .ensures) (not-false _ ((c .before) .if1 .left)) _ refl refl (part-from (l .rest .now) _)
+loop-again c = search (taken-step, not-false, part-from)
 
 same-length-3 : tie.Need-same-length-3 Inv-loop μ-loop
 same-length-3 c = (c .before) .loop .inv .long
 
 returns-3 : tie.Need-returns-3 Inv-loop μ-loop
-returns-3 c =
-    let at-start : tie.Start Inv-loop μ-loop = search in
-    let a = at-start .args in
-    let l = (c .before) .loop in
-    upto-done (a .records .now) (a .parts) (a .words .now) (a .bytes) (l .rest .now) (l .last) (l .k) (l .words) (l .inv) (omega (arith, c .loop-test .left)) _ refl
+returns-3 c = search taken-done
 
 pub read-records-spec : {M : Type 1} → statement M
 read-records-spec =

@@ -7,7 +7,7 @@ use Rattle.file_record.proofs.read.read_record.Statement.{statement}
 use Rattle.file_record.proofs.read.read_record.Tie as tie
 
 returns : tie.Need-returns
-returns c = record-end ((c .before .before) .args .last) ((c .before .before) .args .rest .now) (c .if1 .taken)
+returns c = search record-end
 
 shared-slice-read-wide : tie.Need-shared-slice-read-wide
 shared-slice-read-wide c = search needs
@@ -16,9 +16,7 @@ wide-requires : tie.Need-wide-requires
 wide-requires c κs = search needs
 
 returns-2 : tie.Need-returns-2
-returns-2 c =
-    let at-start : tie.Start = search in
-    record-map (at-start .args .last) (at-start .args .rest .now) _ ((c .before) .wide .ensures .0) ((c .before .before .before) .if1 .left) (c .if2 .taken)
+returns-2 c = search record-map
 
 sub-fields : tie.Need-sub-fields
 sub-fields c = search needs
@@ -39,25 +37,13 @@ enum-told : tie.Need-enum-told
 enum-told c = search needs
 
 returns-3 : tie.Need-returns-3
-returns-3 c =
-    let at-if2 : tie.Else2 = search in
-    let at-wide : tie.After-wide = search in
-    let at-if1 : tie.Else1 = search in
-    let at-start : tie.Start = search in
-    record-no (at-start .args .last) (at-start .args .rest .now) _ _ (at-wide .wide .ensures .0) (at-if1 .if1 .left)
-    (at-if2 .if2 .left) (part-from (at-start .args .rest .now) 1) ((c .before .before) .fields .ensures) (c .enum-told .given .1)
+returns-3 c = search (record-no, part-from)
 
 add-t6 : tie.Need-add-t6
 add-t6 c = omega (arith, fields-read _ _ ((c .before) .part .given .1) ((c .before .before .before) .fields .ensures) .few)
 
 returns-4 : tie.Need-returns-4
-returns-4 c =
-    let at-if2 : tie.Else2 = search in
-    let at-wide : tie.After-wide = search in
-    let at-if1 : tie.Else1 = search in
-    let at-start : tie.Start = search in
-    record-taken (at-start .args .last) (at-start .args .rest .now) _ _ (at-wide .wide .ensures .0)
-    (at-if1 .if1 .left) (at-if2 .if2 .left) (part-from (at-start .args .rest .now) 1) ((c .before .before .before) .fields .ensures) _ _ ((c .before) .part .given .1)
+returns-4 c = search (record-taken, part-from)
 
 pub read-record-spec : {M : Type 1} → statement M
 read-record-spec =

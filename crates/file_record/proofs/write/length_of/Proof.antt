@@ -10,13 +10,13 @@ width-requires : tie.Need-width-requires
 width-requires c κs = search needs
 
 add-result : tie.Need-add-result
-add-result c = omega (arith, weight-low ((c .before) .args .item) _ 2 (c .width .ensures))
+add-result c = omega (arith, weight-low ((c .before) .args .item) _ _ (c .width .ensures))
 
 width-requires-2 : tie.Need-width-requires-2
 width-requires-2 c κs = search needs
 
 add-result-2 : tie.Need-add-result-2
-add-result-2 c = omega (arith, weight-low ((c .before .before) .args .item) _ 2 ((c .before) .width .ensures), weight-low ((c .before .before) .args .zero) _ 4 (c .width2 .ensures))
+add-result-2 c = omega (arith, weight-low ((c .before .before) .args .item) _ _ ((c .before) .width .ensures), weight-low ((c .before .before) .args .zero) _ _ (c .width2 .ensures))
 
 width-requires-3 : tie.Need-width-requires-3
 width-requires-3 c κs = search needs
@@ -24,10 +24,10 @@ width-requires-3 c κs = search needs
 add-result-3 : tie.Need-add-result-3
 add-result-3 c = omega (
   arith,
-  weight-low ((c .before .before .before) .args .item) _ 2 ((c .before .before) .width .ensures),
-  weight-low ((c .before .before .before) .args .zero) _ 4
+  weight-low ((c .before .before .before) .args .item) _ _ ((c .before .before) .width .ensures),
+  weight-low ((c .before .before .before) .args .zero) _ _
       ((c .before) .width2 .ensures),
-  weight-low ((c .before .before .before) .args .one) _ 4 (c .width3 .ensures),
+  weight-low ((c .before .before .before) .args .one) _ _ (c .width3 .ensures),
 )
 
 returns : tie.Need-returns

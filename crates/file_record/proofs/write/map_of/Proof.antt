@@ -13,7 +13,7 @@ weight-requires-2 : tie.Need-weight-requires-2
 weight-requires-2 c κs = search needs
 
 add-result : tie.Need-add-result
-add-result c = omega (arith, weight-low ((c .before .before) .args .item) _ 1 ((c .before) .weight .ensures), weight-low ((c .before .before) .args .zero) _ 2 (c .weight2 .ensures))
+add-result c = omega (arith, weight-low ((c .before .before) .args .item) _ _ ((c .before) .weight .ensures), weight-low ((c .before .before) .args .zero) _ _ (c .weight2 .ensures))
 
 weight-requires-3 : tie.Need-weight-requires-3
 weight-requires-3 c κs = search needs
@@ -21,14 +21,14 @@ weight-requires-3 c κs = search needs
 add-result-2 : tie.Need-add-result-2
 add-result-2 c = omega (
   arith,
-  weight-low ((c .before .before .before) .args .item) _ 1 ((c .before .before) .weight .ensures),
-  weight-low ((c .before .before .before) .args .zero) _ 2
+  weight-low ((c .before .before .before) .args .item) _ _ ((c .before .before) .weight .ensures),
+  weight-low ((c .before .before .before) .args .zero) _ _
       ((c .before) .weight2 .ensures),
-  weight-low ((c .before .before .before) .args .one) _ 4 (c .weight3 .ensures),
+  weight-low ((c .before .before .before) .args .one) _ _ (c .weight3 .ensures),
 )
 
 returns : tie.Need-returns
-returns c = let a = (c .before .before .before) .args in map-is (a .item) (a .zero) (a .one) _ _ _ ((c .before .before) .weight .ensures) ((c .before) .weight2 .ensures) (c .weight3 .ensures)
+returns c = search map-is
 
 pub map-of-spec : {M : Type 1} → statement M
 map-of-spec =

@@ -15,48 +15,47 @@ map-of-requires : tie.Need-map-of-requires
 map-of-requires c κs = search needs
 
 slice-write-out : tie.Need-slice-write-out
-slice-write-out c =
-    let at-start : tie.Start = search in
-    let a = at-start .args in room-map (a .last .item) (a .last .number) (a .part .item) (a .part .zero) (a .part .one) (a .out .now) 0 (at-start .pre .1)
+slice-write-out c = search room-map
 
-put-two-requires : tie.Need-put-two-requires
-put-two-requires c κs =
+put-field-requires : tie.Need-put-field-requires
+put-field-requires c κs = search room-item
+
+put-field-requires-2 : tie.Need-put-field-requires-2
+put-field-requires-2 c κs =
+    let at-put-field : tie.After-put-field = search in
     let at-start : tie.Start = search in
     let a = at-start .args in
-    (at-start .pre .0 .1, room-item (a .last .item) (a .last .number) (a .part .item) (a .part .zero) (a .part .one) (a .out .now) _ (at-start .pre .1))
+    room-zero (a .last .item) (a .last .number) (a .part .item) (a .part .zero) (a .part .one) (a .out .now) (at-start .pre .1) _
+    (at-put-field .put-field .kept .0 ∙ length-set (a .out .now) 0 _) (at-put-field .put-field .ensures .0)
 
-put-four-requires : tie.Need-put-four-requires
-put-four-requires c κs =
+put-field-requires-3 : tie.Need-put-field-requires-3
+put-field-requires-3 c κs =
+    let at-put-field2 : tie.After-put-field2 = search in
+    let at-put-field : tie.After-put-field = search in
     let at-start : tie.Start = search in
     let a = at-start .args in
-    room-zero (a .last .item) (a .last .number) (a .part .item) (a .part .zero) (a .part .one) (a .out .now) _ (at-start .pre .1) _ ((c .before .before .before) .put-two .ensures)
-
-put-four-requires-2 : tie.Need-put-four-requires-2
-put-four-requires-2 c κs =
-    let at-put-two : tie.After-put-two = search in
-    let at-start : tie.Start = search in
-    let a = at-start .args in
-    room-one (a .last .item) (a .last .number) (a .part .item) (a .part .zero) (a .part .one) (a .out .now) _ (at-start .pre .1) _
-    (at-put-two .put-two .ensures) _ ((c .before .before .before) .put-four .ensures)
+    room-one (a .last .item) (a .last .number) (a .part .item) (a .part .zero) (a .part .one) (a .out .now) (at-start .pre .1) _ _
+    (at-put-field2 .put-field2 .kept .0 ∙ at-put-field .put-field .kept .0 ∙ length-set (a .out .now) 0 _)
+    (at-put-field .put-field .ensures .0) (at-put-field2 .put-field2 .ensures .0)
 
 same-length : tie.Need-same-length
 same-length c =
-    let at-put-four : tie.After-put-four = search in
-    let at-put-two : tie.After-put-two = search in
+    let at-put-field2 : tie.After-put-field2 = search in
+    let at-put-field : tie.After-put-field = search in
     let at-start : tie.Start = search in
-    (c .before .before) .put-four2 .kept .0 ∙ at-put-four .put-four .kept .0 ∙ at-put-two .put-two .kept .0 ∙ length-set (at-start .args .out .now) 0 _
+    (c .before .before) .put-field3 .kept .0 ∙ at-put-field2 .put-field2 .kept .0 ∙ at-put-field .put-field .kept .0 ∙ length-set (at-start .args .out .now) 0 _
 
 returns : tie.Need-returns
 returns c =
-    let at-put-four : tie.After-put-four = search in
-    let at-put-two : tie.After-put-two = search in
+    let at-put-field2 : tie.After-put-field2 = search in
+    let at-put-field : tie.After-put-field = search in
     let at-map-of : tie.After-map-of = search in
     let at-start : tie.Start = search in
     let a = at-start .args in (
       record-place (a .last .item) (a .last .number) (a .part .item) (a .part .zero) (a .part .one) (a .out .now) _ _ _ _ (at-map-of .map-of .ensures)
-          (at-put-two .put-two .ensures) (at-put-four .put-four .ensures) ((c .before .before) .put-four2 .ensures),
+          (at-put-field .put-field .ensures) (at-put-field2 .put-field2 .ensures) ((c .before .before) .put-field3 .ensures),
       record-laid (a .last .item) (a .last .number) (a .part .item) (a .part .zero) (a .part .one) (a .out .now) _ _ _ _ (at-map-of .map-of .ensures)
-          (at-put-two .put-two .ensures) (at-put-four .put-four .ensures) ((c .before .before) .put-four2 .ensures),
+          (at-put-field .put-field .ensures) (at-put-field2 .put-field2 .ensures) ((c .before .before) .put-field3 .ensures),
     )
 
 pub put-record-spec : {M : Type 1} → statement M
@@ -66,8 +65,8 @@ put-record-spec =
     add-item
     map-of-requires
     slice-write-out
-    put-two-requires
-    put-four-requires
-    put-four-requires-2
+    put-field-requires
+    put-field-requires-2
+    put-field-requires-3
     same-length
     returns)

@@ -5,10 +5,10 @@ use Rattle.file_trail.proofs.trail.first_of.Statement.{statement}
 use Rattle.file_trail.proofs.trail.first_of.Tie as tie
 
 returns : tie.Need-returns
-returns c = first-new ((c .before .before) .args .trail) ((c .before .before) .args .p) (c .if1 .taken)
+returns c = search first-new
 
 returns-2 : tie.Need-returns-2
-returns-2 c = first-old ((c .before .before) .args .trail) ((c .before .before) .args .p) (c .if1 .left)
+returns-2 c = search first-old
 
 pub first-of-spec : {M : Type 1} → statement M
 first-of-spec = tie.close (tie.spec returns returns-2)

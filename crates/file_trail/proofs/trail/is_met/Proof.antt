@@ -7,7 +7,7 @@ use Rattle.file_trail.proofs.trail.is_met.Statement.{statement}
 use Rattle.file_trail.proofs.trail.is_met.Tie as tie
 
 returns : tie.Need-returns
-returns c = met-leaf ((c .before) .args .links .now) ((c .before) .args .p) (c .if1 .taken)
+returns c = search met-leaf
 
 cast-result : tie.Need-cast-result
 cast-result c = search needs
@@ -19,7 +19,7 @@ shared-slice-read-result : tie.Need-shared-slice-read-result
 shared-slice-read-result c = search needs
 
 returns-2 : tie.Need-returns-2
-returns-2 c = met-word ((c .before .before) .args .links .now) ((c .before .before) .args .p) ((c .before) .if1 .left)
+returns-2 c = search met-word
 
 pub is-met-spec : {M : Type 1} → statement M
 is-met-spec =

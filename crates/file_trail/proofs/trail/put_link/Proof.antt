@@ -7,7 +7,7 @@ use Rattle.file_trail.proofs.trail.put_link.Statement.{statement}
 use Rattle.file_trail.proofs.trail.put_link.Tie as tie
 
 returns : tie.Need-returns
-returns c = linked-leaf ((c .before) .args .links .now) ((c .before) .args .p) ((c .before) .args .next) (c .if1 .taken)
+returns c = search linked-leaf
 
 cast-links : tie.Need-cast-links
 cast-links c = search needs
@@ -22,7 +22,7 @@ same-length : tie.Need-same-length
 same-length c = search needs
 
 returns-2 : tie.Need-returns-2
-returns-2 c = linked-word ((c .before) .args .links .now) ((c .before) .args .p) ((c .before) .args .next) (c .if1 .left)
+returns-2 c = search linked-word
 
 pub put-link-spec : {M : Type 1} → statement M
 put-link-spec =

@@ -20,7 +20,7 @@ put-link-requires c κs = search needs
 put-link-requires-2 : tie.Need-put-link-requires-2
 put-link-requires-2 c κs =
     let at-start : tie.Start = search in
-    omega (arith, at-start .pre .0 .0, (c .before .before .before) .put-link .kept .0)
+    omega (arith, at-start .pre .inside, (c .before .before .before) .put-link .kept .0)
 
 first-of-requires : tie.Need-first-of-requires
 first-of-requires c κs = search needs
@@ -28,13 +28,13 @@ first-of-requires c κs = search needs
 add-t17 : tie.Need-add-t17
 add-t17 c =
     let at-start : tie.Start = search in
-    omega (arith, at-start .pre .1 .1)
+    omega (arith, at-start .pre .few)
 
 add-t18 : tie.Need-add-t18
 add-t18 c =
     let at-length-of : tie.After-length-of = search in
     let at-start : tie.Start = search in
-    omega (arith, at-start .pre .1 .1, at-start .pre .1 .2, at-length-of .length-of .ensures .1)
+    omega (arith, at-start .pre .few, at-start .pre .short, at-length-of .length-of .ensures .1)
 
 same-length : tie.Need-same-length
 same-length c =
@@ -54,7 +54,7 @@ returns c =
       last-is = refl;
       item-is = refl;
       parts-is = refl;
-      length-is = ap (λ k. a .trail .length + k) (at-length-of .length-of .ensures .0);
+      bytes-is = ap (λ k. a .trail .bytes + k) (at-length-of .length-of .ensures .0);
       longer = omega (arith, at-length-of .length-of .ensures .1);
       links-are = at-put-link2 .put-link2 .ensures ∙ ap (λ X. linked X (a .p) (a .p)) (at-put-link .put-link .ensures);
     }

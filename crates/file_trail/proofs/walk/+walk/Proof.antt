@@ -16,7 +16,7 @@ use Rattle.file_trail.proofs.walk.+walk.{statement}
 use Rattle.file_trail.proofs.walk.+walk.Tie.{close}
 
 abbrev μ-walk : Measures 2 walk-kinds.ps ℕ
-μ-walk κs a = a .1 .1 .0
+μ-walk κs (trail, (p, (top, rest))) = top
 
 abbrev walk-at : ℕ → In 2 walk-kinds.ps
 walk-at t = and 2 walk-kinds.ps (is 2 walk-kinds.ps μ-walk t) walk.Pre
@@ -28,21 +28,20 @@ abbrev walk-claims : ℕ → walk-lts.Claims
 walk-claims t = (is-met-reads.Asked, is-met-reads.Learnt, children-reads.Asked, children-reads.Learnt, walk-below t, walk.Post, visit-reads.Asked, visit-reads.Learnt)
 
 walk-is-met-requires : (t : ℕ) → walk-lts.Need-is-met-requires (walk-claims t) (walk-at t) walk.Post
-walk-is-met-requires t c κs = omega (arith, (c .before .before .before) .pre .1 .0 .0, (c .before .before .before) .pre .1 .0 .3)
+walk-is-met-requires t c κs = 
+    let at-start : walk-lts.Start (walk-claims t) (walk-at t) walk.Post = search in
+    omega (arith, at-start .pre .1 .inside, at-start .pre .1 .lent .linkable)
 
 walk-same-length : (t : ℕ) → walk-lts.Need-same-length (walk-claims t) (walk-at t) walk.Post
 walk-same-length t c = search needs
 
 walk-returns : (t : ℕ) → walk-lts.Need-returns (walk-claims t) (walk-at t) walk.Post
-walk-returns t c =
-    let at-start : walk-lts.Start (walk-claims t) (walk-at t) walk.Post = search in
-    let a = at-start .args in
-    walk-met (a .trail) (a .p) (a .nodes .now) (a .count) (a .links .now) (at-start .pre .1 .0 .0) (at-start .pre .1 .1 .1) ((c .before) .is-met .ensures) (c .if1 .taken)
+walk-returns t c = search walk-met
 
 walk-children-requires : (t : ℕ) → walk-lts.Need-children-requires (walk-claims t) (walk-at t) walk.Post
 walk-children-requires t c κs =
     let at-start : walk-lts.Start (walk-claims t) (walk-at t) walk.Post = search in
-    let q = at-start .pre .1 in (q .0 .0, q .0 .1, q .0 .2, q .1 .0 .0)
+    let q = at-start .pre .1 in record { inside = q .inside; words = q .lent .words; few = q .lent .few; level-is = q .level-is }
 
 walk-enum-known-zero : (t : ℕ) → walk-lts.Need-enum-known-zero (walk-claims t) (walk-at t) walk.Post
 walk-enum-known-zero t c = search needs
@@ -54,13 +53,7 @@ walk-same-length-2 : (t : ℕ) → walk-lts.Need-same-length-2 (walk-claims t) (
 walk-same-length-2 t c = search needs
 
 walk-returns-2 : (t : ℕ) → walk-lts.Need-returns-2 (walk-claims t) (walk-at t) walk.Post
-walk-returns-2 t c =
-    let at-is-met : walk-lts.After-is-met (walk-claims t) (walk-at t) walk.Post = search in
-    let at-start : walk-lts.Start (walk-claims t) (walk-at t) walk.Post = search in
-    let a = at-start .args in
-    let q = at-start .pre .1 in
-    walk-no-children (a .trail) (a .p) (a .nodes .now) (a .count) (a .links .now) (q .0 .0) (at-is-met .is-met .ensures) ((c .before .before .before) .if1 .left) (a .top)
-    (q .1 .0 .0) ((c .before .before) .children .ensures) (c .enum-told .given .1)
+walk-returns-2 t c = search walk-no-children
 
 walk-walk-requires : (t : ℕ) → walk-lts.Need-walk-requires (walk-claims t) (walk-at t) walk.Post
 walk-walk-requires t c κs =
@@ -68,7 +61,7 @@ walk-walk-requires t c κs =
     let at-start : walk-lts.Start (walk-claims t) (walk-at t) walk.Post = search in
     let q = at-start .pre .1 in
     let K = split-two _ _ _ _ ((c .before .before) .zero .given .1) (at-children .children .ensures) .sides in
-    (omega (arith, at-start .pre .0, K .zero-below), ((K .zero-within, q .0 .1, q .0 .2, q .0 .3), ((K .ztop, omega (arith, K .zero-below, q .1 .0 .1)), q .1 .1)))
+    (omega (arith, at-start .pre .0, K .zero-below), record { inside = K .zero-within; lent = q .lent; level-is = K .ztop; level-low = omega (arith, K .zero-below, q .level-low); trail-fits = q .trail-fits })
 
 walk-enum-known-first : (t : ℕ) → walk-lts.Need-enum-known-first (walk-claims t) (walk-at t) walk.Post
 walk-enum-known-first t c = search needs
@@ -80,17 +73,7 @@ walk-same-length-3 : (t : ℕ) → walk-lts.Need-same-length-3 (walk-claims t) (
 walk-same-length-3 t c = search needs
 
 walk-returns-3 : (t : ℕ) → walk-lts.Need-returns-3 (walk-claims t) (walk-at t) walk.Post
-walk-returns-3 t c =
-    let at-walk : walk-lts.After-walk (walk-claims t) (walk-at t) walk.Post = search in
-    let at-zero : walk-lts.After-zero (walk-claims t) (walk-at t) walk.Post = search in
-    let at-children : walk-lts.After-children (walk-claims t) (walk-at t) walk.Post = search in
-    let at-if1 : walk-lts.Else1 (walk-claims t) (walk-at t) walk.Post = search in
-    let at-is-met : walk-lts.After-is-met (walk-claims t) (walk-at t) walk.Post = search in
-    let at-start : walk-lts.Start (walk-claims t) (walk-at t) walk.Post = search in
-    let a = at-start .args in
-    let q = at-start .pre .1 in
-    walk-first-broken (a .trail) (a .p) (a .nodes .now) (a .count) (a .links .now) (q .0 .0) (at-is-met .is-met .ensures) (at-if1 .if1 .left)
-    (a .top) (q .1 .0 .0) (at-children .children .ensures) _ _ _ _ (at-zero .zero .given .1) (at-walk .walk .ensures) (c .enum-told2 .given .1)
+walk-returns-3 t c = search walk-first-broken
 
 walk-walk-requires-2 : (t : ℕ) → walk-lts.Need-walk-requires-2 (walk-claims t) (walk-at t) walk.Post
 walk-walk-requires-2 t c κs =
@@ -102,10 +85,13 @@ walk-walk-requires-2 t c κs =
     let K = split-two _ _ _ _ (at-zero .zero .given .1) (at-children .children .ensures) .sides in
     let R = at-walk .walk .ensures in (
       omega (arith, at-start .pre .0, K .one-below),
-      (
-        (K .one-within, q .0 .1, q .0 .2, omega (arith, q .0 .3, R .long)),
-        ((K .otop, omega (arith, K .one-below, q .1 .0 .1)), R .fits _ ((c .before .before) .first .given .1)),
-      ),
+      record {
+        inside = K .one-within;
+        lent = record { words = q .lent .words; few = q .lent .few; linkable = omega (arith, q .lent .linkable, R .long) };
+        level-is = K .otop;
+        level-low = omega (arith, K .one-below, q .level-low);
+        trail-fits = R .trail-fits _ ((c .before .before) .first .given .1);
+      },
     )
 
 walk-enum-known-second : (t : ℕ) → walk-lts.Need-enum-known-second (walk-claims t) (walk-at t) walk.Post
@@ -129,8 +115,8 @@ walk-returns-4 t c =
     let at-start : walk-lts.Start (walk-claims t) (walk-at t) walk.Post = search in
     let a = at-start .args in
     let q = at-start .pre .1 in
-    walk-second-broken (a .trail) (a .p) (a .nodes .now) (a .count) (a .links .now) (q .0 .0) (at-is-met .is-met .ensures) (at-if1 .if1 .left)
-    (a .top) (q .1 .0 .0) (at-children .children .ensures) _ _ _ _ (at-zero .zero .given .1) (at-walk .walk .ensures) _
+    walk-second-broken (a .trail) (a .p) (a .nodes .now) (a .count) (a .links .now) (q .inside) (at-is-met .is-met .ensures) (at-if1 .if1 .left)
+    (a .top) (q .level-is) (at-children .children .ensures) _ _ _ _ (at-zero .zero .given .1) (at-walk .walk .ensures) _
     (at-first .first .given .1) (at-walk2 .walk2 .ensures) (c .enum-told3 .given .1)
 
 walk-same-length-5 : (t : ℕ) → walk-lts.Need-same-length-5 (walk-claims t) (walk-at t) walk.Post
@@ -148,21 +134,29 @@ walk-returns-5 t c =
     let at-start : walk-lts.Start (walk-claims t) (walk-at t) walk.Post = search (at-is-met) in
     let a = at-start .args in
     let q = at-start .pre .1 in
-    walk-many (a .trail) (a .p) (a .nodes .now) (a .count) (a .links .now) (q .0 .0) (at-is-met .is-met .ensures) (at-if1 .if1 .left) (a .top) (q .1 .0 .0)
+    walk-many (a .trail) (a .p) (a .nodes .now) (a .count) (a .links .now) (q .inside) (at-is-met .is-met .ensures) (at-if1 .if1 .left) (a .top) (q .level-is)
     (at-children .children .ensures) _ _ _ _ (at-zero .zero .given .1) (at-walk .walk .ensures) _ (at-first .first .given .1)
-    (at-walk2 .walk2 .ensures) _ ((c .before .before .before) .second .given .1) (q .0 .2) (c .if2 .taken)
+    (at-walk2 .walk2 .ensures) _ ((c .before .before .before) .second .given .1) (q .lent .few) (c .if2 .taken)
 
 walk-visit-requires : (t : ℕ) → walk-lts.Need-visit-requires (walk-claims t) (walk-at t) walk.Post
 walk-visit-requires t c κs =
     let at-second : walk-lts.After-second (walk-claims t) (walk-at t) walk.Post = search in
     let at-walk2 : walk-lts.After-walk2 (walk-claims t) (walk-at t) walk.Post = search in
     let at-walk : walk-lts.After-walk (walk-claims t) (walk-at t) walk.Post = search in
-    let at-start : walk-lts.Start (walk-claims t) (walk-at t) walk.Post = search (at-walk) in
+    let at-zero : walk-lts.After-zero (walk-claims t) (walk-at t) walk.Post = search (at-walk) in
+    let at-is-met : walk-lts.After-is-met (walk-claims t) (walk-at t) walk.Post = search (at-zero) in
+    let at-start : walk-lts.Start (walk-claims t) (walk-at t) walk.Post = search (at-is-met) in
     let q = at-start .pre .1 in
     let R = at-walk .walk .ensures in
     let S = at-walk2 .walk2 .ensures in
-    let F = S .fits _ (at-second .second .given .1) in
-    ((omega (arith, q .0 .0, q .0 .3, R .long, S .long), omega (arith, F .last-held, q .0 .3, R .long, S .long)), (F .item-low, omega (arith, (c .before) .if2 .left), F .short))
+    let F = S .trail-fits _ (at-second .second .given .1) in
+    record {
+      inside = omega (arith, q .inside, q .lent .linkable, R .long, S .long);
+      last-inside = omega (arith, F .last-held, q .lent .linkable, R .long, S .long);
+      item-low = F .item-low;
+      few = omega (arith, (c .before) .if2 .left);
+      short = F .short;
+    }
 
 walk-same-length-6 : (t : ℕ) → walk-lts.Need-same-length-6 (walk-claims t) (walk-at t) walk.Post
 walk-same-length-6 t c = search needs
@@ -182,10 +176,10 @@ walk-returns-6 t c =
     let a = at-start .args in
     let q = at-start .pre .1 in
     let S = at-walk2 .walk2 .ensures in
-    walk-done (a .trail) (a .p) (a .nodes .now) (a .count) (a .links .now) (q .0 .0) (at-is-met .is-met .ensures) (at-if1 .if1 .left) (a .top)
-    (q .1 .0 .0) (at-children .children .ensures) _ _ _ _ (at-zero .zero .given .1) (at-walk .walk .ensures) _
+    walk-done (a .trail) (a .p) (a .nodes .now) (a .count) (a .links .now) (q .inside) (at-is-met .is-met .ensures) (at-if1 .if1 .left) (a .top)
+    (q .level-is) (at-children .children .ensures) _ _ _ _ (at-zero .zero .given .1) (at-walk .walk .ensures) _
     (at-first .first .given .1) (at-walk2 .walk2 .ensures) _ (at-second .second .given .1)
-    (S .fits _ (at-second .second .given .1)) (q .1 .0 .1) (omega (arith, at-if2 .if2 .left)) (q .0 .3) ((c .before .before) .visit .ensures)
+    (S .trail-fits _ (at-second .second .given .1)) (q .level-low) (omega (arith, at-if2 .if2 .left)) (q .lent .linkable) ((c .before .before) .visit .ensures)
 
 pub +walk-spec : {M : Type 1} → statement M
 +walk-spec = close μ-walk λ t. walk-lts.spec (walk-claims t)

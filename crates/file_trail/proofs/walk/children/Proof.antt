@@ -7,13 +7,13 @@ use Rattle.file_trail.proofs.walk.children.Statement.{statement}
 use Rattle.file_trail.proofs.walk.children.Tie as tie
 
 returns : tie.Need-returns
-returns c = let a = (c .before .before) .args in split-none (a .nodes .now) (a .count) (a .p) (a .top) ((c .before .before) .pre .0) ((c .before .before) .pre .3) (c .if1 .taken)
+returns c = search split-none
 
 sides-at-requires : tie.Need-sides-at-requires
 sides-at-requires c κs = search needs
 
 returns-2 : tie.Need-returns-2
-returns-2 c = let a = (c .before .before .before) .args in split-sides (a .nodes .now) (a .count) (a .p) (a .top) ((c .before) .if1 .left) (c .sides-at .ensures)
+returns-2 c = search split-sides
 
 pub children-spec : {M : Type 1} → statement M
 children-spec = tie.close (tie.spec returns sides-at-requires returns-2)

@@ -5,7 +5,9 @@ use Rattle.op_families.proofs.calls.diff.Statement.{statement}
 use Rattle.op_families.proofs.calls.diff.Tie as tie
 
 returns : tie.Need-returns
-returns c = c .before .before .before .before .before .before .of-families .ensures
+returns c =
+    let at-of-families : tie.After-of-families = search in
+    at-of-families .of-families .ensures
 
 pub diff-spec : {M : Type 1} → statement M
 diff-spec =

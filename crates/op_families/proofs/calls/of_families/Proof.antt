@@ -1,39 +1,13 @@
 -- `of_families` tests in document 01's order, then runs the recursion and ends as every placing call does.
 -- Each way out is one law of refusing, or of a call that ran to its end.
+use mathlib.Core.Path.{sym, _∙_}
 use native.Mathlib.Omega.{arith}
 use Rattle.store.proofs.Growing.{kept-roomy}
-use Rattle.op_promise.proofs.Refusing.{Passed, passed-tests, refused-tests, refused-tops, done}
+use Rattle.store.proofs.Testing.{tested-clear, placing-refused}
+use Rattle.op_promise.proofs.Refusing.{family-number, refused-tops, done}
 use borrow.Author.Needs.{needs}
 use Rattle.op_families.proofs.calls.of_families.Statement.{statement}
 use Rattle.op_families.proofs.calls.of_families.Tie as tie
-
-abbrev start·After-enum-told : tie.After-enum-told → tie.Start
-start·After-enum-told c = c .before .before .before .before .before .before
-
--- what the tests say where they pass
-passed : (c : tie.After-enum-told) → (let a = (start·After-enum-told c) .args in Passed (a .op) (a .p) (a .q) (a .store) (a .nodes .now) (a .lookup .now))
-passed c = passed-tests _ _ _ _ _ _ ((c .before .before) .tested .ensures) (c .enum-told .given .1)
-
-abbrev told·After-larger : tie.After-larger → tie.After-enum-told
-told·After-larger c = c .before .before .before .before .before
-
-abbrev larger·After-apply-arg3 : tie.After-apply-arg3 → tie.After-larger
-larger·After-apply-arg3 c = c .before .before .before .before
-
-abbrev apply·After-finish-arg3 : tie.After-finish-arg3 → tie.After-apply
-apply·After-finish-arg3 c = c .before .before .before .before .before .before .before .before .before
-
-abbrev told·After-finish-arg3 : tie.After-finish-arg3 → tie.After-enum-told
-told·After-finish-arg3 c = c .before .before .before .before .before .before .before .before .before .before .before .before .before .before .before .before .before .before .before
-
-abbrev apply·After-slice-known9 : tie.After-slice-known9 → tie.After-apply
-apply·After-slice-known9 c = c .before .before .before .before .before .before .before .before .before .before .before .before .before .before .before .before
-
-abbrev finish·After-slice-known9 : tie.After-slice-known9 → tie.After-finish
-finish·After-slice-known9 c = c .before .before .before .before .before .before
-
-abbrev told·After-slice-known9 : tie.After-slice-known9 → tie.After-enum-told
-told·After-slice-known9 c = c .before .before .before .before .before .before .before .before .before .before .before .before .before .before .before .before .before .before .before .before .before .before .before .before .before .before
 
 tested-requires : tie.Need-tested-requires
 tested-requires c κs = search needs
@@ -46,21 +20,34 @@ refused-requires c κs = search needs
 
 returns : tie.Need-returns
 returns c =
-    refused-tests _ _ _ _ _ _ ((c .before .before .before .before) .tested .ensures) ((c .before .before) .found .given .1) _ (c .refused .result) (c .refused .ensures .0) (c .refused .ensures .1)
+    let at-found : tie.After-found = search in
+    let at-tested : tie.After-tested = search in
+    let at-start : tie.Start = search in
+    let a = at-start .args in
+    let number = family-number (a .op) (a .store .count) (a .p) (a .q) (at-start .pre .some) in
+    placing-refused (a .nodes .now) (a .lookup .now) (at-tested .tested .ensures) (at-found .found .given .1) (λ e. omega arith)
+    (λ d. d ∙ sym number) _ _ (c .refused .result) (c .refused .ensures .0) (c .refused .ensures .1)
 
 enum-told : tie.Need-enum-told
 enum-told c = search needs
 
 top-of-requires : tie.Need-top-of-requires
 top-of-requires c κs =
-    let P = passed (c .before) in
-    (P .first, omega (arith, P .roomy .within, P .roomy .words))
+    let at-told : tie.After-enum-told = search in
+    let at-tested : tie.After-tested = search in
+    let at-start : tie.Start = search in
+    let a = at-start .args in
+    let P = tested-clear (a .nodes .now) (a .lookup .now) (at-tested .tested .ensures) (at-told .enum-told .given .1) in
+    record { held = P .passed .first; words = omega (arith, P .roomy .within, P .roomy .words) }
 
 top-of-requires-2 : tie.Need-top-of-requires-2
 top-of-requires-2 c κs =
-    let d = c .before .before .before in
-    let P = passed d in
-    (P .second ((start·After-enum-told d) .pre .0), omega (arith, P .roomy .within, P .roomy .words))
+    let at-told : tie.After-enum-told = search in
+    let at-tested : tie.After-tested = search in
+    let at-start : tie.Start = search in
+    let a = at-start .args in
+    let P = tested-clear (a .nodes .now) (a .lookup .now) (at-tested .tested .ensures) (at-told .enum-told .given .1) in
+    record { held = P .passed .second; words = omega (arith, P .roomy .within, P .roomy .words) }
 
 larger-requires : tie.Need-larger-requires
 larger-requires c κs = search needs
@@ -73,28 +60,44 @@ same-length c = search needs
 
 returns-2 : tie.Need-returns-2
 returns-2 c =
-    let l = c .before .before in
-    let d = told·After-larger l in
-    refused-tops _ _ _ _ _ _ (passed d) _ ((start·After-enum-told d) .pre .0)
-    (omega (arith, (l .before .before .before) .top-of .ensures, (l .before) .top-of2 .ensures, l .larger .ensures, (c .before) .if1 .taken)) (c .refused2 .result) (c .refused2 .ensures .0)
+    let at-larger : tie.After-larger = search in
+    let at-second : tie.After-top-of2 = search in
+    let at-first : tie.After-top-of = search in
+    let at-told : tie.After-enum-told = search in
+    let at-tested : tie.After-tested = search in
+    let at-start : tie.Start = search in
+    let a = at-start .args in
+    let P = tested-clear (a .nodes .now) (a .lookup .now) (at-tested .tested .ensures) (at-told .enum-told .given .1) in
+    refused-tops _ _ _ _ _ _ (P .fits) _ (P .passed .first) (P .passed .second)
+    (omega (arith, at-first .top-of .ensures, at-second .top-of2 .ensures, at-larger .larger .ensures, (c .before) .if1 .taken)) (c .refused2 .result) (c .refused2 .ensures .0)
 
 apply-requires : tie.Need-apply-requires
 apply-requires c κs =
-    let l = larger·After-apply-arg3 c in
-    let d = told·After-larger l in
-    let P = passed d in
-    let pre = (start·After-enum-told d) .pre in (
-      P .roomy,
-      (
-        (pre .0, pre .1, P .first, P .second (pre .0)),
-        (omega (arith, (l .before .before .before) .top-of .ensures, (l .before) .top-of2 .ensures, l .larger .ensures), omega (arith, (c .before .before .before) .if1 .left)),
-      ),
-    )
+    let at-if1 : tie.Else1 = search in
+    let at-larger : tie.After-larger = search in
+    let at-second : tie.After-top-of2 = search in
+    let at-first : tie.After-top-of = search in
+    let at-told : tie.After-enum-told = search in
+    let at-tested : tie.After-tested = search in
+    let at-start : tie.Start = search in
+    let a = at-start .args in
+    let P = tested-clear (a .nodes .now) (a .lookup .now) (at-tested .tested .ensures) (at-told .enum-told .given .1) in
+    record {
+      taken = record { roomy = P .roomy; operation = at-start .pre; first = P .passed .first; second = P .passed .second };
+      level-is = omega (arith, at-first .top-of .ensures, at-second .top-of2 .ensures, at-larger .larger .ensures);
+      level-low = omega (arith, at-if1 .if1 .left);
+    }
 
 finish-requires : tie.Need-finish-requires
 finish-requires c κs =
-    let K = (apply·After-finish-arg3 c) .apply .ensures .kept in
-    (kept-roomy K (passed (told·After-finish-arg3 c) .roomy), K .grows)
+    let at-apply : tie.After-apply = search in
+    let at-told : tie.After-enum-told = search in
+    let at-tested : tie.After-tested = search in
+    let at-start : tie.Start = search in
+    let a = at-start .args in
+    let P = tested-clear (a .nodes .now) (a .lookup .now) (at-tested .tested .ensures) (at-told .enum-told .given .1) in
+    let K = at-apply .apply .ensures .kept in
+    record { roomy = kept-roomy K (P .roomy); fewer = K .grows }
 
 same-length-2 : tie.Need-same-length-2
 same-length-2 c = search needs
@@ -107,7 +110,16 @@ same-length-4 c = search needs
 
 returns-3 : tie.Need-returns-3
 returns-3 c =
-    done _ _ _ _ _ _ (passed (told·After-slice-known9 c)) _ ((apply·After-slice-known9 c) .apply .ensures) ((finish·After-slice-known9 c) .finish .ensures)
+    let at-finish : tie.After-finish = search in
+    let at-apply : tie.After-apply = search in
+    let at-larger : tie.After-larger = search (at-apply) in
+    let at-told : tie.After-enum-told = search (at-larger) in
+    let at-tested : tie.After-tested = search (at-told) in
+    let at-start : tie.Start = search (at-tested) in
+    let a = at-start .args in
+    let P = tested-clear (a .nodes .now) (a .lookup .now) (at-tested .tested .ensures) (at-told .enum-told .given .1) in
+    let number = family-number (a .op) (a .store .count) (a .p) (a .q) (at-start .pre .some) in
+    done _ _ _ _ _ _ (P .fits) _ (number ∙ P .number-is) (at-apply .apply .ensures) (at-finish .finish .ensures)
 
 pub of-families-spec : {M : Type 1} → statement M
 of-families-spec =

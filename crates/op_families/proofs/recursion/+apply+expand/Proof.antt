@@ -1,6 +1,5 @@
 -- `apply` and `expand` run the operation on two families: the level falls from `expand` to each `apply`, and `apply` comes just above `expand` of its level.
 -- Every way out is a terminal case, a recalled result, or one step over the two results below.
-use mathlib.Core.Path.{_∙_}
 use Prim.Native.Nat.{ℕ, _+_, _*_, _<_}
 use native.Mathlib.Omega.{arith}
 use Rattle.store.proofs.Growing.{kept-top, kept-roomy, kept-trans}
@@ -60,7 +59,7 @@ apply-shortcut-requires t c κs =
     let at-start : apply-lts.Start (apply-claims t) (apply-at t) apply.Post = search in
     let p = at-start .pre in
     let e = ordered-op (c .ordered .ensures) in
-    (omega (arith, p .1 .1 .0 .0), omega (arith, p .1 .1 .0 .1))
+    record { some = omega (arith, p .1 .taken .operation .some); low = omega (arith, p .1 .taken .operation .low) }
 
 apply-enum-known-handle : (t : ℕ) → apply-lts.Need-enum-known-handle (apply-claims t) (apply-at t) apply.Post
 apply-enum-known-handle t c = search needs
@@ -76,9 +75,9 @@ apply-returns t c =
     let a = at-start .args in
     let p = at-start .pre in
     let O = at-ordered .ordered .ensures in
-    ran-ordered O (a .store) (a .nodes .now) (a .lookup .now) (a .cache .now) (p .1 .1 .0 .2) (p .1 .1 .0 .3)
-    (ran-shortcut (a .store) (a .nodes .now) (a .lookup .now) (a .cache .now) (p .1 .0) (at-ordered .ordered .result) (c .placed .result) (c .placed .ensures .0) _ (c .placed .ensures .1)
-    (ordered-first O (a .store .count) (p .1 .1 .0 .2) (p .1 .1 .0 .3)) (ordered-second O (a .store .count) (p .1 .1 .0 .2) (p .1 .1 .0 .3)) ((c .before .before) .handle .given .1) (at-shortcut .shortcut .ensures))
+    ran-ordered O (a .store) (a .nodes .now) (a .lookup .now) (a .cache .now) (p .1 .taken .first) (p .1 .taken .second)
+    (ran-shortcut (a .store) (a .nodes .now) (a .lookup .now) (a .cache .now) (p .1 .taken .roomy) (at-ordered .ordered .result) (c .placed .result) (c .placed .ensures .0) _ (c .placed .ensures .1)
+    (ordered-first O (a .store .count) (p .1 .taken .first) (p .1 .taken .second)) (ordered-second O (a .store .count) (p .1 .taken .first) (p .1 .taken .second)) ((c .before .before) .handle .given .1) (at-shortcut .shortcut .ensures))
 
 apply-enum-told : (t : ℕ) → apply-lts.Need-enum-told (apply-claims t) (apply-at t) apply.Post
 apply-enum-told t c = search needs
@@ -87,7 +86,7 @@ apply-recall-requires : (t : ℕ) → apply-lts.Need-recall-requires (apply-clai
 apply-recall-requires t c κs =
     let at-start : apply-lts.Start (apply-claims t) (apply-at t) apply.Post = search in
     let p = at-start .pre in
-    omega (arith, p .1 .0 .within, p .1 .0 .small)
+    omega (arith, p .1 .taken .roomy .within, p .1 .taken .roomy .small)
 
 apply-enum-known-handle-2 : (t : ℕ) → apply-lts.Need-enum-known-handle-2 (apply-claims t) (apply-at t) apply.Post
 apply-enum-known-handle-2 t c = search needs
@@ -106,9 +105,9 @@ apply-returns-2 t c =
     let a = at-start .args in
     let p = at-start .pre in
     let O = at-ordered .ordered .ensures in
-    ran-ordered O (a .store) (a .nodes .now) (a .lookup .now) (a .cache .now) (p .1 .1 .0 .2) (p .1 .1 .0 .3)
-    (ran-recalled (a .store) (a .nodes .now) (a .lookup .now) (a .cache .now) (p .1 .0) (at-ordered .ordered .result) (c .placed2 .result) (c .placed2 .ensures .0) _ (c .placed2 .ensures .1)
-    (omega (arith, ordered-op O, p .1 .1 .0 .0)) ((c .before .before) .handle2 .given .1) (at-recall .recall .ensures))
+    ran-ordered O (a .store) (a .nodes .now) (a .lookup .now) (a .cache .now) (p .1 .taken .first) (p .1 .taken .second)
+    (ran-recalled (a .store) (a .nodes .now) (a .lookup .now) (a .cache .now) (p .1 .taken .roomy) (at-ordered .ordered .result) (c .placed2 .result) (c .placed2 .ensures .0) _ (c .placed2 .ensures .1)
+    (omega (arith, ordered-op O, p .1 .taken .operation .some)) ((c .before .before) .handle2 .given .1) (at-recall .recall .ensures))
 
 apply-enum-told-2 : (t : ℕ) → apply-lts.Need-enum-told-2 (apply-claims t) (apply-at t) apply.Post
 apply-enum-told-2 t c = search needs
@@ -122,15 +121,22 @@ apply-expand-requires t c κs =
     let a = at-start .args in
     let p = at-start .pre in
     let O = at-ordered .ordered .ensures in
-    let e = ordered-op O in (
+    let e = ordered-op O in
+    let I = p .1 .taken in (
       omega (arith, p .0),
-      (
-        p .1 .0,
-        (
-          (omega (arith, p .1 .1 .0 .0), omega (arith, p .1 .1 .0 .1), ordered-first O (a .store .count) (p .1 .1 .0 .2) (p .1 .1 .0 .3), ordered-second O (a .store .count) (p .1 .1 .0 .2) (p .1 .1 .0 .3)),
-          ((ordered-level O (a .nodes .now) (p .1 .1 .1 .0), p .1 .1 .1 .1), shortcut-proper (at-enum-told .enum-told .given .1) (at-shortcut .shortcut .ensures)),
-        ),
-      ),
+      record {
+        asks = record {
+          taken = record {
+            roomy = I .roomy;
+            operation = record { some = omega (arith, I .operation .some); low = omega (arith, I .operation .low) };
+            first = ordered-first O (a .store .count) (I .first) (I .second);
+            second = ordered-second O (a .store .count) (I .first) (I .second);
+          };
+          level-is = ordered-level O (a .nodes .now) (p .1 .level-is);
+          level-low = p .1 .level-low;
+        };
+        proper = shortcut-proper (at-enum-told .enum-told .given .1) (at-shortcut .shortcut .ensures);
+      },
     )
 
 apply-same-length-2 : (t : ℕ) → apply-lts.Need-same-length-2 (apply-claims t) (apply-at t) apply.Post
@@ -149,13 +155,21 @@ apply-returns-3 t c =
     let at-start : apply-lts.Start (apply-claims t) (apply-at t) apply.Post = search in
     let a = at-start .args in
     let p = at-start .pre in
-    ran-ordered (at-ordered .ordered .ensures) (a .store) (a .nodes .now) (a .lookup .now) (a .cache .now) (p .1 .1 .0 .2) (p .1 .1 .0 .3) (at-expand .expand .ensures)
+    ran-ordered (at-ordered .ordered .ensures) (a .store) (a .nodes .now) (a .lookup .now) (a .cache .now) (p .1 .taken .first) (p .1 .taken .second) (at-expand .expand .ensures)
 
 expand-fork-at-requires : (t : ℕ) → expand-lts.Need-fork-at-requires (expand-claims t) (expand-at t) expand.Post
 expand-fork-at-requires t c κs =
     let at-start : expand-lts.Start (expand-claims t) (expand-at t) expand.Post = search in
     let p = at-start .pre in
-    ((p .1 .1 .0 .2, p .1 .1 .0 .3, omega (arith, p .1 .0 .within, p .1 .0 .words), omega (arith, p .1 .0 .within, p .1 .0 .small)), (p .1 .1 .1 .0 .0, p .1 .1 .1 .1))
+    let I = p .1 .asks .taken in
+    record {
+      first = I .first;
+      second = I .second;
+      words = omega (arith, I .roomy .within, I .roomy .words);
+      small = omega (arith, I .roomy .within, I .roomy .small);
+      level-is = p .1 .asks .level-is;
+      proper = p .1 .proper;
+    }
 
 expand-enum-told : (t : ℕ) → expand-lts.Need-enum-told (expand-claims t) (expand-at t) expand.Post
 expand-enum-told t c = search needs
@@ -172,15 +186,14 @@ expand-apply-requires t c κs =
     let at-fork-at : expand-lts.After-fork-at (expand-claims t) (expand-at t) expand.Post = search in
     let at-start : expand-lts.Start (expand-claims t) (expand-at t) expand.Post = search in
     let p = at-start .pre in
-    let K = fork-two (at-p0 .p0 .given .1) (at-fork-at .fork-at .ensures) in (
+    let K = fork-two (at-p0 .p0 .given .1) (at-fork-at .fork-at .ensures) in
+    let I = p .1 .asks .taken in (
       omega (arith, p .0, K .first .zero-below, K .second .zero-below, K .top₀-is),
-      (
-        p .1 .0,
-        (
-          (p .1 .1 .0 .0, p .1 .1 .0 .1, K .first .zero-within, K .second .zero-within),
-          (omega (arith, K .top₀-is, K .first .ztop, K .second .ztop), omega (arith, K .top₀-is, K .first .zero-below, K .second .zero-below, p .1 .1 .1 .0 .1)),
-        ),
-      ),
+      record {
+        taken = record { roomy = I .roomy; operation = I .operation; first = K .first .zero-within; second = K .second .zero-within };
+        level-is = omega (arith, K .top₀-is, K .first .ztop, K .second .ztop);
+        level-low = omega (arith, K .top₀-is, K .first .zero-below, K .second .zero-below, p .1 .asks .level-low);
+      },
     )
 
 expand-enum-known-answer : (t : ℕ) → expand-lts.Need-enum-known-answer (expand-claims t) (expand-at t) expand.Post
@@ -208,7 +221,7 @@ expand-returns t c =
     let p = at-start .pre in
     let K = fork-two (at-p0 .p0 .given .1) (at-fork-at .fork-at .ensures) in
     step-first (a .call) _ _ (a .level) (a .store) (a .nodes .now) (a .lookup .now) (a .cache .now)
-    (split-families (a .call) (a .store .count) (a .nodes .now) (a .level) (p .1 .1 .0 .2) (p .1 .1 .0 .0) (p .1 .1 .0 .1) (p .1 .1 .0 .3) (a .lookup .now) (p .1 .1 .1 .0 .0) K)
+    (split-families (p .1 .asks) K)
     (at-apply .apply .ensures) _ (c .enum-told2 .given .1)
 
 expand-apply-requires-2 : (t : ℕ) → expand-lts.Need-apply-requires-2 (expand-claims t) (expand-at t) expand.Post
@@ -219,15 +232,19 @@ expand-apply-requires-2 t c κs =
     let at-start : expand-lts.Start (expand-claims t) (expand-at t) expand.Post = search (at-fork-at) in
     let p = at-start .pre in
     let K = fork-two (at-p0 .p0 .given .1) (at-fork-at .fork-at .ensures) in
-    let L = at-apply .apply .ensures .kept in (
+    let L = at-apply .apply .ensures .kept in
+    let I = p .1 .asks .taken in (
       omega (arith, p .0, K .first .one-below, K .second .one-below, K .top₁-is),
-      (
-        kept-roomy L (p .1 .0),
-        (
-          (p .1 .1 .0 .0, p .1 .1 .0 .1, omega (arith, K .first .one-within, L .grows), omega (arith, K .second .one-within, L .grows)),
-          (omega (arith, K .top₁-is, K .first .otop, K .second .otop, kept-top L _ (K .first .one-within), kept-top L _ (K .second .one-within)), omega (arith, K .top₁-is, K .first .one-below, K .second .one-below, p .1 .1 .1 .0 .1)),
-        ),
-      ),
+      record {
+        taken = record {
+          roomy = kept-roomy L (I .roomy);
+          operation = I .operation;
+          first = omega (arith, K .first .one-within, L .grows);
+          second = omega (arith, K .second .one-within, L .grows);
+        };
+        level-is = omega (arith, K .top₁-is, K .first .otop, K .second .otop, kept-top L _ (K .first .one-within), kept-top L _ (K .second .one-within));
+        level-low = omega (arith, K .top₁-is, K .first .one-below, K .second .one-below, p .1 .asks .level-low);
+      },
     )
 
 expand-join-requires : (t : ℕ) → expand-lts.Need-join-requires (expand-claims t) (expand-at t) expand.Post
@@ -242,7 +259,13 @@ expand-join-requires t c κs =
     let K = fork-two (at-p0 .p0 .given .1) (at-fork-at .fork-at .ensures) in
     let L = at-apply .apply .ensures in
     let M = at-apply2 .apply2 .ensures in
-    (kept-roomy (kept-trans (L .kept) (M .kept)) (p .1 .0), (omega (arith, K .some), p .1 .1 .1 .0 .1, omega (arith, L .handle _ (at-answer .answer .given .1), M .kept .grows), M .handle))
+    record {
+      roomy = kept-roomy (kept-trans (L .kept) (M .kept)) (p .1 .asks .taken .roomy);
+      level-some = omega (arith, K .some);
+      level-low = p .1 .asks .level-low;
+      zero-held = omega (arith, L .handle _ (at-answer .answer .given .1), M .kept .grows);
+      one-held = M .handle;
+    }
 
 expand-same-length-4 : (t : ℕ) → expand-lts.Need-same-length-4 (expand-claims t) (expand-at t) expand.Post
 expand-same-length-4 t c = search needs
@@ -252,7 +275,7 @@ expand-returns-2 t c =
     let at-start : expand-lts.Start (expand-claims t) (expand-at t) expand.Post = search in
     let a = at-start .args in
     let p = at-start .pre in
-    ran-broken (a .store) (a .nodes .now) (a .lookup .now) (a .cache .now) (p .1 .0) (a .call) (c .refused .result) (c .refused .ensures .0) (c .refused .ensures .1)
+    ran-broken (a .store) (a .nodes .now) (a .lookup .now) (a .cache .now) (p .1 .asks .taken .roomy) (a .call) (c .refused .result) (c .refused .ensures .0) (c .refused .ensures .1)
     (λ B H. fork-broken ((c .before) .enum-told .given .1) ((c .before .before .before) .fork-at .ensures) B (a .lookup .now) H)
 
 expand-same-length-5 : (t : ℕ) → expand-lts.Need-same-length-5 (expand-claims t) (expand-at t) expand.Post
@@ -292,7 +315,7 @@ expand-returns-3 t c =
     let p = at-start .pre in
     let K = fork-two (at-p0 .p0 .given .1) (at-fork-at .fork-at .ensures) in
     step-joined (a .call) _ _ (a .level) (a .store) (a .nodes .now) (a .lookup .now) (a .cache .now)
-    (split-families (a .call) (a .store .count) (a .nodes .now) (a .level) (p .1 .1 .0 .2) (p .1 .1 .0 .0) (p .1 .1 .0 .1) (p .1 .1 .0 .3) (a .lookup .now) (p .1 .1 .1 .0 .0) K)
+    (split-families (p .1 .asks) K)
     (at-apply .apply .ensures) _ (at-answer .answer .given .1) (at-apply2 .apply2 .ensures) (at-join .join .ensures)
 
 pub +apply+expand-spec : {M : Type 1} → statement M

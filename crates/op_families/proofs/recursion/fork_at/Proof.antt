@@ -10,9 +10,7 @@ use Rattle.op_families.proofs.recursion.fork_at.Tie as tie
 
 returns : tie.Need-returns
 returns c =
-    let a = (c .before .before) .args in
-    let p = (c .before .before) .pre in
-    no-level (a .nodes .now) (a .count) (a .call) (a .level) (p .0 .0) (p .0 .1) (p .1 .0) (p .1 .1) (c .if1 .taken)
+    no-level ((c .before .before) .pre) (c .if1 .taken)
 
 sides-at-requires : tie.Need-sides-at-requires
 sides-at-requires c κs = search needs

@@ -5,17 +5,17 @@ use Rattle.op_families.proofs.terminal.ordered.Statement.{statement}
 use Rattle.op_families.proofs.terminal.ordered.Tie as tie
 
 returns : tie.Need-returns
-returns c = as-asked ((c .before .before) .args .call) ((c .before .before) .pre .0) ((c .before .before) .pre .1)
+returns c = as-asked ((c .before .before) .args .call) ((c .before .before) .pre)
 
 returns-2 : tie.Need-returns-2
 returns-2 c =
     let at-start : tie.Start = search in
-    as-asked (at-start .args .call) (at-start .pre .0) (at-start .pre .1)
+    as-asked (at-start .args .call) (at-start .pre)
 
 returns-3 : tie.Need-returns-3
 returns-3 c =
     let at-start : tie.Start = search in
-    as-swapped (at-start .args .call) (at-start .pre .0) (at-start .pre .1) ((c .before .before) .if1 .left)
+    as-swapped (at-start .args .call) (at-start .pre) ((c .before .before) .if1 .left)
 
 pub ordered-spec : {M : Type 1} → statement M
 ordered-spec = tie.close (tie.spec returns returns-2 returns-3)

@@ -8,32 +8,32 @@ use Rattle.op_families.proofs.terminal.shortcut.Tie as tie
 returns : tie.Need-returns
 returns c =
     let at-start : tie.Start = search in
-    known (same-none (at-start .args .call) (at-start .pre .0) (at-start .pre .1) ((c .before .before) .if1 .taken) (c .if2 .taken))
+    known (same-none (at-start .args .call) (at-start .pre) ((c .before .before) .if1 .taken) (c .if2 .taken))
 
 returns-2 : tie.Need-returns-2
 returns-2 c =
     let at-start : tie.Start = search in
-    known (same-same (at-start .args .call) (at-start .pre .0) (at-start .pre .1) ((c .before .before) .if1 .taken) (c .if2 .left))
+    known (same-same (at-start .args .call) (at-start .pre) ((c .before .before) .if1 .taken) (c .if2 .left))
 
 returns-3 : tie.Need-returns-3
 returns-3 c =
     let at-start : tie.Start = search in
-    known (empty-second (at-start .args .call) (at-start .pre .0) (at-start .pre .1) ((c .before .before) .if3 .taken) (c .if4 .taken))
+    known (empty-second (at-start .args .call) (at-start .pre) ((c .before .before) .if3 .taken) (c .if4 .taken))
 
 returns-4 : tie.Need-returns-4
 returns-4 c =
     let at-start : tie.Start = search in
-    known (empty-none (at-start .args .call) (at-start .pre .0) (at-start .pre .1) ((c .before .before) .if3 .taken) (c .if4 .left))
+    known (empty-none (at-start .args .call) (at-start .pre) ((c .before .before) .if3 .taken) (c .if4 .left))
 
 returns-5 : tie.Need-returns-5
 returns-5 c =
     let at-start : tie.Start = search in
-    known (none-second (at-start .args .call) (at-start .pre .0) (at-start .pre .1) ((c .before .before) .if5 .taken) (c .if6 .taken))
+    known (none-second (at-start .args .call) (at-start .pre) ((c .before .before) .if5 .taken) (c .if6 .taken))
 
 returns-6 : tie.Need-returns-6
 returns-6 c =
     let at-start : tie.Start = search in
-    known (first-second (at-start .args .call) (at-start .pre .0) (at-start .pre .1) ((c .before .before) .if5 .taken) (c .if6 .left))
+    known (first-second (at-start .args .call) (at-start .pre) ((c .before .before) .if5 .taken) (c .if6 .left))
 
 returns-7 : tie.Need-returns-7
 returns-7 c =

@@ -5,7 +5,9 @@ use Rattle.op_items.proofs.calls.subset1.Statement.{statement}
 use Rattle.op_items.proofs.calls.subset1.Tie as tie
 
 returns : tie.Need-returns
-returns c = c .before .before .before .before .before .before .of-item .ensures
+returns c =
+    let at-of-item : tie.After-of-item = search in
+    at-of-item .of-item .ensures
 
 pub subset1-spec : {M : Type 1} → statement M
 subset1-spec =

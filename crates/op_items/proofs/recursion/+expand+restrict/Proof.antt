@@ -1,6 +1,5 @@
 -- `restrict` and `expand` run the operation on a family and an item: the level falls from `expand` to each `restrict`, and `restrict` comes just above `expand` of its level.
 -- Every way out is one at or above the top, a recalled result, or one step over the two results below.
-use mathlib.Core.Path.{_∙_}
 use Prim.Native.Nat.{ℕ, _+_, _*_, _<_}
 use native.Mathlib.Omega.{arith}
 use Rattle.store.proofs.Growing.{kept-top, kept-roomy, kept-trans}
@@ -57,7 +56,14 @@ expand-sides-at-requires : (t : ℕ) → expand-lts.Need-sides-at-requires (expa
 expand-sides-at-requires t c κs =
     let at-start : expand-lts.Start (expand-claims t) (expand-at t) expand.Post = search in
     let p = at-start .pre in
-    ((p .1 .1 .0 .2, omega (arith, p .1 .0 .within, p .1 .0 .words), omega (arith, p .1 .0 .within, p .1 .0 .small)), (omega (arith, p .1 .1 .1 .0), omega (arith, p .1 .1 .1 .2)))
+    let I = p .1 .asks .taken in
+    record {
+      held = I .held;
+      words = omega (arith, I .roomy .within, I .roomy .words);
+      small = omega (arith, I .roomy .within, I .roomy .small);
+      top-low = omega (arith, p .1 .asks .level-is);
+      some = omega (arith, p .1 .below);
+    }
 
 expand-enum-told : (t : ℕ) → expand-lts.Need-enum-told (expand-claims t) (expand-at t) expand.Post
 expand-enum-told t c = search needs
@@ -75,7 +81,14 @@ expand-restrict-requires t c κs =
     let at-start : expand-lts.Start (expand-claims t) (expand-at t) expand.Post = search in
     let p = at-start .pre in
     let K = sides-two (at-p0 .p0 .given .1) (at-sides-at .sides-at .ensures) in
-    (omega (arith, p .0, K .zero-below), (p .1 .0, ((p .1 .1 .0 .0, p .1 .1 .0 .1, K .zero-within, p .1 .1 .0 .3, p .1 .1 .0 .4), (K .ztop, omega (arith, K .zero-below, p .1 .1 .1 .1)))))
+    let I = p .1 .asks .taken in (
+      omega (arith, p .0, K .zero-below),
+      record {
+        taken = record { roomy = I .roomy; operation = I .operation; held = K .zero-within; item-some = I .item-some; item-low = I .item-low };
+        level-is = K .ztop;
+        level-low = omega (arith, K .zero-below, p .1 .asks .level-low);
+      },
+    )
 
 expand-enum-known-answer : (t : ℕ) → expand-lts.Need-enum-known-answer (expand-claims t) (expand-at t) expand.Post
 expand-enum-known-answer t c = search needs
@@ -101,7 +114,7 @@ expand-returns t c =
     let a = at-start .args in
     let p = at-start .pre in
     step-first (a .call) _ _ (a .level) (a .store) (a .nodes .now) (a .lookup .now) (a .cache .now)
-    (split-item (a .call) (a .store .count) (a .nodes .now) (a .level) (p .1 .1 .0 .2) (p .1 .1 .0 .0) (p .1 .1 .0 .1) (p .1 .1 .0 .3) (p .1 .1 .0 .4) (a .lookup .now) (p .1 .1 .1 .0) (p .1 .1 .1 .2) (sides-two (at-p0 .p0 .given .1) (at-sides-at .sides-at .ensures)))
+    (split-item (p .1) (sides-two (at-p0 .p0 .given .1) (at-sides-at .sides-at .ensures)))
     (at-restrict .restrict .ensures) _ (c .enum-told2 .given .1)
 
 expand-restrict-requires-2 : (t : ℕ) → expand-lts.Need-restrict-requires-2 (expand-claims t) (expand-at t) expand.Post
@@ -112,15 +125,20 @@ expand-restrict-requires-2 t c κs =
     let at-start : expand-lts.Start (expand-claims t) (expand-at t) expand.Post = search (at-sides-at) in
     let p = at-start .pre in
     let K = sides-two (at-p0 .p0 .given .1) (at-sides-at .sides-at .ensures) in
-    let L = at-restrict .restrict .ensures .kept in (
+    let L = at-restrict .restrict .ensures .kept in
+    let I = p .1 .asks .taken in (
       omega (arith, p .0, K .one-below),
-      (
-        kept-roomy L (p .1 .0),
-        (
-          (p .1 .1 .0 .0, p .1 .1 .0 .1, omega (arith, K .one-within, L .grows), p .1 .1 .0 .3, p .1 .1 .0 .4),
-          (omega (arith, K .otop, kept-top L _ (K .one-within)), omega (arith, K .one-below, p .1 .1 .1 .1)),
-        ),
-      ),
+      record {
+        taken = record {
+          roomy = kept-roomy L (I .roomy);
+          operation = I .operation;
+          held = omega (arith, K .one-within, L .grows);
+          item-some = I .item-some;
+          item-low = I .item-low;
+        };
+        level-is = omega (arith, K .otop, kept-top L _ (K .one-within));
+        level-low = omega (arith, K .one-below, p .1 .asks .level-low);
+      },
     )
 
 expand-join-requires : (t : ℕ) → expand-lts.Need-join-requires (expand-claims t) (expand-at t) expand.Post
@@ -135,7 +153,13 @@ expand-join-requires t c κs =
     let K = sides-two (at-p0 .p0 .given .1) (at-sides-at .sides-at .ensures) in
     let L = at-restrict .restrict .ensures in
     let M = at-restrict2 .restrict2 .ensures in
-    (kept-roomy (kept-trans (L .kept) (M .kept)) (p .1 .0), (omega (arith, p .1 .1 .1 .2), p .1 .1 .1 .1, omega (arith, L .handle _ (at-answer .answer .given .1), M .kept .grows), M .handle))
+    record {
+      roomy = kept-roomy (kept-trans (L .kept) (M .kept)) (p .1 .asks .taken .roomy);
+      level-some = omega (arith, p .1 .below);
+      level-low = p .1 .asks .level-low;
+      zero-held = omega (arith, L .handle _ (at-answer .answer .given .1), M .kept .grows);
+      one-held = M .handle;
+    }
 
 expand-same-length-4 : (t : ℕ) → expand-lts.Need-same-length-4 (expand-claims t) (expand-at t) expand.Post
 expand-same-length-4 t c = search needs
@@ -145,7 +169,7 @@ expand-returns-2 t c =
     let at-start : expand-lts.Start (expand-claims t) (expand-at t) expand.Post = search in
     let a = at-start .args in
     let p = at-start .pre in
-    ran-broken (a .store) (a .nodes .now) (a .lookup .now) (a .cache .now) (p .1 .0) (a .call) (c .refused .result) (c .refused .ensures .0) (c .refused .ensures .1)
+    ran-broken (a .store) (a .nodes .now) (a .lookup .now) (a .cache .now) (p .1 .asks .taken .roomy) (a .call) (c .refused .result) (c .refused .ensures .0) (c .refused .ensures .1)
     (λ B H. sides-broken ((c .before) .enum-told .given .1) ((c .before .before .before) .sides-at .ensures) B (a .lookup .now) H)
 
 expand-same-length-5 : (t : ℕ) → expand-lts.Need-same-length-5 (expand-claims t) (expand-at t) expand.Post
@@ -184,14 +208,14 @@ expand-returns-3 t c =
     let a = at-start .args in
     let p = at-start .pre in
     step-joined (a .call) _ _ (a .level) (a .store) (a .nodes .now) (a .lookup .now) (a .cache .now)
-    (split-item (a .call) (a .store .count) (a .nodes .now) (a .level) (p .1 .1 .0 .2) (p .1 .1 .0 .0) (p .1 .1 .0 .1) (p .1 .1 .0 .3) (p .1 .1 .0 .4) (a .lookup .now) (p .1 .1 .1 .0) (p .1 .1 .1 .2) (sides-two (at-p0 .p0 .given .1) (at-sides-at .sides-at .ensures)))
+    (split-item (p .1) (sides-two (at-p0 .p0 .given .1) (at-sides-at .sides-at .ensures)))
     (at-restrict .restrict .ensures) _ (at-answer .answer .given .1) (at-restrict2 .restrict2 .ensures) (at-join .join .ensures)
 
 restrict-above-top-requires : (t : ℕ) → restrict-lts.Need-above-top-requires (restrict-claims t) (restrict-at t) restrict.Post
 restrict-above-top-requires t c κs =
     let at-start : restrict-lts.Start (restrict-claims t) (restrict-at t) restrict.Post = search in
     let p = at-start .pre in
-    (p .1 .0, (p .1 .1 .0, omega (arith, p .1 .1 .1 .0, (c .before .before) .if1 .taken)))
+    record { taken = p .1 .taken; above = omega (arith, p .1 .level-is, (c .before .before) .if1 .taken) }
 
 restrict-same-length : (t : ℕ) → restrict-lts.Need-same-length (restrict-claims t) (restrict-at t) restrict.Post
 restrict-same-length t c = search needs
@@ -210,7 +234,7 @@ restrict-at-top-requires : (t : ℕ) → restrict-lts.Need-at-top-requires (rest
 restrict-at-top-requires t c κs =
     let at-start : restrict-lts.Start (restrict-claims t) (restrict-at t) restrict.Post = search in
     let p = at-start .pre in
-    (p .1 .0, (p .1 .1 .0, omega (arith, p .1 .1 .1 .0, (c .before .before) .if2 .taken)))
+    record { taken = p .1 .taken; here = omega (arith, p .1 .level-is, (c .before .before) .if2 .taken) }
 
 restrict-same-length-3 : (t : ℕ) → restrict-lts.Need-same-length-3 (restrict-claims t) (restrict-at t) restrict.Post
 restrict-same-length-3 t c = search needs
@@ -229,7 +253,7 @@ restrict-recall-requires : (t : ℕ) → restrict-lts.Need-recall-requires (rest
 restrict-recall-requires t c κs =
     let at-start : restrict-lts.Start (restrict-claims t) (restrict-at t) restrict.Post = search in
     let p = at-start .pre in
-    omega (arith, p .1 .0 .within, p .1 .0 .small)
+    omega (arith, p .1 .taken .roomy .within, p .1 .taken .roomy .small)
 
 restrict-enum-known-handle : (t : ℕ) → restrict-lts.Need-enum-known-handle (restrict-claims t) (restrict-at t) restrict.Post
 restrict-enum-known-handle t c = search needs
@@ -246,8 +270,8 @@ restrict-returns-3 t c =
     let at-start : restrict-lts.Start (restrict-claims t) (restrict-at t) restrict.Post = search in
     let a = at-start .args in
     let p = at-start .pre in
-    ran-recalled (a .store) (a .nodes .now) (a .lookup .now) (a .cache .now) (p .1 .0) (a .call) (c .placed .result) (c .placed .ensures .0) _ (c .placed .ensures .1)
-    (p .1 .1 .0 .0) ((c .before .before) .handle .given .1) (at-recall .recall .ensures)
+    ran-recalled (a .store) (a .nodes .now) (a .lookup .now) (a .cache .now) (p .1 .taken .roomy) (a .call) (c .placed .result) (c .placed .ensures .0) _ (c .placed .ensures .1)
+    (p .1 .taken .operation .some) ((c .before .before) .handle .given .1) (at-recall .recall .ensures)
 
 restrict-enum-told : (t : ℕ) → restrict-lts.Need-enum-told (restrict-claims t) (restrict-at t) restrict.Post
 restrict-enum-told t c = search needs
@@ -258,7 +282,7 @@ restrict-expand-requires t c κs =
     let at-if1 : restrict-lts.Else1 (restrict-claims t) (restrict-at t) restrict.Post = search in
     let at-start : restrict-lts.Start (restrict-claims t) (restrict-at t) restrict.Post = search in
     let p = at-start .pre in
-    (omega (arith, p .0), (p .1 .0, (p .1 .1 .0, (p .1 .1 .1 .0, p .1 .1 .1 .1, omega (arith, at-if1 .if1 .left, at-if2 .if2 .left)))))
+    (omega (arith, p .0), record { asks = p .1; below = omega (arith, at-if1 .if1 .left, at-if2 .if2 .left) })
 
 restrict-same-length-6 : (t : ℕ) → restrict-lts.Need-same-length-6 (restrict-claims t) (restrict-at t) restrict.Post
 restrict-same-length-6 t c = search needs

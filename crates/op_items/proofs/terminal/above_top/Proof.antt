@@ -13,7 +13,7 @@ returns c =
     let at-start : tie.Start = search in
     let a = at-start .args in
     let p = at-start .pre in
-    above-none (a .call) (a .store) (a .nodes .now) (a .lookup .now) (p .0) (p .1 .0 .0) (p .1 .0 .1) (p .1 .0 .2) (p .1 .0 .3) (p .1 .1) (c .placed .result) (c .placed .ensures .0) (c .placed .ensures .1) ((c .before) .if1 .taken)
+    above-none (a .call) (a .store) (a .nodes .now) (a .lookup .now) (p .taken) (p .above) (c .placed .result) (c .placed .ensures .0) (c .placed .ensures .1) ((c .before) .if1 .taken)
 
 placed-requires-2 : tie.Need-placed-requires-2
 placed-requires-2 c κs = search needs
@@ -23,7 +23,7 @@ returns-2 c =
     let at-start : tie.Start = search in
     let a = at-start .args in
     let p = at-start .pre in
-    above-same (a .call) (a .store) (a .nodes .now) (a .lookup .now) (p .0) (p .1 .0 .0) (p .1 .0 .1) (p .1 .0 .2) (p .1 .0 .3) (p .1 .1) (c .placed2 .result) (c .placed2 .ensures .0) (c .placed2 .ensures .1) ((c .before) .if2 .taken)
+    above-same (a .call) (a .store) (a .nodes .now) (a .lookup .now) (p .taken) (p .above) (c .placed2 .result) (c .placed2 .ensures .0) (c .placed2 .ensures .1) ((c .before) .if2 .taken)
 
 get-node-requires : tie.Need-get-node-requires
 get-node-requires c κs = search needs
@@ -42,7 +42,7 @@ returns-3 c =
     let at-start : tie.Start = search in
     let a = at-start .args in
     let p = at-start .pre in
-    above-node (a .call) (a .store) (a .nodes .now) (a .lookup .now) (p .0) (p .1 .0 .0) (p .1 .0 .1) (p .1 .0 .2) (p .1 .0 .3) (p .1 .1) (at-get-node .get-node .result) (at-if1 .if1 .left) (at-if2 .if2 .left) (at-get-node .get-node .ensures)
+    above-node (a .call) (a .store) (a .nodes .now) (a .lookup .now) (p .taken) (p .above) (at-get-node .get-node .result) (at-if1 .if1 .left) (at-if2 .if2 .left) (at-get-node .get-node .ensures)
 
 pub above-top-spec : {M : Type 1} → statement M
 above-top-spec =

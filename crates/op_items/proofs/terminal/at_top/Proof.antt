@@ -32,7 +32,7 @@ returns c =
     let at-start : tie.Start = search in
     let a = at-start .args in
     let p = at-start .pre in
-    top-one (a .call) (a .store) (a .nodes .now) (a .lookup .now) (p .0) (p .1 .0 .0) (p .1 .0 .1) (p .1 .0 .2) (p .1 .0 .3) (p .1 .1)
+    top-one (a .call) (a .store) (a .nodes .now) (a .lookup .now) (p .taken) (p .here)
     (sides-two (at-zero .zero .given .1) (at-sides-at .sides-at .ensures)) (c .placed .result) (c .placed .ensures .0) (c .placed .ensures .1) ((c .before) .if1 .taken)
 
 placed-requires-2 : tie.Need-placed-requires-2
@@ -48,7 +48,7 @@ returns-2 c =
     let at-start : tie.Start = search in
     let a = at-start .args in
     let p = at-start .pre in
-    top-zero (a .call) (a .store) (a .nodes .now) (a .lookup .now) (p .0) (p .1 .0 .0) (p .1 .0 .1) (p .1 .0 .2) (p .1 .0 .3) (p .1 .1)
+    top-zero (a .call) (a .store) (a .nodes .now) (a .lookup .now) (p .taken) (p .here)
     (sides-two (at-zero .zero .given .1) (at-sides-at .sides-at .ensures)) (c .placed2 .result) (c .placed2 .ensures .0) (c .placed2 .ensures .1) ((c .before) .if2 .taken)
 
 get-node-requires : tie.Need-get-node-requires
@@ -58,7 +58,13 @@ get-node-requires c κs =
     let at-start : tie.Start = search in
     let p = at-start .pre in
     let T = sides-two (at-zero .zero .given .1) (at-sides-at .sides-at .ensures) in
-    (p .0, (p .1 .0 .3, p .1 .0 .4, T .one-within, T .zero-within))
+    record {
+      roomy = p .taken .roomy;
+      item-some = p .taken .item-some;
+      item-low = p .taken .item-low;
+      zero-held = T .one-within;
+      one-held = T .zero-within;
+    }
 
 same-length-3 : tie.Need-same-length-3
 same-length-3 c = search needs
@@ -68,7 +74,7 @@ returns-3 c =
     let at-start : tie.Start = search in
     let a = at-start .args in
     let p = at-start .pre in
-    plain-broken _ (a .store) (a .nodes .now) (a .lookup .now) (p .0) (c .refused .result) (c .refused .ensures .0) (c .refused .ensures .1)
+    plain-broken _ (a .store) (a .nodes .now) (a .lookup .now) (p .taken .roomy) (c .refused .result) (c .refused .ensures .0) (c .refused .ensures .1)
     (λ B H. sides-broken ((c .before) .enum-told .given .1) ((c .before .before .before) .sides-at .ensures) B (a .lookup .now) H)
 
 same-length-4 : tie.Need-same-length-4
@@ -87,7 +93,7 @@ returns-4 c =
     let at-start : tie.Start = search in
     let a = at-start .args in
     let p = at-start .pre in
-    top-node (a .call) (a .store) (a .nodes .now) (a .lookup .now) (p .0) (p .1 .0 .0) (p .1 .0 .1) (p .1 .0 .2) (p .1 .0 .3) (p .1 .1)
+    top-node (a .call) (a .store) (a .nodes .now) (a .lookup .now) (p .taken) (p .here)
     (sides-two (at-zero .zero .given .1) (at-sides-at .sides-at .ensures)) (at-get-node .get-node .result)
     (at-if1 .if1 .left) (at-if2 .if2 .left) (at-get-node .get-node .ensures)
 

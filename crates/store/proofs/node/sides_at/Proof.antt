@@ -19,7 +19,7 @@ here c =
     let a = c .before .before .before .args in
     let pre = c .before .before .before .pre in
     let h : a .level ≤ topAt (a .nodes .now) (a .p) = omega (arith, c .before .top-of .ensures, c .if1 .left) in
-    record { high = h; inner = is-inner (a .nodes .now) (a .count) (a .p) (a .level) (pre .0 .0) (pre .1 .1) h (pre .1 .0) }
+    record { high = h; inner = is-inner (a .nodes .now) (a .count) (a .p) (a .level) (pre .held) (pre .some) h (pre .top-low) }
 
 top-of-requires : tie.Need-top-of-requires
 top-of-requires c κs = search needs
@@ -29,7 +29,7 @@ returns c =
     let a = (c .before .before .before) .args in
     let pre = (c .before .before .before) .pre in
     let e = (c .before) .top-of .ensures in
-    rw e (two (sides-below (a .nodes .now) (a .count) (a .p) (a .level) (pre .0 .0) (pre .1 .1) (omega (arith, e, c .if1 .taken))))
+    rw e (two (sides-below (a .nodes .now) (a .count) (a .p) (a .level) (pre .held) (pre .some) (omega (arith, e, c .if1 .taken))))
 
 sub-base : tie.Need-sub-base
 sub-base c = here c .inner
@@ -66,7 +66,7 @@ returns-2 c =
     let at-start : tie.Start = search in
     let a = at-start .args in
     let pre = at-start .pre in
-    broken (λ B lookup H. omega (arith, zero-inside (a .nodes .now) (a .count) (a .p) (a .level) (pre .0 .0) (pre .1 .1) (here (c .before .before .before) .high) (pre .1 .0) H))
+    broken (λ B lookup H. omega (arith, zero-inside (a .nodes .now) (a .count) (a .p) (a .level) (pre .held) (pre .some) (here (c .before .before .before) .high) (pre .top-low) H))
 
 add-if3 : tie.Need-add-if3
 add-if3 c = search needs
@@ -77,7 +77,7 @@ returns-3 c =
     let at-start : tie.Start = search in
     let a = at-start .args in
     let pre = at-start .pre in
-    broken (λ B lookup H. omega (arith, one-inside (a .nodes .now) (a .count) (a .p) (a .level) (pre .0 .0) (pre .1 .1) (here at-if1 .high) (pre .1 .0) H))
+    broken (λ B lookup H. omega (arith, one-inside (a .nodes .now) (a .count) (a .p) (a .level) (pre .held) (pre .some) (here at-if1 .high) (pre .top-low) H))
 
 top-of-requires-2 : tie.Need-top-of-requires-2
 top-of-requires-2 c κs = search needs
@@ -88,7 +88,7 @@ returns-4 c =
     let at-start : tie.Start = search in
     let a = at-start .args in
     let pre = at-start .pre in
-    broken (λ B lookup H. omega (arith, zero-low (a .nodes .now) (a .count) (a .p) (a .level) (pre .0 .0) (pre .1 .1) (here at-if1 .high) (pre .1 .0) H, (c .before) .top-of2 .ensures))
+    broken (λ B lookup H. omega (arith, zero-low (a .nodes .now) (a .count) (a .p) (a .level) (pre .held) (pre .some) (here at-if1 .high) (pre .top-low) H, (c .before) .top-of2 .ensures))
 
 top-of-requires-3 : tie.Need-top-of-requires-3
 top-of-requires-3 c κs = search needs
@@ -99,7 +99,7 @@ returns-5 c =
     let at-start : tie.Start = search in
     let a = at-start .args in
     let pre = at-start .pre in
-    broken (λ B lookup H. omega (arith, one-low (a .nodes .now) (a .count) (a .p) (a .level) (pre .0 .0) (pre .1 .1) (here at-if1 .high) (pre .1 .0) H, (c .before) .top-of3 .ensures))
+    broken (λ B lookup H. omega (arith, one-low (a .nodes .now) (a .count) (a .p) (a .level) (pre .held) (pre .some) (here at-if1 .high) (pre .top-low) H, (c .before) .top-of3 .ensures))
 
 returns-6 : tie.Need-returns-6
 returns-6 c =
@@ -109,7 +109,7 @@ returns-6 c =
     let at-start : tie.Start = search in
     let a = at-start .args in
     let pre = at-start .pre in
-    two (sides-here (a .nodes .now) (a .count) (a .p) (a .level) (pre .0 .0) (pre .1 .1) (here at-if1 .high) (pre .1 .0) _ _ (at-if2 .if2 .left) (at-if3 .if3 .left)
+    two (sides-here (a .nodes .now) (a .count) (a .p) (a .level) (pre .held) (pre .some) (here at-if1 .high) (pre .top-low) _ _ (at-if2 .if2 .left) (at-if3 .if3 .left)
     ((c .before .before .before) .top-of2 .ensures) ((c .before) .top-of3 .ensures) ((c .before .before) .if4 .left) (c .if5 .left))
 
 pub sides-at-spec : {M : Type 1} → statement M

@@ -43,7 +43,7 @@ are-zero-requires c κs =
     let at-start : tie.Start = search in
     let a = at-start .args in
     let R = fits-roomy (a .store) (a .nodes .now) (a .lookup .now) (test-passed (at-fits2 .fits2 .ensures) ((c .before .before .before) .if1 .left)) in
-    (omega (arith, R .within), R .words)
+    record { rising = omega (arith, R .within); within = R .words }
 
 returns-3 : tie.Need-returns-3
 returns-3 c = tells-no _ _ _ (λ cache S. (c .before) .are-zero .ensures .says-no (not-true _ (c .if3 .taken)) (sound-blank _ _ _ S))
@@ -55,7 +55,7 @@ all-obey-requires c κs =
     let at-start : tie.Start = search in
     let a = at-start .args in
     let R = fits-roomy (a .store) (a .nodes .now) (a .lookup .now) (test-passed (at-fits2 .fits2 .ensures) (at-if1 .if1 .left)) in
-    (omega (arith, R .within, R .words), omega (arith, R .within, R .small), omega (arith, R .longer))
+    record { words = omega (arith, R .within, R .words); few = omega (arith, R .within, R .small); slots = omega (arith, R .longer) }
 
 returns-4 : tie.Need-returns-4
 returns-4 c =

@@ -13,7 +13,7 @@ returns c =
     let at-start : tie.Start = search in
     let a = at-start .args in
     let p = at-start .pre in
-    node-zero (a .store) (a .nodes .now) (a .lookup .now) (a .item) (a .zero) (a .one) (p .1 .1) (p .1 .2) (p .1 .3) (p .0) (c .placed .result) (c .placed .ensures .0) (c .placed .ensures .1) ((c .before) .if1 .taken)
+    node-zero (a .store) (a .nodes .now) (a .lookup .now) (a .item) (a .zero) (a .one) (p .item-low) (p .zero-held) (p .one-held) (p .roomy) (c .placed .result) (c .placed .ensures .0) (c .placed .ensures .1) ((c .before) .if1 .taken)
 
 make-requires : tie.Need-make-requires
 make-requires c κs = search needs
@@ -55,7 +55,7 @@ returns-2 c =
     let at-start : tie.Start = search in
     let a = at-start .args in
     let p = at-start .pre in
-    node-found (a .store) (a .nodes .now) (a .lookup .now) (a .item) (a .zero) (a .one) (p .1 .1) (p .1 .2) (p .1 .3) (at-if1 .if1 .left) (at-make .make .ensures) (c .placed2 .result) (c .placed2 .ensures .0) _ ((c .before .before) .made .given .1) (c .placed2 .ensures .1)
+    node-found (a .store) (a .nodes .now) (a .lookup .now) (a .item) (a .zero) (a .one) (p .item-low) (p .zero-held) (p .one-held) (at-if1 .if1 .left) (at-make .make .ensures) (c .placed2 .result) (c .placed2 .ensures .0) _ ((c .before .before) .made .given .1) (c .placed2 .ensures .1)
 
 same-length-3 : tie.Need-same-length-3
 same-length-3 c = search needs
@@ -70,7 +70,7 @@ returns-3 c =
     let at-start : tie.Start = search in
     let a = at-start .args in
     let p = at-start .pre in
-    node-new (a .store) (a .nodes .now) (a .lookup .now) (a .item) (a .zero) (a .one) (p .1 .1) (p .1 .2) (p .1 .3) (at-if1 .if1 .left) (at-make .make .ensures) (c .placed3 .result) (c .placed3 .ensures .0) _ ((c .before .before) .made2 .given .1) (c .placed3 .ensures .1)
+    node-new (a .store) (a .nodes .now) (a .lookup .now) (a .item) (a .zero) (a .one) (p .item-low) (p .zero-held) (p .one-held) (at-if1 .if1 .left) (at-make .make .ensures) (c .placed3 .result) (c .placed3 .ensures .0) _ ((c .before .before) .made2 .given .1) (c .placed3 .ensures .1)
 
 same-length-5 : tie.Need-same-length-5
 same-length-5 c = search needs
@@ -85,7 +85,7 @@ returns-4 c =
     let at-start : tie.Start = search in
     let a = at-start .args in
     let p = at-start .pre in
-    node-full (a .store) (a .nodes .now) (a .lookup .now) (a .item) (a .zero) (a .one) (p .1 .1) (p .1 .2) (p .1 .3) (at-if1 .if1 .left) (at-make .make .ensures) (c .refused .result) (c .refused .ensures .0) ((c .before) .enum-told .given .1) (c .refused .ensures .1)
+    node-full (a .store) (a .nodes .now) (a .lookup .now) (a .item) (a .zero) (a .one) (p .item-low) (p .zero-held) (p .one-held) (at-if1 .if1 .left) (at-make .make .ensures) (c .refused .result) (c .refused .ensures .0) ((c .before) .enum-told .given .1) (c .refused .ensures .1)
 
 same-length-7 : tie.Need-same-length-7
 same-length-7 c = search needs
@@ -100,7 +100,7 @@ returns-5 c =
     let at-start : tie.Start = search in
     let a = at-start .args in
     let p = at-start .pre in
-    node-damaged (a .store) (a .nodes .now) (a .lookup .now) (a .item) (a .zero) (a .one) (p .1 .1) (p .1 .2) (p .1 .3) (at-if1 .if1 .left) (at-make .make .ensures) (c .refused2 .result) (c .refused2 .ensures .0) ((c .before) .enum-told2 .given .1) (c .refused2 .ensures .1)
+    node-damaged (a .store) (a .nodes .now) (a .lookup .now) (a .item) (a .zero) (a .one) (p .item-low) (p .zero-held) (p .one-held) (at-if1 .if1 .left) (at-make .make .ensures) (c .refused2 .result) (c .refused2 .ensures .0) ((c .before) .enum-told2 .given .1) (c .refused2 .ensures .1)
 
 pub get-node-spec : {M : Type 1} → statement M
 get-node-spec =

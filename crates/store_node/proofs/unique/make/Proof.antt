@@ -19,8 +19,8 @@ returns c =
     let at-start : tie.Start = search in
     let a = at-start .args in
     let p = at-start .pre in
-    made-damaged (a .store) (a .nodes .now) (a .lookup .now) (a .item) (a .zero) (a .one) _ (p .0) (p .1 .2) (p .1 .3) ((c .before) .probe .ensures)
-    (not-past (a .store) (a .nodes .now) (a .lookup .now) (a .item) (a .zero) (a .one) _ (p .0) (p .1 .2) (p .1 .3) ((c .before) .probe .ensures) (c .if1 .taken))
+    made-damaged (a .store) (a .nodes .now) (a .lookup .now) (a .item) (a .zero) (a .one) _ (p .roomy) (p .zero-held) (p .one-held) ((c .before) .probe .ensures)
+    (not-past (a .store) (a .nodes .now) (a .lookup .now) (a .item) (a .zero) (a .one) _ (p .roomy) (p .zero-held) (p .one-held) ((c .before) .probe .ensures) (c .if1 .taken))
 
 mul-number : tie.Need-mul-number
 mul-number c = search needs
@@ -40,7 +40,7 @@ returns-2 c =
     let at-start : tie.Start = search in
     let a = at-start .args in
     let p = at-start .pre in
-    made-full (a .store) (a .nodes .now) (a .lookup .now) (a .item) (a .zero) (a .one) _ (p .0) (p .1 .2) (p .1 .3) (at-probe .probe .ensures) ((c .before) .if2 .taken) (c .if3 .taken)
+    made-full (a .store) (a .nodes .now) (a .lookup .now) (a .item) (a .zero) (a .one) _ (p .roomy) (p .zero-held) (p .one-held) (at-probe .probe .ensures) ((c .before) .if2 .taken) (c .if3 .taken)
 
 enter-requires : tie.Need-enter-requires
 enter-requires c κs = search needs
@@ -70,7 +70,7 @@ returns-3 c =
     let at-start : tie.Start = search in
     let a = at-start .args in
     let p = at-start .pre in
-    made-new (a .store) (a .nodes .now) (a .lookup .now) (a .item) (a .zero) (a .one) _ (p .0) (p .1 .2) (p .1 .3) (at-probe .probe .ensures)
+    made-new (a .store) (a .nodes .now) (a .lookup .now) (a .item) (a .zero) (a .one) _ (p .roomy) (p .zero-held) (p .one-held) (at-probe .probe .ensures)
     (c .appended .result) (at-enter .enter .last .0) (at-enter .enter .last .1 .0) (c .appended .ensures .0) (c .appended .ensures .1) (at-enter .enter .ensures .0) (at-enter .enter .ensures .1) (at-if2 .if2 .taken) (at-if3 .if3 .left)
 
 same-length-7 : tie.Need-same-length-7
@@ -85,8 +85,8 @@ returns-4 c =
     let at-start : tie.Start = search in
     let a = at-start .args in
     let p = at-start .pre in
-    made-damaged (a .store) (a .nodes .now) (a .lookup .now) (a .item) (a .zero) (a .one) _ (p .0) (p .1 .2) (p .1 .3) (at-probe .probe .ensures)
-    (not-one (a .store) (a .nodes .now) (a .lookup .now) (a .item) (a .zero) (a .one) _ (p .0) (p .1 .2) (p .1 .3) (at-probe .probe .ensures) ((c .before) .if2 .left) (c .if4 .taken))
+    made-damaged (a .store) (a .nodes .now) (a .lookup .now) (a .item) (a .zero) (a .one) _ (p .roomy) (p .zero-held) (p .one-held) (at-probe .probe .ensures)
+    (not-one (a .store) (a .nodes .now) (a .lookup .now) (a .item) (a .zero) (a .one) _ (p .roomy) (p .zero-held) (p .one-held) (at-probe .probe .ensures) ((c .before) .if2 .left) (c .if4 .taken))
 
 add-if5 : tie.Need-add-if5
 add-if5 c = search needs
@@ -103,8 +103,8 @@ returns-5 c =
     let at-start : tie.Start = search in
     let a = at-start .args in
     let p = at-start .pre in
-    made-damaged (a .store) (a .nodes .now) (a .lookup .now) (a .item) (a .zero) (a .one) _ (p .0) (p .1 .2) (p .1 .3) (at-probe .probe .ensures)
-    (not-above (a .store) (a .nodes .now) (a .lookup .now) (a .item) (a .zero) (a .one) _ (p .0) (p .1 .2) (p .1 .3) (at-probe .probe .ensures) ((c .before .before) .if2 .left) (c .if5 .taken))
+    made-damaged (a .store) (a .nodes .now) (a .lookup .now) (a .item) (a .zero) (a .one) _ (p .roomy) (p .zero-held) (p .one-held) (at-probe .probe .ensures)
+    (not-above (a .store) (a .nodes .now) (a .lookup .now) (a .item) (a .zero) (a .one) _ (p .roomy) (p .zero-held) (p .one-held) (at-probe .probe .ensures) ((c .before .before) .if2 .left) (c .if5 .taken))
 
 same-length-11 : tie.Need-same-length-11
 same-length-11 c = search needs
@@ -118,7 +118,7 @@ returns-6 c =
     let at-start : tie.Start = search in
     let a = at-start .args in
     let p = at-start .pre in
-    made-found (a .store) (a .nodes .now) (a .lookup .now) (a .item) (a .zero) (a .one) _ (p .0) (p .1 .2) (p .1 .3) (at-probe .probe .ensures) ((c .before .before) .if2 .left) (c .if5 .left)
+    made-found (a .store) (a .nodes .now) (a .lookup .now) (a .item) (a .zero) (a .one) _ (p .roomy) (p .zero-held) (p .one-held) (at-probe .probe .ensures) ((c .before .before) .if2 .left) (c .if5 .left)
 
 pub make-spec : {M : Type 1} → statement M
 make-spec =

@@ -6,7 +6,7 @@ use mathlib.Core.Path.{_≡_, refl, sym, _∙_}
 use mathlib.Core.Bool.{Bool}
 use mathlib.Core.List.{List}
 use native.Mathlib.Omega.{arith}
-use lib.ListN.{getD}
+use lib.ListN.{length, getD}
 use Rattle.table.specs.Start.{startOf}
 use Rattle.table.specs.Probe.{scan, stopOn, probeOf}
 use Rattle.table.proofs.Starts.{start-lt}
@@ -15,14 +15,14 @@ use Rattle.table.proofs.probe.probe.Statement.{statement}
 use Rattle.table.proofs.probe.probe.Tie as tie
 
 abbrev Inv-loop : tie.InvT-loop
-Inv-loop nodes lookup count item zero one length slot₀ left₀ slot left =
-    (slot < length)
-    × (left ≤ length)
-    × (length ≡ lib.ListN.length lookup)
-    × (scan (λ x. stopOn nodes count item zero one (getD lookup x 0)) length left slot ≡ probeOf nodes lookup count item zero one)
+Inv-loop nodes lookup count item zero one slots slot₀ left₀ slot left =
+    (slot < slots)
+    × (left ≤ slots)
+    × (slots ≡ length lookup)
+    × (scan (λ x. stopOn nodes count item zero one (getD lookup x 0)) slots left slot ≡ probeOf nodes lookup count item zero one)
 
 abbrev μ-loop : tie.MeasureT-loop
-μ-loop nodes lookup count item zero one length slot₀ left₀ slot left = left
+μ-loop nodes lookup count item zero one slots slot₀ left₀ slot left = left
 
 -- what stops the search, slot by slot
 abbrev stop : List ℕ → List ℕ → ℕ → ℕ → ℕ → ℕ → ℕ → Bool
@@ -35,7 +35,7 @@ loop-holds : tie.Need-loop-holds Inv-loop μ-loop
 unfolding probeOf
 loop-holds c =
     let a = (c .before .before .before) .args in
-    let n = lib.ListN.length (a .lookup .now) in
+    let n = length (a .lookup .now) in
     let s : c .start-slot .result ≡ startOf (a .item) (a .zero) (a .one) n = c .start-slot .ensures in
     (rw s (start-lt (a .item) (a .zero) (a .one) n (search needs)), search needs, refl, rw s refl)
 

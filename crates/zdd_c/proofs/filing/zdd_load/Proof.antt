@@ -6,7 +6,8 @@ use Rattle.zdd_c.proofs.filing.zdd_load.Tie as tie
 
 returns : tie.Need-returns
 returns c =
-    let b = c .before .before .before .before .before .before .before .before .before .load in
+    let at-load : tie.After-load = search in
+    let b = at-load .load in
     record { behind = b .result; keeps = b .ensures; given-is = c .placed .ensures }
 
 pub zdd-load-spec : {M : Type 1} → statement M

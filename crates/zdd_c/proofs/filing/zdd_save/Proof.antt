@@ -6,7 +6,8 @@ use Rattle.zdd_c.proofs.filing.zdd_save.Tie as tie
 
 returns : tie.Need-returns
 returns c =
-    let b = c .before .before .before .before .before .save in
+    let at-save : tie.After-save = search in
+    let b = at-save .save in
     record { behind = b .result; keeps = b .ensures; given-is = c .saved .ensures }
 
 pub zdd-save-spec : {M : Type 1} → statement M

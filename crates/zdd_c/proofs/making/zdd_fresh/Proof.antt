@@ -6,7 +6,8 @@ use Rattle.zdd_c.proofs.making.zdd_fresh.Tie as tie
 
 returns : tie.Need-returns
 returns c =
-    let b = c .before .before .before .before .before .before .before .fresh in
+    let at-fresh : tie.After-fresh = search in
+    let b = at-fresh .fresh in
     record { behind = b .result; keeps = b .ensures; given-is = c .freshened .ensures }
 
 pub zdd-fresh-spec : {M : Type 1} → statement M

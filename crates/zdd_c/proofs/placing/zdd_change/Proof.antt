@@ -6,7 +6,8 @@ use Rattle.zdd_c.proofs.placing.zdd_change.Tie as tie
 
 returns : tie.Need-returns
 returns c =
-    let b = c .before .before .before .before .before .before .before .change in
+    let at-change : tie.After-change = search in
+    let b = at-change .change in
     record { behind = b .result; keeps = b .ensures; given-is = c .placed .ensures }
 
 pub zdd-change-spec : {M : Type 1} → statement M

@@ -6,7 +6,8 @@ use Rattle.zdd_c.proofs.placing.zdd_diff.Tie as tie
 
 returns : tie.Need-returns
 returns c =
-    let b = c .before .before .before .before .before .before .before .diff in
+    let at-diff : tie.After-diff = search in
+    let b = at-diff .diff in
     record { behind = b .result; keeps = b .ensures; given-is = c .placed .ensures }
 
 pub zdd-diff-spec : {M : Type 1} → statement M

@@ -6,7 +6,8 @@ use Rattle.zdd_c.proofs.placing.zdd_intsec.Tie as tie
 
 returns : tie.Need-returns
 returns c =
-    let b = c .before .before .before .before .before .before .before .intsec in
+    let at-intsec : tie.After-intsec = search in
+    let b = at-intsec .intsec in
     record { behind = b .result; keeps = b .ensures; given-is = c .placed .ensures }
 
 pub zdd-intsec-spec : {M : Type 1} → statement M

@@ -6,7 +6,8 @@ use Rattle.zdd_c.proofs.placing.zdd_subset0.Tie as tie
 
 returns : tie.Need-returns
 returns c =
-    let b = c .before .before .before .before .before .before .before .subset0 in
+    let at-subset0 : tie.After-subset0 = search in
+    let b = at-subset0 .subset0 in
     record { behind = b .result; keeps = b .ensures; given-is = c .placed .ensures }
 
 pub zdd-subset0-spec : {M : Type 1} → statement M

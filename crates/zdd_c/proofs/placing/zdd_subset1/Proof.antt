@@ -6,7 +6,8 @@ use Rattle.zdd_c.proofs.placing.zdd_subset1.Tie as tie
 
 returns : tie.Need-returns
 returns c =
-    let b = c .before .before .before .before .before .before .before .subset1 in
+    let at-subset1 : tie.After-subset1 = search in
+    let b = at-subset1 .subset1 in
     record { behind = b .result; keeps = b .ensures; given-is = c .placed .ensures }
 
 pub zdd-subset1-spec : {M : Type 1} → statement M

@@ -6,7 +6,8 @@ use Rattle.zdd_c.proofs.placing.zdd_union.Tie as tie
 
 returns : tie.Need-returns
 returns c =
-    let b = c .before .before .before .before .before .before .before .union in
+    let at-union : tie.After-union = search in
+    let b = at-union .union in
     record { behind = b .result; keeps = b .ensures; given-is = c .placed .ensures }
 
 pub zdd-union-spec : {M : Type 1} → statement M

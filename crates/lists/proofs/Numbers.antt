@@ -1,0 +1,135 @@
+-- What the promises' definitions give, by the number that refuses a call: each number is a refusal's, and what Size
+-- and Save write is as long as what they were lent. Each case of the tests is one line.
+use Prim.Native.Nat.{ℕ, _+_, _*_, _-_, _≤_, min}
+use mathlib.Core.Path.{_≡_, refl, _∙_}
+use mathlib.Core.Bool.{Bool, cond}
+use mathlib.Core.List.{List}
+use mathlib.Core.Option.{Option, none, some}
+use native.Mathlib.Omega.{arith}
+use lib.Dec.{eqb, ltb}
+use lib.ListN.{length, drop, length-append, length-drop, length-map}
+use borrow.Author.Tests.{ne-eqb}
+use Rattle.words.proofs.Cases.{by-test, by-lt, by-eq}
+use Rattle.family.specs.Family.{Family, size}
+use Rattle.family.specs.Book.{at}
+use Rattle.family.specs.File.{fileOf, familyOf}
+use Rattle.store.specs.declared.record.Refusal.{Refusal}
+use Rattle.store.specs.declared.record.Refusal.the-variants.{Item, Handle as NoHandle, Large, Scratch, Output, NoFile}
+use Rattle.store.specs.Refusals.{refusalNumber}
+use Rattle.store.specs.Words.{itemLimit}
+use Rattle.store.specs.Scratch.{scratchTests}
+use Rattle.store.proofs.Calls.{refusal-some}
+use Rattle.store.specs.Tests.{isItem, testsOf}
+use Rattle.store.proofs.Testing.{passes}
+use Rattle.query_has.specs.Promise.{hasRefusal}
+use Rattle.op_promise.specs.Promise.{operationRefusal}
+use Rattle.query_sizes.specs.NodeSizes.{most, sizesOf}
+use Rattle.query_size.specs.declared.SizeAnswer.the-variants.{Members, Refused as SizeRefused}
+use Rattle.query_size.specs.Promise.{sizeGivenBy, sizeRefusal, sizeAnswer, sizeScratch}
+use Rattle.file_save.specs.declared.SaveAnswer.the-variants.{Length, Refused as SaveRefused}
+use Rattle.file_save.specs.Promise.{saveGivenBy, saveRefusal, saveAnswer, saveOutput}
+use Rattle.file_load.specs.Promise.{noFile, loadRefusal}
+
+-- a number that refuses a call before it places: that of a refusal other than 5, or 0 where there is none
+pub data Refusing : ℕ → Type 0 where
+  nothing : Refusing 0
+  refuses : (x : Refusal) → (refusalNumber x ≡ 5 → ⊥) → Refusing (refusalNumber x)
+
+-- the tests of a call, where its own finds a refusal other than 5 or none
+tests-refusing : (n p q : ℕ) {own : ℕ} (scratch need : ℕ) → Refusing own → Refusing (testsOf n p q own scratch need)
+unfolding testsOf
+tests-refusing n p q scratch need own =
+    by-test (ltb (n + 1) p) (λ a. rw a (refuses NoHandle (λ e. omega arith)))
+    (λ a. rw a (by-test (ltb (n + 1) q) (λ b. rw b (refuses NoHandle (λ e. omega arith))) (λ b. rw b (by-own own))))
+  where
+    by-own : {own : ℕ} → Refusing own → Refusing (cond (eqb own 0) (cond (ltb scratch need) 7 0) own)
+    by-own nothing = by-test (ltb scratch need) (λ s. rw s (refuses Scratch (λ e. omega arith))) (λ s. rw s nothing)
+    by-own (refuses x five) = rw (ne-eqb (refusalNumber x) 0 (refusal-some x)) (refuses x five)
+
+pub operation-refusing : (op n p q : ℕ) → Refusing (operationRefusal op n p q)
+unfolding operationRefusal
+operation-refusing op n p q =
+    by-test (ltb op 4)
+    (λ t. rw t (tests-refusing n p 0 0 0 (by-test (isItem q) (λ i. rw i nothing) (λ i. rw i (refuses Item (λ e. omega arith))))))
+    (λ t. rw t (tests-refusing n p q 0 0 nothing))
+
+pub load-refusing : (file : List ℕ) (words : ℕ) → Refusing (loadRefusal file words)
+unfolding loadRefusal
+load-refusing file words =
+    by-test (ltb words (6 * length file)) (λ s. rw s (refuses Scratch (λ e. omega arith))) (λ s. rw s (by-file (familyOf itemLimit file)))
+  where
+    by-file : (o : Option Family) → Refusing (noFile o)
+    by-file none = refuses NoFile (λ e. omega arith)
+    by-file (some F) = nothing
+
+scratch-refusing : (B : List Family) (p words : ℕ) → Refusing (scratchTests B p words)
+unfolding scratchTests
+scratch-refusing B p words = tests-refusing (length B - 2) p 0 words (length B - 2) nothing
+
+pub has-refusing : (B : List Family) (p : ℕ) → Refusing (hasRefusal B p)
+unfolding hasRefusal
+has-refusing B p = tests-refusing (length B - 2) p 0 0 0 nothing
+
+-- a number of these is 0 or a refusal's
+pub by-refusing {ℓ} : {A : Type ℓ} {n : ℕ} → Refusing n → (n ≡ 0 → A) → ((x : Refusal) → n ≡ refusalNumber x → A) → A
+by-refusing nothing f g = f refl
+by-refusing (refuses x five) f g = g x refl
+
+-- the tests of the scratch, and then one more
+then-refusing : {n : ℕ} (b : Bool) (x : Refusal) → (refusalNumber x ≡ 5 → ⊥) → Refusing n → Refusing (cond (eqb n 0) (cond b (refusalNumber x) 0) n)
+then-refusing b x five nothing = by-test b (λ t. rw t (refuses x five)) (λ t. rw t nothing)
+then-refusing b x five (refuses y n) = rw (ne-eqb (refusalNumber y) 0 (refusal-some y)) (refuses y n)
+
+pub size-refusing : (B : List Family) (p words : ℕ) → Refusing (sizeRefusal B p words)
+unfolding sizeRefusal
+size-refusing B p words = then-refusing (ltb most (size (at B p))) Large (λ e. omega arith) (scratch-refusing B p words)
+
+pub save-refusing : (B : List Family) (p words room : ℕ) → Refusing (saveRefusal B p words room)
+unfolding saveRefusal
+save-refusing B p words room = then-refusing (ltb room (length (fileOf (at B p)))) Output (λ e. omega arith) (scratch-refusing B p words)
+
+-- what Size and Save give and leave, refused and not
+pub size-none : (B : List Family) (p words : ℕ) → sizeRefusal B p words ≡ 0 → sizeGivenBy (Members (size (at B p))) ≡ sizeAnswer B p words
+unfolding sizeAnswer
+size-none B p words e = rw e
+
+pub size-some : (B : List Family) (p words : ℕ) (x : Refusal) → sizeRefusal B p words ≡ refusalNumber x → sizeGivenBy (SizeRefused x) ≡ sizeAnswer B p words
+unfolding sizeAnswer
+size-some B p words x e = rw (e, ne-eqb (refusalNumber x) 0 (refusal-some x))
+
+-- scratch that no test refuses has a word per node held
+scratch-room : (B : List Family) (p words : ℕ) → scratchTests B p words ≡ 0 → length B - 2 ≤ words
+unfolding scratchTests
+scratch-room B p words e = passes (length B - 2) p 0 0 words (length B - 2) e .room
+
+pub size-long : (B : List Family) (p : ℕ) (scratch : List ℕ) → length (sizeScratch B p scratch) ≡ length scratch
+unfolding sizeScratch sizesOf
+size-long B p scratch =
+    by-eq (scratchTests B p (length scratch)) 0
+    (λ z e. rw e (length-append (sizesOf B) (drop (length B - 2) scratch)
+    ∙ omega (arith, scratch-room B p (length scratch) z, length-map (drop 2 B) (λ F. min (size F) most), length-drop 2 B, length-drop (length B - 2) scratch)))
+    (λ z e. rw e)
+
+pub save-none : (B : List Family) (p words room : ℕ) → saveRefusal B p words room ≡ 0 → saveGivenBy (Length (length (fileOf (at B p)))) ≡ saveAnswer B p words room
+unfolding saveAnswer
+save-none B p words room e = rw e
+
+pub save-some : (B : List Family) (p words room : ℕ) (x : Refusal) → saveRefusal B p words room ≡ refusalNumber x → saveGivenBy (SaveRefused x) ≡ saveAnswer B p words room
+unfolding saveAnswer
+save-some B p words room x e = rw (e, ne-eqb (refusalNumber x) 0 (refusal-some x))
+
+-- an output that Save does not refuse has room for the file
+save-room : (B : List Family) (p words room : ℕ) → saveRefusal B p words room ≡ 0 → length (fileOf (at B p)) ≤ room
+unfolding saveRefusal
+save-room B p words room d =
+    by-eq (scratchTests B p words) 0
+    (λ z e. by-lt room (length (fileOf (at B p))) (λ l t. absurd (omega (arith, rw (e, t) at d))) (λ l t. l))
+    (λ z e. absurd (z (rw e at d)))
+
+pub save-long : (B : List Family) (p words : ℕ) (out : List ℕ) → length (saveOutput B p words out) ≡ length out
+unfolding saveOutput
+save-long B p words out =
+    let file = fileOf (at B p) in
+    by-eq (saveRefusal B p words (length out)) 0
+    (λ z e. rw e (length-append file (drop (length file) out) ∙ omega (arith, save-room B p words (length out) z, length-drop (length file) out)))
+    (λ z e. rw e)

@@ -1,0 +1,216 @@
+-- Every promise can be kept on a sound store: for each call there is something to return and to leave as it says.
+-- What the promises define for the book that the words hold is itself such a thing: the words of a book are sound, a
+-- cache that was true stays so as the book grows, and one of zeros is true of every book.
+use Prim.Native.Nat.{ℕ, _*_, _-_, _/_, _≤_}
+use mathlib.Core.Path.{_≡_, refl, sym}
+use mathlib.Core.Bool.{true, false}
+use mathlib.Core.List.{List, []}
+use native.Mathlib.Omega.{arith}
+use lib.ListN.{length}
+use borrow.Author.Tests.{ltb-false, ne-eqb}
+use Rattle.lists.proofs.Numbers.{has-refusing, by-refusing}
+use Rattle.words.specs.Words.{zeroed}
+use Rattle.words.proofs.Cases.{by-test, clash}
+use Rattle.words.proofs.Zeroed.{zeroed-length, zeroed-drop}
+use Rattle.family.specs.Family.{Family, size, has, Within, parts}
+use Rattle.family.specs.Book.{at, number, place, distinct, absent}
+use Rattle.family.specs.File.{fileOf}
+use Rattle.family.proofs.Placing.{place-grown, book-place}
+use Rattle.family.proofs.Different.{place-length}
+use Rattle.store.specs.declared.record.Store.{Store}
+use Rattle.store.specs.declared.record.Refusal.the-variants.{Full}
+use Rattle.store.specs.declared.record.PlaceAnswer.the-variants.{Handle, Refused}
+use Rattle.store.specs.declared.record.Placed.{Placed}
+use Rattle.store.specs.Refusals.{refusalNumber}
+use Rattle.store.specs.Words.{itemLimit, bookOf, nodesWith, lookupOf}
+use Rattle.store.specs.Placing.{costOf, tooLarge}
+use Rattle.store.specs.Promise.{cacheRefused, PlaceCall}
+use Rattle.store.specs.Sound.{Sound}
+use Rattle.store.proofs.Calls.{sound-fits, call-refused, refusal-some}
+use Rattle.store.proofs.Decoding.{sound-holds}
+use Rattle.store.proofs.Sounds.{zeroed-true}
+use Rattle.store.proofs.Cached.{true-grown}
+use Rattle.query_size.specs.declared.Measured.{Measured}
+use Rattle.query_size.specs.declared.SizeAnswer.{SizeAnswer}
+use Rattle.query_size.specs.declared.SizeAnswer.the-variants.{Members, Refused as SizeRefused}
+use Rattle.query_size.specs.Promise.{sizeGivenBy, sizeRefusal, sizeAnswer, sizeScratch, SizeCall}
+use Rattle.query_has.specs.declared.Asked.{Asked}
+use Rattle.query_has.specs.declared.HasAnswer.{HasAnswer}
+use Rattle.query_has.specs.declared.HasAnswer.the-variants.{Yes, No, Refused as HasRefused}
+use Rattle.query_has.specs.Promise.{hasGivenBy, hasAnswer, HasCall}
+use Rattle.file_save.specs.declared.Saved.{Saved}
+use Rattle.file_save.specs.declared.SaveAnswer.{SaveAnswer}
+use Rattle.file_save.specs.declared.SaveAnswer.the-variants.{Length, Refused as SaveRefused}
+use Rattle.file_save.specs.Promise.{saveGivenBy, saveRefusal, saveAnswer, saveOutput, SaveCall}
+use Rattle.store_audit.specs.Promise.{AuditCall}
+use Rattle.lists.proofs.Lending.{sound-with}
+use Rattle.lists.proofs.Placings.{way-full, way-placed}
+use Rattle.lists.proofs.Numbers.{Refusing, nothing, refuses, size-refusing, save-refusing, size-none, size-some, size-long, save-none, save-some, save-long}
+use Rattle.lists.proofs.Laying.{looked-long, laid-long, laid-sound}
+
+-- a call that places
+pub record Places-kept (n : ℕ) (F : Family) (s : Store) (nodes lookup cache : List ℕ) : Type 0 where
+  pub r : Placed
+  pub nodes′ : List ℕ
+  pub lookup′ : List ℕ
+  pub cache′ : List ℕ
+  pub call : PlaceCall n F s nodes lookup cache r nodes′ lookup′ cache′
+
+module _ (F : Family) {s : Store} {nodes lookup cache : List ℕ} (S : Sound s nodes lookup cache) where
+  -- no room: the record and the words stay, and the cache is zeroed
+  kept-full : tooLarge (s .capacity) (bookOf nodes (s .count)) F ≡ true → Places-kept 0 F s nodes lookup cache
+  unfolding cacheRefused
+  kept-full f =
+      let long = zeroed-length 0 (length cache / 4 * 4) cache (omega arith) (omega arith) in
+      record {
+        r = record { store = s; answer = Refused Full };
+        nodes′ = nodes;
+        lookup′ = lookup;
+        cache′ = zeroed 0 (length cache / 4 * 4) cache;
+        call = record {
+          misfit = λ d. clash (sound-fits S) d;
+          on-sound = λ T. record {
+            leaves-is = sym (way-full 0 F s nodes lookup refl f);
+            refused-cache = λ m em dm. rw (← em) refl;
+            sound = sound-with (zeroed 0 (length cache / 4 * 4) cache) S (zeroed-true (bookOf nodes (s .count)) cache);
+            rest = zeroed-drop 0 (length cache / 4 * 4) cache (omega arith) (omega arith);
+          };
+          lengths = (refl, refl, long);
+          capacity = refl;
+          refused = λ d. refl;
+        };
+      }
+
+  -- placed: the words are those of the book with the family, and the cache stays
+  module _ (w : Within itemLimit F) (f : tooLarge (s .capacity) (bookOf nodes (s .count)) F ≡ false) where
+    fits : length (place (bookOf nodes (s .count)) F) - 2 ≤ s .capacity
+    unfolding tooLarge costOf
+    fits =
+        let B = bookOf nodes (s .count) in
+        omega (arith, ltb-false (s .capacity - (length B - 2)) (length (distinct (absent B (parts F)))) f, place-length B F, sound-holds S .size, S .within)
+
+    kept-placed : Places-kept 0 F s nodes lookup cache
+    kept-placed =
+        let B = bookOf nodes (s .count) in
+        let C = place B F in
+        let K = book-place B F (sound-holds S .book) w .0 in
+        let room : 3 * s .capacity ≤ length nodes = omega (arith, S .capacity-is) in
+        record {
+          r = record { store = record { capacity = s .capacity; count = length C - 2 }; answer = Handle (number C F) };
+          nodes′ = nodesWith (s .capacity) C nodes;
+          lookup′ = lookupOf (length lookup) C;
+          cache′ = cache;
+          call = record {
+            misfit = λ d. clash (sound-fits S) d;
+            on-sound = λ T. record {
+              leaves-is = sym (way-placed 0 F s nodes lookup refl f);
+              refused-cache = λ m em dm. absurd (dm (sym em));
+              sound = laid-sound C K (s .capacity) nodes (length lookup) fits room cache (S .capacity-is) (S .longer) (true-grown (place-grown B F) (S .cached));
+              rest = refl;
+            };
+            lengths = (laid-long C K (s .capacity) nodes (length lookup) fits room, looked-long C K (s .capacity) nodes (length lookup), refl);
+            capacity = refl;
+            refused = λ d. absurd (d refl);
+          };
+        }
+
+  pub place-kept : {n : ℕ} → Refusing n → (n ≡ 0 → Within itemLimit F) → Places-kept n F s nodes lookup cache
+  place-kept nothing w = by-test (tooLarge (s .capacity) (bookOf nodes (s .count)) F) (λ f. kept-full f) (λ f. kept-placed (w refl) f)
+  place-kept (refuses x five) w =
+      record {
+        r = record { store = s; answer = Refused x };
+        nodes′ = nodes;
+        lookup′ = lookup;
+        cache′ = cache;
+        call = call-refused s nodes lookup cache (refusalNumber x) F (record { store = s; answer = Refused x }) x (sound-fits S) refl five refl refl;
+      }
+
+-- the calls that write no store word
+module _ {s : Store} {nodes lookup : List ℕ} (S : Sound s nodes lookup []) where
+  pub record Has-kept (p : ℕ) (c : List ℕ) : Type 0 where
+    pub r : Asked
+    pub call : HasCall s nodes lookup p c r
+
+  pub has-kept : (p : ℕ) (c : List ℕ) → Has-kept p c
+  unfolding hasAnswer
+  has-kept p c =
+      let B = bookOf nodes (s .count) in
+      by-refusing (has-refusing B p)
+      (λ z. by-test (has (at B p) c)
+      (λ h. record { r = record { store = s; answer = Yes }; call = says Yes (rw (z, h)) })
+      (λ h. record { r = record { store = s; answer = No }; call = says No (rw (z, h)) }))
+      (λ x d. record { r = record { store = s; answer = HasRefused x }; call = says (HasRefused x) (rw (d, ne-eqb (refusalNumber x) 0 (refusal-some x))) })
+    where
+      says : (a : HasAnswer) → hasGivenBy a ≡ hasAnswer (bookOf nodes (s .count)) p c → HasCall s nodes lookup p c (record { store = s; answer = a })
+      says a e = record { misfit = λ d. clash (sound-fits S) d; answer-is = λ T. e; store-is = refl }
+
+  -- Audit zeroes the cache lent to it, and says yes
+  pub audit-kept : (cache : List ℕ) → AuditCall s nodes lookup cache (record { store = s; sound = true }) (zeroed 0 (length cache / 4 * 4) cache)
+  audit-kept cache =
+      record {
+        cache-is = refl;
+        sound-yes = λ T. refl;
+        yes-sound = λ e. sound-with (zeroed 0 (length cache / 4 * 4) cache) S (zeroed-true (bookOf nodes (s .count)) cache);
+        store-is = refl;
+      }
+
+  pub record Size-kept (p : ℕ) (scratch : List ℕ) : Type 0 where
+    pub r : Measured
+    pub scratch′ : List ℕ
+    pub call : SizeCall s nodes lookup p scratch r scratch′
+
+  pub size-kept : (p : ℕ) (scratch : List ℕ) → Size-kept p scratch
+  size-kept p scratch = by-number refl (size-refusing B p (length scratch))
+    where
+      B : List Family
+      B = bookOf nodes (s .count)
+
+      says : (a : SizeAnswer) → sizeGivenBy a ≡ sizeAnswer B p (length scratch) → Size-kept p scratch
+      says a e =
+          record {
+            r = record { store = s; answer = a };
+            scratch′ = sizeScratch B p scratch;
+            call = record {
+              misfit = λ d. clash (sound-fits S) d;
+              answer-is = λ T. e;
+              scratch-is = λ T. refl;
+              store-is = refl;
+              long = size-long B p scratch;
+            };
+          }
+
+      by-number : {n : ℕ} → sizeRefusal B p (length scratch) ≡ n → Refusing n → Size-kept p scratch
+      by-number e nothing = says (Members (size (at B p))) (size-none B p (length scratch) e)
+      by-number e (refuses x five) = says (SizeRefused x) (size-some B p (length scratch) x e)
+
+  pub record Save-kept (p : ℕ) (scratch out : List ℕ) : Type 0 where
+    pub r : Saved
+    pub out′ : List ℕ
+    pub call : SaveCall s nodes lookup p scratch out r scratch out′
+
+  pub save-kept : (p : ℕ) (scratch out : List ℕ) → Save-kept p scratch out
+  save-kept p scratch out = by-number refl (save-refusing B p (length scratch) (length out))
+    where
+      B : List Family
+      B = bookOf nodes (s .count)
+
+      says : (a : SaveAnswer) → saveGivenBy a ≡ saveAnswer B p (length scratch) (length out) → Save-kept p scratch out
+      says a e =
+          record {
+            r = record { store = s; answer = a };
+            out′ = saveOutput B p (length scratch) out;
+            call = record {
+              misfit = λ d. clash (sound-fits S) d;
+              answer-is = λ T. e;
+              out-is = λ T. refl;
+              scratch-stays = λ T d. refl;
+              scratch-rest = refl;
+              store-is = refl;
+              long = refl;
+              long-out = save-long B p (length scratch) out;
+            };
+          }
+
+      by-number : {n : ℕ} → saveRefusal B p (length scratch) (length out) ≡ n → Refusing n → Save-kept p scratch out
+      by-number e nothing = says (Length (length (fileOf (at B p)))) (save-none B p (length scratch) (length out) e)
+      by-number e (refuses x five) = says (SaveRefused x) (save-some B p (length scratch) (length out) x e)

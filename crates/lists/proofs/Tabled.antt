@@ -1,0 +1,66 @@
+-- The book's answers are refused by the table of specs/Table.
+-- Both go by the same tests in document 01's order; each case of the tests is one line.
+use Prim.Native.Nat.{ℕ, _+_, _*_}
+use mathlib.Core.Path.{_≡_, refl, sym, _∙_}
+use mathlib.Core.Bool.{cond}
+use mathlib.Core.List.{List}
+use mathlib.Core.Option.{Option, none, some}
+use lib.Dec.{eqb, ltb}
+use lib.ListN.{length}
+use native.Mathlib.Omega.{arith}
+use borrow.Author.Tests.{le-ltb}
+use Rattle.words.proofs.Cases.{by-test}
+use Rattle.family.specs.Family.{Family, size}
+use Rattle.family.specs.Book.{at}
+use Rattle.family.specs.File.{fileOf, familyOf}
+use Rattle.store.specs.Words.{itemLimit}
+use Rattle.store.specs.Cache.{named}
+use Rattle.store.specs.Placing.{tooLarge, placeAnswer}
+use Rattle.store.specs.Scratch.{scratchTests}
+use Rattle.store.specs.Tests.{isItem, testsOf}
+use Rattle.op_promise.specs.Promise.{operationRefusal}
+use Rattle.query_sizes.specs.NodeSizes.{most}
+use Rattle.query_size.specs.Promise.{sizeRefusal, sizeAnswer}
+use Rattle.query_has.specs.Promise.{hasAnswer, hasRefusal}
+use Rattle.file_save.specs.Promise.{saveRefusal}
+use Rattle.file_load.specs.Promise.{noFile, foundFamily, loadRefusal, loadFamily}
+use Rattle.lists.specs.Calls.{Operation, numberOf, Call, Operate, Size, Has, Save, Load, Audit}
+use Rattle.lists.specs.Acts.{count}
+use Rattle.lists.specs.Books.{bookAnswer}
+use Rattle.lists.specs.Table.{above, onItem, fileRefusal, refusalOf}
+
+module _ (capacity : ℕ) (B : List Family) where
+  place-refusal : (n : ℕ) (F : Family) → placeAnswer capacity B n F .refusal ≡ cond (eqb n 0) (cond (tooLarge capacity B F) 5 0) n
+  unfolding placeAnswer
+  place-refusal n F = by-test (eqb n 0) (λ t. rw t (by-test (tooLarge capacity B F) (λ f. rw f) (λ f. rw f))) (λ t. rw t)
+
+  operate-table : (op : Operation) (p q : ℕ) → refusalOf capacity B (Operate op p q)
+      ≡ cond (eqb (operationRefusal (numberOf op) (count B) p q) 0) (cond (tooLarge capacity B (named (numberOf op) B p q)) 5 0) (operationRefusal (numberOf op) (count B) p q)
+  unfolding refusalOf operationRefusal testsOf
+  operate-table op p q =
+      by-test (onItem op)
+      (λ t. rw t (by-test (above B p) (λ a. rw a) (λ a. rw (a, le-ltb (count B + 1) 0 (omega arith)) (by-test (isItem q) (λ i. rw i) (λ i. rw i)))))
+      (λ t. rw t (by-test (above B p) (λ a. rw a) (λ a. rw a (by-test (above B q) (λ b. rw b) (λ b. rw b)))))
+
+  load-table : (file : List ℕ) (scratch : ℕ) → refusalOf capacity B (Load file scratch)
+      ≡ cond (eqb (loadRefusal file scratch) 0) (cond (tooLarge capacity B (loadFamily file)) 5 0) (loadRefusal file scratch)
+  unfolding refusalOf loadRefusal loadFamily
+  load-table file scratch =
+      by-test (ltb scratch (6 * length file)) (λ s. rw s) (λ s. rw s (by-file (familyOf itemLimit file)))
+    where
+      by-file : (o : Option Family) → fileRefusal capacity B o ≡ cond (eqb (noFile o) 0) (cond (tooLarge capacity B (foundFamily o)) 5 0) (noFile o)
+      by-file none = refl
+      by-file (some F) = refl
+
+  pub tabled : (call : Call) → bookAnswer capacity B call .refusal ≡ refusalOf capacity B call
+  unfolding bookAnswer refusalOf sizeAnswer sizeRefusal saveRefusal scratchTests hasAnswer hasRefusal testsOf
+  tabled (Operate op p q) = place-refusal (operationRefusal (numberOf op) (count B) p q) (named (numberOf op) B p q) ∙ sym (operate-table op p q)
+  tabled (Size p scratch) =
+      by-test (above B p) (λ a. rw a)
+      (λ a. rw (a, le-ltb (count B + 1) 0 (omega arith)) (by-test (ltb scratch (count B)) (λ s. rw s) (λ s. rw s (by-test (ltb most (size (at B p))) (λ l. rw l) (λ l. rw l)))))
+  tabled (Has p combination) = by-test (above B p) (λ a. rw a) (λ a. rw (a, le-ltb (count B + 1) 0 (omega arith)))
+  tabled (Save p scratch output) =
+      by-test (above B p) (λ a. rw a)
+      (λ a. rw (a, le-ltb (count B + 1) 0 (omega arith)) (by-test (ltb scratch (count B)) (λ s. rw s) (λ s. rw s (by-test (ltb output (length (fileOf (at B p)))) (λ l. rw l) (λ l. rw l)))))
+  tabled (Load file scratch) = place-refusal (loadRefusal file scratch) (loadFamily file) ∙ sym (load-table file scratch)
+  tabled Audit = refl

@@ -1,0 +1,101 @@
+-- Every list of calls can be run: the statement is `WitnessClaim` of specs/Witness.
+-- What a list has come to is a sound store, on which each call's promise can be kept; the theorem's own step then says
+-- that the answer is the book's.
+use Prim.Native.Nat.{ℕ}
+use mathlib.Core.Path.{_≡_, refl, sym}
+use mathlib.Core.List.{List, [], _∷_, _++_, append-assoc, append-nil}
+use lib.ListN.{length, take, replicate}
+use Rattle.words.proofs.Zeroed.{zeros-length}
+use Rattle.family.specs.Family.{Family}
+use Rattle.family.specs.Combination.{itemsOf}
+use Rattle.family.specs.Book.{start}
+use Rattle.store.specs.Capacity.{capacityOf}
+use Rattle.store.specs.Words.{itemLimit, bookOf}
+use Rattle.store.specs.Cache.{named}
+use Rattle.store.specs.Sound.{Sound}
+use Rattle.store.proofs.Decoding.{sound-holds}
+use Rattle.store_fresh.specs.declared.FreshAnswer.the-variants.{Done}
+use Rattle.store_fresh.specs.Promise.{freshLeaves, freshOf}
+use Rattle.file_load.specs.Promise.{loadFamily}
+use Rattle.lists.specs.Calls.{numberOf, Call, Operate, Size, Has, Save, Load, Audit, Answer}
+use Rattle.lists.specs.Books.{bookAnswer, answersOf, bookOfCalls}
+use Rattle.lists.specs.Runs.{State, Step, operates, sizes, asks, saves, loads, audits, Runs, fresh, next}
+use Rattle.lists.specs.Witness.{WitnessClaim}
+use Rattle.lists.proofs.Limits.{named-within, file-within}
+use Rattle.lists.proofs.Acting.{load-finds}
+use Rattle.lists.proofs.Lending.{lent-true, sound-with}
+use Rattle.lists.proofs.Invariant.{Inv}
+use Rattle.lists.proofs.Steps.{bare, step}
+use Rattle.lists.proofs.Growth.{answers-snoc}
+use Rattle.lists.proofs.Reaching.{reached}
+use Rattle.lists.proofs.Numbers.{operation-refusing, load-refusing}
+use Rattle.lists.proofs.Promising.{place-kept, has-kept, audit-kept, size-kept, save-kept}
+
+-- a step with some answer
+data Steps (x : State) (call : Call) : Type 0 where
+  taken : {answer : Answer} {y : State} → Step x call answer y → Steps x call
+
+module _ {capacity slots : ℕ} {B : List Family} {x : State} (I : Inv capacity slots B x) where
+  -- the store with the part of the cache that is lent
+  lent-sound : (lent : ℕ) → Sound (x .store) (x .nodes) (x .lookup) (take lent (x .cache))
+  lent-sound lent = sound-with (take lent (x .cache)) (I .sound) (lent-true (x .cache) lent (I .sound .cached))
+
+  -- one call, whatever part of the cache it is lent; scratch and output of the lengths that it says are there
+  size-steps : (p : ℕ) (scratch : List ℕ) → Steps x (Size p (length scratch))
+  size-steps p scratch = taken (sizes (size-kept (bare I) p scratch .call))
+
+  save-steps : (p : ℕ) (scratch out : List ℕ) → Steps x (Save p (length scratch) (length out))
+  save-steps p scratch out = taken (saves (save-kept (bare I) p scratch out .call))
+
+  load-steps : ℕ → (file scratch : List ℕ) → Steps x (Load file (length scratch))
+  load-steps lent file scratch =
+      let K = place-kept (loadFamily file) (lent-sound lent) (load-refusing file (length scratch)) (λ e. file-within itemLimit file (loadFamily file) (load-finds file (length scratch) e)) in
+      taken (loads lent {scratch = scratch} {scratch′ = scratch} (record { places = K .call; scratch-misfit = λ d. refl; scratch-short = λ d. refl; scratch-rest = refl; long = refl }))
+
+  steps : ℕ → (call : Call) → Steps x call
+  steps lent (Operate op p q) =
+      let n = x .store .count in
+      let book = sound-holds (I .sound) .book in
+      taken (operates lent (place-kept (named (numberOf op) (bookOf (x .nodes) n) p q) (lent-sound lent)
+      (operation-refusing (numberOf op) n p q) (λ e. named-within (numberOf op) (bookOf (x .nodes) n) book n p q e) .call))
+  steps lent (Size p scratch) = rw (zeros-length scratch) at (size-steps p (replicate scratch 0))
+  steps lent (Has p combination) = taken (asks (has-kept (bare I) p (itemsOf combination) .call))
+  steps lent (Save p scratch output) = rw (zeros-length scratch, zeros-length output) at (save-steps p (replicate scratch 0) (replicate output 0))
+  steps lent (Load file scratch) = rw (zeros-length scratch) at (load-steps lent file (replicate scratch 0))
+  steps lent Audit = taken (audits lent (audit-kept (bare I) (take lent (x .cache))))
+
+  -- its answer is the book's
+  answered : {call : Call} → Steps x call → (y : State) × Step x call (bookAnswer capacity B call) y
+  answered (taken {y = y} s) = (y, rw (step I s .answer-is) at s)
+
+-- the whole cache is lent to each call
+module _ (nodes lookup cache : List ℕ) where
+  follows : {calls : List Call} {answers : List Answer} {x : State} → Runs nodes lookup cache calls answers x
+      → (call : Call) → (y : State) × Step x call (bookAnswer (capacityOf (length nodes)) (bookOfCalls (capacityOf (length nodes)) calls) call) y
+  unfolding bookOfCalls
+  follows {x = x} run call = let I = reached run .inv in answered I (steps I (length (x .cache)) call)
+
+  goes-on : (done more : List Call) {x : State} → Runs nodes lookup cache done (answersOf (capacityOf (length nodes)) done) x
+      → (y : State) × Runs nodes lookup cache (done ++ more) (answersOf (capacityOf (length nodes)) (done ++ more)) y
+  unfolding answersOf bookOfCalls
+  goes-on done [] {x} run = rw (append-nil done) (x, run)
+  goes-on done (call ∷ more) run =
+      let q = follows run call in
+      let onward = goes-on (done ++ (call ∷ [])) more {x = q .0} (rw (answers-snoc (capacityOf (length nodes)) start done call) (next run (q .1))) in
+      rw (append-assoc done (call ∷ []) more) at onward
+
+  begun : freshOf nodes lookup cache .refusal ≡ 0 → (x : State) × Runs nodes lookup cache [] [] x
+  begun e = (_, fresh {r = record { store = freshOf nodes lookup cache .store; answer = Done }} (record { leaves-is = left }) refl)
+    where
+      left : freshLeaves (record { store = freshOf nodes lookup cache .store; answer = Done }) (freshOf nodes lookup cache .nodes) (freshOf nodes lookup cache .lookup) (freshOf nodes lookup cache .cache)
+          ≡ freshOf nodes lookup cache
+      left =
+          let l = freshOf nodes lookup cache in
+          λ i. record { refusal = sym e i; store = l .store; nodes = l .nodes; lookup = l .lookup; cache = l .cache }
+
+  runs : freshOf nodes lookup cache .refusal ≡ 0 → (calls : List Call) → (x : State) × Runs nodes lookup cache calls (answersOf (capacityOf (length nodes)) calls) x
+  unfolding answersOf
+  runs e calls = goes-on [] calls (begun e .1)
+
+pub witness : WitnessClaim
+witness nodes lookup cache = record { follows = follows nodes lookup cache; runs = runs nodes lookup cache }

@@ -1,0 +1,2 @@
+-- What the contracts of `op_items` cite.
+pub mod Inner
