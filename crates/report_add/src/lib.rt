@@ -4,11 +4,11 @@ ghost use Rattle.report_add.specs.Promise.{AddCall};
 ghost use Rattle.report_add.specs.Inner.{InRange, ChangeIt, MakeIt};
 use combination::Combination;
 use op_families::calls::union;
-use store_fresh::base;
 use op_items::calls::change;
 use store::record::PlaceAnswer;
 use store::record::Placed;
 use store::record::Store;
+use store_fresh::base;
 
 // Changes the family placed last by an item, where the combination holds it and nothing was refused before.
 fn change_by(

@@ -3,19 +3,19 @@ ghost use Prim.Native.Nat.{_≤_};
 ghost use lib.ListN.{length};
 ghost use Rattle.report_close.specs.Promise.{CloseCall};
 ghost use Rattle.report_close.specs.Inner.{SizeIt, SizesIt, SumsIt, EndIs};
-use query_size::SizeAnswer;
-use query_size::size;
 use op_families::calls::diff;
 use op_families::calls::intsec;
+use query_size::SizeAnswer;
+use query_size::size;
 use report_line::Stage;
 use report_log::tally::Ending;
 use report_log::tally::Tally;
 use report_log::tally::bumped;
-use store::record::PlaceAnswer;
-use store::record::Store;
 use report_text::put_line;
 use report_text::put_sums;
 use report_text::put_word;
+use store::record::PlaceAnswer;
+use store::record::Store;
 
 // The families of which the sizes are printed.
 pub struct Handles {

@@ -10,7 +10,6 @@ use lib.ListN.{length, getD, take}
 use lib.Seq.{take-suc, take-all}
 use types.Run.{OneOf, miss}
 use denote.Enum.Declared.{tagOf}
-use borrow.Author.Tests.{le-ltb, lt-leb}
 use Rattle.family.specs.Family.{Family}
 use Rattle.family.specs.Operation.{union}
 use Rattle.family.specs.Combination.{itemsOf}
@@ -25,7 +24,8 @@ use Rattle.store_fresh.specs.declared.Freshened.{Freshened}
 use Rattle.store.specs.Capacity.{capacityOf}
 use Rattle.store.specs.Words.{bookOf}
 use Rattle.store.specs.Sound.{Sound}
-use Rattle.store_fresh.specs.Promise.{FreshCall, freshOf}
+use Rattle.store_fresh.specs.Promise.{FreshCall}
+use Rattle.store_fresh.proofs.Freshly.{fresh-done}
 use Rattle.store.proofs.Decoding.{sound-holds}
 use Rattle.store.proofs.Sounds.{fresh-sound}
 use Rattle.report_line.specs.declared.Side.{Side}
@@ -45,17 +45,6 @@ use Rattle.report_log.specs.Inner.{TallyIs, ReadOnIs, sideHandle, passed
 use Rattle.report_add.proofs.Makings.{gives, refused-full, next-grown, made-grown}
 
 -- opening
-freshly : (nodes lookup cache : List ℕ) → 3 ≤ length nodes → capacityOf (length nodes) + 1 ≤ length lookup
-    → freshOf nodes lookup cache ≡ record {
-      refusal = 0;
-      store = record { capacity = capacityOf (length nodes); count = 0 };
-      nodes = zeroed 0 (3 * capacityOf (length nodes)) nodes;
-      lookup = zeroed 0 (length lookup) lookup;
-      cache = zeroed 0 (length cache / 4 * 4) cache;
-    }
-unfolding freshOf
-freshly nodes lookup cache l h = rw (le-ltb (length nodes) 3 l, lt-leb (length lookup) (capacityOf (length nodes)) (omega arith))
-
 pub opened : {nodes lookup cache : List ℕ} {f : Freshened} {nodes′ lookup′ cache′ : List ℕ} → FreshCall nodes lookup cache f nodes′ lookup′ cache′ → {s : Store} {p q n : ℕ} {e : Ending} {t : Tally}
     → f .store ≡ s → p ≡ 0 → q ≡ 0 → n ≡ 0 → e ≡ Going → TallyIs s p q n e t → OpenCall nodes lookup t nodes′ lookup′ cache′
 unfolding bookOf
@@ -63,7 +52,7 @@ opened {nodes} {lookup} {cache} {f} {nodes′} {lookup′} {cache′} C {s} {p} 
   where
     go : 3 ≤ length nodes → capacityOf (length nodes) + 1 ≤ length lookup → Keeps (capacityOf (length nodes)) t nodes′ lookup′ cache′ opening
     go l h =
-        let L = C .leaves-is ∙ freshly nodes lookup cache l h in
+        let L = C .leaves-is ∙ sym (fresh-done nodes lookup cache (record { capacity = capacityOf (length nodes); count = 0 }) l _ _ _ refl refl (omega arith) refl refl refl .leaves-is) in
         let x : t .store ≡ record { capacity = capacityOf (length nodes); count = 0 } = T .store-is ∙ sym es ∙ ap (λ y. y .store) L in
         let en : nodes′ ≡ zeroed 0 (3 * capacityOf (length nodes)) nodes = ap (λ y. y .nodes) L in
         let el : lookup′ ≡ zeroed 0 (length lookup) lookup = ap (λ y. y .lookup) L in

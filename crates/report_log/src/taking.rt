@@ -3,13 +3,13 @@ ghost use mathlib.Core.Path.{_≡_};
 ghost use mathlib.Core.List.{[], _∷_};
 ghost use Rattle.report_log.specs.Promise.{TakeCall};
 ghost use Rattle.report_log.specs.Inner.{sideHandle, LineEnd};
-use report_add::add;
-use report_line::Side;
-use report_line::Stage;
 use crate::tally::Ending;
 use crate::tally::Tally;
 use crate::tally::bumped;
 use crate::tally::tally_of;
+use report_add::add;
+use report_line::Side;
+use report_line::Stage;
 use store::record::PlaceAnswer;
 use store::record::Placed;
 

@@ -4,10 +4,10 @@ ghost use Prim.Native.Nat.{suc};
 ghost use Rattle.report_log.specs.Log.{capped};
 ghost use Rattle.report_log.specs.Promise.{OpenCall};
 ghost use Rattle.report_log.specs.Inner.{TallyIs, ReadOnIs};
-use store_fresh::empty;
-use store_fresh::fresh;
 use report_line::Reading;
 use store::record::Store;
+use store_fresh::empty;
+use store_fresh::fresh;
 
 // Whether a log goes on, or ended with a line that was refused or found the store full.
 pub enum Ending {

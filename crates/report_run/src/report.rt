@@ -4,12 +4,16 @@ ghost use Rattle.report_run.specs.Inner.{Reported, HasReport, IsReport};
 use crate::feeding::Input;
 use crate::feeding::read_all;
 use libc::STDOUT_FILENO;
-use report_log::tally::open_log;
 use report_close::close;
+use report_log::tally::open_log;
 
-// The words that the program lends: 500 nodes, the lookup and the cache.
+// Three words for each of 500 nodes.
 const NODE_WORDS: usize = 1500;
+
+// The words of the lookup.
 const LOOKUP_WORDS: usize = 1001;
+
+// The words of the cache.
 const CACHE_WORDS: usize = 1024;
 
 // How the input ended, and how many bytes the report has: none where a read failed.
