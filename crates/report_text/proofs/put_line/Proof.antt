@@ -29,10 +29,7 @@ put-word-requires-2 c κs =
     omega (arith, a .pre .room, a .pre .short, w .ensures .end, w .kept .0, d .ensures .end, d .kept .0, short-64 (a .args .n) (a .fits .n .fits))
 
 returns : tie.Need-returns
-returns c =
-    let at-spell : tie.After-spell = search in
-    let at-put-word : tie.After-put-word = search in
-    wrote-then (at-put-word .put-word .ensures) (wrote-then (at-spell .spell .ensures) ((c .before .before) .put-word2 .ensures))
+returns c = search wrote-then
 
 pub put-line-spec : {M : Type 1} → statement M
 put-line-spec =

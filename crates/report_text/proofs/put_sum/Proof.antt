@@ -24,10 +24,7 @@ put-byte-requires c κs =
     omega (arith, at-start .pre, at-put-word .put-word .ensures .end, at-put-word .put-word .kept .0, (c .before .before .before) .spell .ensures .end, (c .before .before .before) .spell .kept .0, short-64 (at-start .args .n) (at-start .fits .n .fits))
 
 returns : tie.Need-returns
-returns c =
-    let at-spell : tie.After-spell = search in
-    let at-put-word : tie.After-put-word = search in
-    wrote-then (at-put-word .put-word .ensures) (wrote-then (at-spell .spell .ensures) ((c .before .before) .put-byte .ensures))
+returns c = search wrote-then
 
 pub put-sum-spec : {M : Type 1} → statement M
 put-sum-spec =

@@ -27,7 +27,7 @@ returns c =
     progress-is (c .spoiled .ensures) (opened-low _ _ (at-start .args .b) (omega (arith, (c .before) .if1 .taken)))
 
 returns-2 : tie.Need-returns-2
-returns-2 c = progress-is (c .spoiled2 .ensures) (opened-high _ _ _ ((c .before) .if2 .taken))
+returns-2 c = search (progress-is, opened-high)
 
 returns-3 : tie.Need-returns-3
 returns-3 c =

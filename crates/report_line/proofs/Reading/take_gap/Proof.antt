@@ -15,13 +15,13 @@ spoiled-requires : tie.Need-spoiled-requires
 spoiled-requires c κs = search needs
 
 returns : tie.Need-returns
-returns c = progress-is (staged-state (c .at-stage .ensures)) (gap-space _ _ _ ((c .before) .if1 .taken))
+returns c = search (progress-is, gap-space, staged-state)
 
 returns-2 : tie.Need-returns-2
-returns-2 c = progress-is (staged-state (c .at-stage2 .ensures)) (gap-newline _ _ _ ((c .before .before) .if1 .left) ((c .before) .if2 .taken))
+returns-2 c = search (progress-is, gap-newline, staged-state)
 
 returns-3 : tie.Need-returns-3
-returns-3 c = progress-is (c .spoiled .ensures) (gap-other _ _ _ ((c .before .before) .if1 .left) ((c .before) .if2 .left))
+returns-3 c = search (gap-other, progress-is)
 
 pub take-gap-spec : {M : Type 1} → statement M
 take-gap-spec =
