@@ -1,7 +1,6 @@
 -- The tally behind a line: the store was full and nothing else changes, or the handle of the line's family is the new
 -- one. The laws of `Logs` have one case for each way out.
 use borrow.Author.Needs.{needs}
-use Rattle.report_line.specs.declared.Side.the-variants.{Passed, Returned}
 use Rattle.report_log.proofs.Logs.{end-full, end-more, end-at}
 use Rattle.report_log.proofs.taking.line_end.Statement.{statement}
 use Rattle.report_log.proofs.taking.line_end.Tie as tie
@@ -34,18 +33,10 @@ tally-of-requires-3 : tie.Need-tally-of-requires-3
 tally-of-requires-3 c κs = search needs
 
 returns-2 : tie.Need-returns-2
-returns-2 c =
-    let at-told : tie.After-enum-told2 = search in
-    let at-bumped : tie.After-bumped = search in
-    let at-answer : tie.After-answer = search in
-    end-at (at-told .enum-told2 .given .1) (end-more Passed (at-answer .answer .given .1) (at-bumped .bumped .ensures) (c .tally-of2 .ensures))
+returns-2 c = search (end-at, end-more)
 
 returns-3 : tie.Need-returns-3
-returns-3 c =
-    let at-told : tie.After-enum-told3 = search in
-    let at-bumped : tie.After-bumped = search in
-    let at-answer : tie.After-answer = search in
-    end-at (at-told .enum-told3 .given .1) (end-more Returned (at-answer .answer .given .1) (at-bumped .bumped .ensures) (c .tally-of3 .ensures))
+returns-3 c = search (end-at, end-more)
 
 pub line-end-spec : {M : Type 1} → statement M
 line-end-spec =

@@ -10,7 +10,7 @@ enum-told : tie.Need-enum-told
 enum-told c = search needs
 
 returns : tie.Need-returns
-returns c = byte-ended (c .match .keys2)
+returns c = search byte-ended
 
 take-requires : tie.Need-take-requires
 take-requires c κs = search needs

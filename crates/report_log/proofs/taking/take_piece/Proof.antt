@@ -2,7 +2,6 @@
 -- Before each turn the bytes up to i are taken.
 use borrow.Author.Needs.{needs}
 use Prim.Native.Nat.{_-_}
-use mathlib.Core.Path.{refl}
 use lib.ListN.{length}
 use native.Mathlib.Omega.{arith}
 use Rattle.report_log.proofs.Logs.{Taking, taking-start, taking-again, taking-end}
@@ -16,7 +15,7 @@ abbrev μ-loop : tie.MeasureT-loop
 μ-loop nodes₀ lookup₀ cache₀ piece taken₀ i₀ nodes lookup cache taken i = length piece - i
 
 loop-holds : tie.Need-loop-holds Inv-loop μ-loop
-loop-holds c = taking-start _ _ _ _ _ _ refl
+loop-holds c = search taking-start
 
 shared-slice-read-take-byte : tie.Need-shared-slice-read-take-byte Inv-loop μ-loop
 shared-slice-read-take-byte c = search needs
