@@ -36,7 +36,7 @@ use Rattle.family.specs.Combination.{itemsOf}
 use Rattle.report_line.specs.declared.Side.{Side}
 use Rattle.report_line.specs.declared.Stage.{Stage}
 use Rattle.report_line.proofs.Stage.{the-type as the-stage}
-use Rattle.report_close.specs.declared.Handles.{Handles}
+use Rattle.report_close.specs.declared.FourHandles.{FourHandles}
 use Rattle.report_log.specs.declared.tally.Ending.{Ending}
 use Rattle.report_log.specs.declared.tally.Ending.the-variants.{Going}
 use Rattle.report_log.proofs.tally.Ending.{the-type as the-ending}
@@ -91,7 +91,7 @@ module _ {s : Store} {nodes lookup : List ℕ} {p : ℕ} {sizes : List ℕ} {m :
   size-brimmed x e = record { is = λ S l w. brimmed S l w x e }
 
 -- four sizes, written; the scratch keeps its length
-pub sizes-written : {s : Store} {nodes lookup : List ℕ} {h : Handles} {words words₁ words₂ words₃ a b c d : ℕ} {out : List ℕ} {r : ℕ} {out′ : List ℕ}
+pub sizes-written : {s : Store} {nodes lookup : List ℕ} {h : FourHandles} {words words₁ words₂ words₃ a b c d : ℕ} {out : List ℕ} {r : ℕ} {out′ : List ℕ}
     → SizeIt s nodes lookup (h .passed) words a → words₁ ≡ words → SizeIt s nodes lookup (h .returned) words₁ b → words₂ ≡ words₁ → SizeIt s nodes lookup (h .both) words₂ c → words₃ ≡ words₂
     → SizeIt s nodes lookup (h .only) words₃ d → Wrote out 0 (sumsText a b c d) r out′ → SizesIt s nodes lookup h words r out′
 sizes-written A e₁ B e₂ C e₃ D W =

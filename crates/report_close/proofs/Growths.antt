@@ -22,7 +22,7 @@ use Rattle.report_log.specs.declared.tally.Ending.{Ending}
 use Rattle.report_log.specs.declared.tally.Ending.the-variants.{Going, Refused, Full}
 use Rattle.report_line.specs.Line.{Progress, blank, letter, space, numeral, whole, malformed, gap, isDigit, closed, advance, LineState, begin, nextByte, lineOf}
 use Rattle.report_add.specs.Promise.{Added, added}
-use Rattle.report_log.specs.Log.{ofSide, putSide, withSide, takeLine, Log, opening, counted, readOn, whileGoing, logByte, feed, capped}
+use Rattle.report_log.specs.Log.{ofSide, putSide, lotAfter, takeLine, Log, opening, counted, readOn, whileGoing, logByte, feed, capped}
 use Rattle.report_log.proofs.Logs.{side-full, side-more}
 use Rattle.report_close.proofs.Meanings.{added-single, union-size, intsec-size, diff-size}
 
@@ -105,7 +105,7 @@ pub record Sane (g : Log) : Type 0 where
   pub returned : Few (g .lines) (g .lot .returned)
 
 module _ (capacity : ℕ) (g : Log) (h : Sane g) where
-  sane-side : (d : Side) (a : Added) → (a .full ≡ false → Few (suc (g .lines)) (a .family)) → Sane (counted g (withSide d (g .lot) a))
+  sane-side : (d : Side) (a : Added) → (a .full ≡ false → Few (suc (g .lines)) (a .family)) → Sane (counted g (lotAfter d (g .lot) a))
   sane-side d a f =
       by-test (a .full)
       (λ t. subst Sane (side-full g a d t) (record { line = of-blank; passed = h .passed; returned = h .returned }))

@@ -18,7 +18,7 @@ use store::record::PlaceAnswer;
 use store::record::Store;
 
 // The families of which the sizes are printed.
-pub struct Handles {
+pub struct FourHandles {
     pub passed: u32,
     pub returned: u32,
     pub both: u32,
@@ -42,7 +42,7 @@ fn put_sizes(
     store: Store,
     nodes: &[u32],
     lookup: &[u32],
-    handles: Handles,
+    handles: FourHandles,
     sizes: &mut [u64],
     out: &mut [u8],
 ) -> usize
@@ -80,7 +80,7 @@ fn close_sums(
     let PlaceAnswer::Handle(only) = second_answer else {
         return put_word(out, 0, b"report full\n");
     };
-    let handles = Handles {
+    let handles = FourHandles {
         passed: passed,
         returned: returned,
         both: both,

@@ -39,7 +39,7 @@ use Rattle.report_log.specs.declared.tally.Tally.{Tally}
 use Rattle.report_log.proofs.tally.Ending.{the-type as the-ending}
 use Rattle.report_line.specs.Line.{LineState, begin, nextByte, progressOf, stateOf}
 use Rattle.report_add.specs.Promise.{Added, lineMade, added, After, AddCall}
-use Rattle.report_log.specs.Log.{ofSide, putSide, withSide, Log, opening, counted, readOn, whileGoing, logByte, feed, capped}
+use Rattle.report_log.specs.Log.{ofSide, putSide, lotAfter, Log, opening, counted, readOn, whileGoing, logByte, feed, capped}
 use Rattle.report_log.specs.Promise.{Keeps, OpenCall, TakeCall}
 use Rattle.report_log.specs.Inner.{TallyIs, ReadOnIs, sideHandle, passedWith, returnedWith, LineEnd, LineIt}
 use Rattle.report_add.proofs.Makings.{gives, refused-full, next-grown, made-grown}
@@ -165,11 +165,11 @@ module _ {capacity : ℕ} {t : Tally} {nodes lookup cache : List ℕ} {g : Log} 
 -- what is counted, by whether the store was full
 module _ (g : Log) (a : Added) where
   pub side-full : (d : Side) → a .full ≡ true
-      → record { lot = record { book = a .book; passed = g .lot .passed; returned = g .lot .returned }; lines = g .lines; line = begin; ending = Full } ≡ counted g (withSide d (g .lot) a)
+      → record { lot = record { book = a .book; passed = g .lot .passed; returned = g .lot .returned }; lines = g .lines; line = begin; ending = Full } ≡ counted g (lotAfter d (g .lot) a)
   side-full Passed e = rw e
   side-full Returned e = rw e
 
-  pub side-more : (d : Side) → a .full ≡ false → record { lot = putSide d (g .lot) (a .book) (a .family); lines = suc (g .lines); line = begin; ending = Going } ≡ counted g (withSide d (g .lot) a)
+  pub side-more : (d : Side) → a .full ≡ false → record { lot = putSide d (g .lot) (a .book) (a .family); lines = suc (g .lines); line = begin; ending = Going } ≡ counted g (lotAfter d (g .lot) a)
   side-more d e = rw e
 
 -- the tally behind a line of a side, by what adding it gave

@@ -34,12 +34,12 @@ abbrev pub putSide : Side → Lot → List Family → Family → Lot
 putSide Passed l B F = record { book = B; passed = F; returned = l .returned }
 putSide Returned l B F = record { book = B; passed = l .passed; returned = F }
 
--- the lot by what adding a line of a side left; a full store leaves the families
-abbrev pub withSide : Side → Lot → Added → LineTaken
-withSide d l a = record { full = a .full; lot = putSide d l (a .book) (cond (a .full) (ofSide d l) (a .family)) }
+-- the lot behind a line of a side, by what adding it left; a full store leaves the families
+abbrev pub lotAfter : Side → Lot → Added → LineTaken
+lotAfter d l a = record { full = a .full; lot = putSide d l (a .book) (cond (a .full) (ofSide d l) (a .family)) }
 
 abbrev pub takeLine : ℕ → Lot → Side → List ℕ → LineTaken
-takeLine capacity l d c = withSide d l (added capacity (l .book) (ofSide d l) c)
+takeLine capacity l d c = lotAfter d l (added capacity (l .book) (ofSide d l) c)
 
 -- A log: the lot, the number of lines taken, the line begun, and whether it goes on.
 pub record Log : Type 0 where
