@@ -31,7 +31,7 @@ use Rattle.store.proofs.Fitting.{store-is}
 use Rattle.store.proofs.Held.{handle-of}
 use Rattle.store.proofs.Decoding.{sound-holds}
 use Rattle.store.proofs.Encoding.{looked-up, laid-out}
-use Rattle.store.proofs.Sounds.{holds-sound, zeroed-true}
+use Rattle.store.proofs.Sounds.{holds-sound, zeroed-true, sound-with}
 use Rattle.store.proofs.Answers.{handed-of, by-answer}
 use Rattle.store_undo.proofs.Undoing.{undone-nodes, undone-lookup}
 use Rattle.store.proofs.Calls.{fits-roomy, not-large, left-is, large}
@@ -149,16 +149,7 @@ module _ (s : Store) (nodes lookup cache : List ℕ) where
 
         full-sound : Sound (r .store) nodes₂ lookup₂ cache₂
         full-sound =
-            rw (as-came, same-nodes, same-lookup, zero-cache) record {
-              capacity-is = S .capacity-is;
-              longer = S .longer;
-              within = S .within;
-              each = S .each;
-              apart = S .apart;
-              blank = S .blank;
-              lookup-is = S .lookup-is;
-              cached = zeroed-true (bookOf nodes (s .count)) cache;
-            }
+            rw (as-came, same-nodes, same-lookup, zero-cache) (sound-with (zeroed 0 (length cache / 4 * 4) cache) S (zeroed-true (bookOf nodes (s .count)) cache))
 
       full-call : PlaceCall 0 (F (bookOf nodes (s .count))) s nodes lookup cache r nodes₂ lookup₂ cache₂
       unfolding cacheRefused
