@@ -24,7 +24,7 @@ use Rattle.store.specs.Sound.{Sound}
 use Rattle.store.specs.Scratch.{scratchTests}
 use Rattle.store.specs.Placing.{tooLarge}
 use Rattle.store.proofs.Decoding.{sound-holds}
-use Rattle.store.proofs.Sounds.{holds-sound}
+use Rattle.store.proofs.Sounds.{bare}
 use Rattle.store.proofs.Calls.{refusal-some}
 use Rattle.store.proofs.Tested.{tests-passed}
 use Rattle.op_promise.specs.Promise.{OperationCall}
@@ -52,10 +52,6 @@ use Rattle.report_close.specs.Inner.{SizeIt, SizesIt, SumsIt, endText, E
 use Rattle.report_add.proofs.Placings.{combine-after}
 use Rattle.report_add.proofs.Makings.{gives, refused-full, placed-grown}
 use Rattle.report_log.proofs.Logs.{Stays, stays}
-
--- a sound store is sound with no cache lent
-bare : {s : Store} {nodes lookup cache : List ℕ} → Sound s nodes lookup cache → Sound s nodes lookup []
-bare {s} S = holds-sound s (sound-holds S) (S .capacity-is) (S .longer) (S .within) (S .blank) (record { each = λ g op p q h G. absurd (omega (arith, G .within)) })
 
 -- the size of a handle that is held
 module _ (B : List Family) (p words : ℕ) (passed : scratchTests B p words ≡ 0) where

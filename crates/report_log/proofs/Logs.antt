@@ -25,7 +25,7 @@ use Rattle.store.specs.Capacity.{capacityOf}
 use Rattle.store.specs.Words.{bookOf}
 use Rattle.store.specs.Sound.{Sound}
 use Rattle.store_fresh.specs.Promise.{FreshCall}
-use Rattle.store_fresh.proofs.Freshly.{fresh-done}
+use Rattle.store_fresh.proofs.Freshly.{fresh-is}
 use Rattle.store.proofs.Decoding.{sound-holds}
 use Rattle.store.proofs.Sounds.{fresh-sound}
 use Rattle.report_line.specs.declared.Side.{Side}
@@ -52,7 +52,7 @@ opened {nodes} {lookup} {cache} {f} {nodes′} {lookup′} {cache′} C {s} {p} 
   where
     go : 3 ≤ length nodes → capacityOf (length nodes) + 1 ≤ length lookup → Keeps (capacityOf (length nodes)) t nodes′ lookup′ cache′ opening
     go l h =
-        let L = C .leaves-is ∙ sym (fresh-done nodes lookup cache (record { capacity = capacityOf (length nodes); count = 0 }) l _ _ _ refl refl (omega arith) refl refl refl .leaves-is) in
+        let L = C .leaves-is ∙ fresh-is nodes lookup cache l (omega arith) in
         let x : t .store ≡ record { capacity = capacityOf (length nodes); count = 0 } = T .store-is ∙ sym es ∙ ap (λ y. y .store) L in
         let en : nodes′ ≡ zeroed 0 (3 * capacityOf (length nodes)) nodes = ap (λ y. y .nodes) L in
         let el : lookup′ ≡ zeroed 0 (length lookup) lookup = ap (λ y. y .lookup) L in
