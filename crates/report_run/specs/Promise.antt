@@ -36,13 +36,14 @@ pub record ReadAllCall (t : Tally) (nodes lookup cache : List ℕ) (r : Fed) (no
   pub answers : List ReadAnswer
   pub reads : Reads t nodes lookup cache answers r nodes′ lookup′ cache′
 
--- "`gatecount` (500 nodes, ..)": how the input stands is what the reads say, and where it is done the output has the
--- report on all that they brought, on a store of 500 nodes.
+-- "`gatecount` (500 nodes, ..)": how the input stands is what the reads say; where it is done the output has the
+-- report on all that they brought, on a store of 500 nodes, and else there is none.
 pub record ReportOf (r : Report) (out′ : List ℕ) : Type 0 where
   pub answers : List ReadAnswer
   pub heard : Heard 500 answers (r .input)
   pub inside : r .bytes ≤ length out′
   pub text-is : r .input ≡ Done → take (r .bytes) out′ ≡ reportOf 500 (inputOf answers)
+  pub no-text : (r .input ≡ Done → ⊥) → r .bytes ≡ 0
 
 -- `report_on`: nothing counts as written where a read failed; where the input is done, whether the report was written
 -- is the answer of the system's write.
