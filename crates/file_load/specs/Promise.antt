@@ -23,6 +23,7 @@ noFile (some F) = 0
 unfoldable pub loadRefusal : List ℕ → ℕ → ℕ
 loadRefusal file words = cond (ltb words (6 * length file)) 7 (noFile (familyOf itemLimit file))
 
+-- the family, {} where there is none
 abbrev pub foundFamily : Option Family → Family
 foundFamily none = empty
 foundFamily (some F) = F

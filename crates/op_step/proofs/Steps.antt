@@ -17,7 +17,7 @@ use Rattle.store.specs.declared.record.Placed.{Placed}
 use Rattle.store.specs.Words.{itemLimit}
 use Rattle.store.specs.Cache.{named, Truth, True}
 use Rattle.store_node.specs.Inner.{NodeIt}
-use Rattle.store.specs.Inner.{Holds, Handed, Answer, Kept, Ran, Roomy}
+use Rattle.store.specs.Inner.{Holds, Handed, Outcome, Kept, Ran, Roomy}
 use Rattle.store.proofs.Held.{inside}
 use Rattle.store.proofs.Growing.{kept-trans, kept-roomy}
 use Rattle.store.proofs.Answers.{not-both, handed-of, refused-on, by-answer}
@@ -84,7 +84,7 @@ module _ (call below above : Call) (level : ℕ) (s : Store) (nodes lookup cache
       same : of above (place B (of below B)) ≡ of above B
       same = of-grown above (K .other) H (place-grown B (of below B))
 
-      second : Answer (place (place B (of below B)) (of above B)) (of above B) (s .capacity) (m₂ .store .count) nodes₂ lookup₂ (m₂ .answer)
+      second : Outcome (place (place B (of below B)) (of above B)) (of above B) (s .capacity) (m₂ .store .count) nodes₂ lookup₂ (m₂ .answer)
       second = rw (same, R .kept .same-capacity) at (S .sound (place B (of below B)) (given .holds) (R .cached B H t z ez))
 
       second-cache : (o : ℕ) → m₂ .answer ≡ Handle o → True (place (place B (of below B)) (of above B)) cache₂
@@ -118,7 +118,7 @@ module _ (call below above : Call) (level : ℕ) (s : Store) (nodes lookup cache
     -- both given: the node
     module _ (o : ℕ) (eo : m₂ .answer ≡ Handle o) {r : Placed} {nodes₃ lookup₃ cache₃ : List ℕ} (N : NodeIt (m₂ .store) nodes₂ lookup₂ level z o r nodes₃ lookup₃)
         (M : RememberedAnswer cache₂ call (r .answer) cache₃) where
-      third : {B : List Family} → Holds B (s .count) nodes lookup → True B cache → Answer (place B (of call B)) (of call B) (s .capacity) (r .store .count) nodes₃ lookup₃ (r .answer)
+      third : {B : List Family} → Holds B (s .count) nodes lookup → True B cache → Outcome (place B (of call B)) (of call B) (s .capacity) (r .store .count) nodes₃ lookup₃ (r .answer)
       third {B} H t =
           let G = handed-of eo (second H t) in
           let ea : at (place (place B (of below B)) (of above B)) z ≡ of below B = still H t in

@@ -1,6 +1,6 @@
 // A node found in the unique table, or added to it.
 ghost use Prim.Native.Nat.{_+_, _*_, _<_};
-ghost use Rattle.store_node.specs.Inner.{EnterAsks, EnteredIt, NodeAsks, MadeIt};
+ghost use Rattle.store_node.specs.Inner.{SlotAsks, EnteredIt, NodeAsks, MadeIt};
 use store::record::Store;
 use table::probe::probe;
 
@@ -27,7 +27,7 @@ fn enter(
     zero: u32,
     one: u32,
 )
-    requires { ⌜ EnterAsks (now nodes) (now lookup) count slot ⌝ }
+    requires { ⌜ SlotAsks (now nodes) (now lookup) count slot ⌝ }
     ensures { λ _. ⌜ EnteredIt (now (nodes .entry)) (now (lookup .entry)) count slot item zero one (now (nodes .exit)) (now (lookup .exit)) ⌝ }
 {
     let base = 3 * count as usize;

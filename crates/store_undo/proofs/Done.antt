@@ -26,7 +26,7 @@ use Rattle.store.specs.Sound.{Sound}
 use Rattle.store.specs.Placing.{tooLarge, placeAnswer, placeBook}
 use Rattle.store.specs.Promise.{leaves, placing, cacheRefused, PlaceCall}
 use Rattle.store_undo.specs.Inner.{RolledBack, Finished}
-use Rattle.store.specs.Inner.{Roomy, Holds, Handed, Answer, gave, full, Kept, Ran}
+use Rattle.store.specs.Inner.{Roomy, Holds, Handed, Outcome, gave, full, Kept, Ran}
 use Rattle.store.proofs.Fitting.{store-is}
 use Rattle.store.proofs.Held.{handle-of}
 use Rattle.store.proofs.Decoding.{sound-holds}
@@ -127,7 +127,7 @@ module _ (s : Store) (nodes lookup cache : List ℕ) where
         over = out (m .answer) ex (R .sound (bookOf nodes (s .count)) (sound-holds S) (S .cached))
           where
             out : (a : PlaceAnswer) → a ≡ Refused x
-                → Answer (place (bookOf nodes (s .count)) (F (bookOf nodes (s .count)))) (F (bookOf nodes (s .count))) (s .capacity) (m .store .count) nodes₁ lookup₁ a → Over
+                → Outcome (place (bookOf nodes (s .count)) (F (bookOf nodes (s .count)))) (F (bookOf nodes (s .count))) (s .capacity) (m .store .count) nodes₁ lookup₁ a → Over
             out a q (gave G) = absurd (let z : _≡_ {A = ℕ} 0 1 = cc in omega arith)
             out a q (full D H l) = record { is = cc; D = D; holds = H; big = l }
 
