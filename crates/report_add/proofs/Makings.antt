@@ -27,15 +27,15 @@ use Rattle.store.specs.Placing.{tooLarge}
 use Rattle.store.proofs.Decoding.{sound-holds}
 use Rattle.store.proofs.Calls.{refusal-some}
 use Rattle.op_promise.specs.Promise.{OperationCall}
-use Rattle.report_add.specs.Promise.{Added, placed, next, made, answerOf, After, AddCall}
-use Rattle.report_add.specs.Inner.{changedBy, ChangeIt, MakeIt}
+use Rattle.report_add.specs.Promise.{Added, called, nextCall, lineMade, lastAnswer, After, AddCall}
+use Rattle.report_add.specs.Inner.{InRange, changedBy, ChangeIt, MakeIt}
 use Rattle.report_add.proofs.Placings.{handle-inside, change-after, combine-after}
 
 -- what an answer says of the calls
-full-answer : (a : Added) → a .full ≡ true → answerOf a ≡ record { refusal = 5; handle = 0 }
+full-answer : (a : Added) → a .full ≡ true → lastAnswer a ≡ record { refusal = 5; handle = 0 }
 full-answer a e = rw e
 
-going-answer : (a : Added) → a .full ≡ false → answerOf a ≡ record { refusal = 0; handle = number (a .book) (a .family) }
+going-answer : (a : Added) → a .full ≡ false → lastAnswer a ≡ record { refusal = 0; handle = number (a .book) (a .family) }
 going-answer a e = rw e
 
 pub record Gives (n : ℕ) (B : List Family) (a : Added) (h : ℕ) : Type 0 where
@@ -61,10 +61,10 @@ module _ {capacity : ℕ} {m : Placed} {nodes lookup cache : List ℕ} {a : Adde
       by-test (a .full) (λ t. t)
       (λ t. absurd (refusal-some x (ap (λ y. givenBy y .refusal) (sym e) ∙ ap (λ g. g .refusal) (A .answer-is ∙ going-answer a t))))
 
-next-full : (capacity : ℕ) (f : Family → Family) (a : Added) → a .full ≡ true → next capacity f a ≡ a
+next-full : (capacity : ℕ) (f : Family → Family) (a : Added) → a .full ≡ true → nextCall capacity f a ≡ a
 next-full capacity f a e = rw e
 
-next-going : (capacity : ℕ) (f : Family → Family) (a : Added) → a .full ≡ false → next capacity f a ≡ placed capacity (a .book) (f (a .family))
+next-going : (capacity : ℕ) (f : Family → Family) (a : Added) → a .full ≡ false → nextCall capacity f a ≡ called capacity (a .book) (f (a .family))
 next-going capacity f a e = rw e
 
 -- one turn of the loop
@@ -76,14 +76,14 @@ module _ (m : Placed) (nodes lookup cache : List ℕ) (c : List ℕ) (v : ℕ) w
   turn-refused x e =
       record { after = λ capacity a A. by-test (holds v c) (λ t. rw (t, next-full capacity (change v) a (refused-full A x e)) A) (λ t. rw t A) }
 
-  pub turn-changed : {t : Bool} {h : ℕ} {r : Placed} {nodes′ lookup′ cache′ : List ℕ} → t ≡ holds v c → not t ≡ false → 1 ≤ v → v ≤ 512 → m .answer ≡ Handle h
+  pub turn-changed : {t : Bool} {h : ℕ} {r : Placed} {nodes′ lookup′ cache′ : List ℕ} → t ≡ holds v c → not t ≡ false → InRange v → m .answer ≡ Handle h
       → OperationCall 3 h v (m .store) nodes lookup cache r nodes′ lookup′ cache′ → ChangeIt m nodes lookup cache c v r nodes′ lookup′ cache′
-  turn-changed {h = h} {r = r} {nodes′} {lookup′} {cache′} e d n l eh P = record { after = go }
+  turn-changed {h = h} {r = r} {nodes′} {lookup′} {cache′} e d i eh P = record { after = go }
     where
       go : (capacity : ℕ) (a : Added) → After capacity m nodes lookup cache a → After capacity r nodes′ lookup′ cache′ (changedBy capacity c v a)
       go capacity a A =
           let G = gives A h eh in
-          let Q = change-after (A .sound) h (G .inside) v n l P in
+          let Q = change-after (A .sound) h (G .inside) v (i .low) (i .high) P in
           rw (sym e ∙ not-false _ d, next-going capacity (change v) a (G .going), ← A .capacity-is, ← A .book-is, ← G .means) Q
 
 -- the loop over the items: before each turn, the combination of the smaller items is made
@@ -93,7 +93,7 @@ pub record Making (m₀ : Placed) (nodes₀ lookup₀ cache₀ w nodes lookup ca
   pub long : length nodes ≡ length nodes₀
   pub long-lookup : length lookup ≡ length lookup₀
   pub long-cache : length cache ≡ length cache₀
-  pub after : Sound (m₀ .store) nodes₀ lookup₀ cache₀ → After (m₀ .store .capacity) m nodes lookup cache (made (m₀ .store .capacity) (bookOf nodes₀ (m₀ .store .count)) (itemsTo (item - 1) w))
+  pub after : Sound (m₀ .store) nodes₀ lookup₀ cache₀ → After (m₀ .store .capacity) m nodes lookup cache (lineMade (m₀ .store .capacity) (bookOf nodes₀ (m₀ .store .count)) (itemsTo (item - 1) w))
 
 pub making-start : (m : Placed) (nodes lookup cache w : List ℕ) (h item : ℕ) → m .answer ≡ Handle h → h ≡ 1 → item ≡ 1 → Making m nodes lookup cache w nodes lookup cache m item
 making-start m nodes lookup cache w h item e one ei =
@@ -113,7 +113,7 @@ making-start m nodes lookup cache w h item e one ei =
       };
     }
 
-made-step : (capacity : ℕ) (B : List Family) (w : List ℕ) (n : ℕ) → n < 512 → made capacity B (itemsTo (suc n) w) ≡ changedBy capacity (itemsOf w) (suc n) (made capacity B (itemsTo n w))
+made-step : (capacity : ℕ) (B : List Family) (w : List ℕ) (n : ℕ) → n < 512 → lineMade capacity B (itemsTo (suc n) w) ≡ changedBy capacity (itemsOf w) (suc n) (lineMade capacity B (itemsTo n w))
 made-step capacity B w n l = rw (holds-items n w l) (by-test (bitAt w n) (λ e. rw e) (λ e. rw e))
 
 items-all : (w : List ℕ) (n : ℕ) → n ≡ 512 → itemsTo n w ≡ itemsOf w
@@ -133,31 +133,31 @@ module _ {m₀ : Placed} {nodes₀ lookup₀ cache₀ w nodes lookup cache : Lis
         long-lookup = b ∙ I .long-lookup;
         long-cache = d ∙ I .long-cache;
         after = λ S. rw (up, made-step (m₀ .store .capacity) (bookOf nodes₀ (m₀ .store .count)) w (item - 1) (omega (arith, I .low)), one)
-            (C .after (m₀ .store .capacity) (made (m₀ .store .capacity) (bookOf nodes₀ (m₀ .store .count)) (itemsTo (item - 1) w)) (I .after S));
+            (C .after (m₀ .store .capacity) (lineMade (m₀ .store .capacity) (bookOf nodes₀ (m₀ .store .count)) (itemsTo (item - 1) w)) (I .after S));
       }
 
   pub making-end : (s : Store) → m₀ .store ≡ s → 512 < item → MakeIt s nodes₀ lookup₀ cache₀ (itemsOf w) m nodes lookup cache
   making-end s e l =
       rw (← e) record {
-        after = λ S. subst (λ x. After (m₀ .store .capacity) m nodes lookup cache (made (m₀ .store .capacity) (bookOf nodes₀ (m₀ .store .count)) x)) (items-all w (item - 1) (omega (arith, I .high))) (I .after S);
+        after = λ S. subst (λ x. After (m₀ .store .capacity) m nodes lookup cache (lineMade (m₀ .store .capacity) (bookOf nodes₀ (m₀ .store .count)) x)) (items-all w (item - 1) (omega (arith, I .high))) (I .after S);
       }
 
 -- placing keeps what a book holds
-pub placed-grown : (capacity : ℕ) (B : List Family) (F : Family) → Grown B (placed capacity B F .book)
-unfolding placed
+pub placed-grown : (capacity : ℕ) (B : List Family) (F : Family) → Grown B (called capacity B F .book)
+unfolding called
 placed-grown capacity B F = by-test (tooLarge capacity B F) (λ t. rw t (grown-self B)) (λ t. rw t (place-grown B F))
 
-pub next-grown : (capacity : ℕ) (f : Family → Family) {B : List Family} (a : Added) → Grown B (a .book) → Grown B (next capacity f a .book)
+pub next-grown : (capacity : ℕ) (f : Family → Family) {B : List Family} (a : Added) → Grown B (a .book) → Grown B (nextCall capacity f a .book)
 next-grown capacity f a g = by-test (a .full) (λ t. rw t g) (λ t. rw t (grown-trans g (placed-grown capacity (a .book) (f (a .family)))))
 
-pub made-grown : (capacity : ℕ) (B : List Family) (c : List ℕ) → Grown B (made capacity B c .book)
+pub made-grown : (capacity : ℕ) (B : List Family) (c : List ℕ) → Grown B (lineMade capacity B c .book)
 made-grown capacity B [] = grown-self B
-made-grown capacity B (x ∷ c) = next-grown capacity (change x) (made capacity B c) (made-grown capacity B c)
+made-grown capacity B (x ∷ c) = next-grown capacity (change x) (lineMade capacity B c) (made-grown capacity B c)
 
 -- one Union of the family of a handle with the family placed last
 united : {capacity : ℕ} {m : Placed} {nodes lookup cache : List ℕ} {a : Added} → After capacity m nodes lookup cache a → (p h : ℕ) (F : Family) → p ≤ m .store .count + 1 → at (bookOf nodes (m .store .count)) p ≡ F
     → m .answer ≡ Handle h → {r : Placed} {nodes′ lookup′ cache′ : List ℕ} → OperationCall 4 p h (m .store) nodes lookup cache r nodes′ lookup′ cache′
-    → After capacity r nodes′ lookup′ cache′ (next capacity (union F) a)
+    → After capacity r nodes′ lookup′ cache′ (nextCall capacity (union F) a)
 unfolding rule
 united {capacity} {a = a} A p h F l e eh P =
     let G = gives A h eh in
@@ -168,7 +168,7 @@ united {capacity} {a = a} A p h F l e eh P =
 module _ {s : Store} {nodes lookup cache c : List ℕ} {m : Placed} {nodes₁ lookup₁ cache₁ : List ℕ} (M : MakeIt s nodes lookup cache c m nodes₁ lookup₁ cache₁) (p : ℕ) where
   pub add-refused : (x : Refusal) → m .answer ≡ Refused x → AddCall s nodes lookup cache p c m nodes₁ lookup₁ cache₁
   add-refused x e =
-      record { on-sound = λ S l. let A = M .after S in rw (next-full (s .capacity) (union (at (bookOf nodes (s .count)) p)) (made (s .capacity) (bookOf nodes (s .count)) c) (refused-full A x e)) A }
+      record { on-sound = λ S l. let A = M .after S in rw (next-full (s .capacity) (union (at (bookOf nodes (s .count)) p)) (lineMade (s .capacity) (bookOf nodes (s .count)) c) (refused-full A x e)) A }
 
   pub add-united : {h : ℕ} {r : Placed} {nodes′ lookup′ cache′ : List ℕ} → m .answer ≡ Handle h → OperationCall 4 p h (m .store) nodes₁ lookup₁ cache₁ r nodes′ lookup′ cache′
       → AddCall s nodes lookup cache p c r nodes′ lookup′ cache′

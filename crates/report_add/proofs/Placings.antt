@@ -1,4 +1,4 @@
--- A call that places, on a sound store: it leaves what the definition `placed` says of the book that the words hold.
+-- A call that places, on a sound store: it leaves what the definition `called` says of the book that the words hold.
 -- Its promise has two ways here, no room and placed; the words of the placed book mean that book.
 use Prim.Native.Nat.{ℕ, _+_, _-_, _≤_, _<_}
 use mathlib.Core.Path.{_≡_, refl, ap, _∙_}
@@ -24,9 +24,9 @@ use Rattle.store.specs.Placing.{tooLarge, placeAnswer, placeBook}
 use Rattle.store.specs.Promise.{leaves, placing, PlaceCall}
 use Rattle.store.proofs.Decoding.{sound-holds}
 use Rattle.store.proofs.Recovering.{book-of-words}
-use Rattle.store.specs.Tests.{isItem}
+use Rattle.store.specs.Tests.{isItem, testsOf}
 use Rattle.op_promise.specs.Promise.{operationRefusal, OperationCall}
-use Rattle.report_add.specs.Promise.{placed, After}
+use Rattle.report_add.specs.Promise.{called, After}
 
 -- the two ways that a call has which nothing refuses before it places
 module _ (F : Family) (s : Store) (nodes lookup : List ℕ) where
@@ -45,18 +45,23 @@ module _ (F : Family) (s : Store) (nodes lookup : List ℕ) where
   unfolding placing placeAnswer placeBook
   way-placed t = rw t
 
-  placed-full : tooLarge (s .capacity) (bookOf nodes (s .count)) F ≡ true → placed (s .capacity) (bookOf nodes (s .count)) F ≡ record { full = true; book = bookOf nodes (s .count); family = F }
-  unfolding placed
+  placed-full : tooLarge (s .capacity) (bookOf nodes (s .count)) F ≡ true → called (s .capacity) (bookOf nodes (s .count)) F ≡ record { full = true; book = bookOf nodes (s .count); family = F }
+  unfolding called
   placed-full t = rw t
 
   placed-new : tooLarge (s .capacity) (bookOf nodes (s .count)) F ≡ false
-      → placed (s .capacity) (bookOf nodes (s .count)) F ≡ record { full = false; book = place (bookOf nodes (s .count)) F; family = F }
-  unfolding placed
+      → called (s .capacity) (bookOf nodes (s .count)) F ≡ record { full = false; book = place (bookOf nodes (s .count)) F; family = F }
+  unfolding called
   placed-new t = rw t
 
+-- handles that are held and an item pass the tests
 item-taken : (count p v : ℕ) → p ≤ count + 1 → 0 < v → v ≤ 512 → operationRefusal 3 count p v ≡ 0
-unfolding operationRefusal isItem
-item-taken count p v lp n l = rw (le-ltb (count + 1) p lp, lt-ltb 0 v n, le-leb v 512 l)
+unfolding operationRefusal testsOf isItem
+item-taken count p v lp n l = rw (le-ltb (count + 1) p lp, le-ltb (count + 1) 0 (omega arith), lt-ltb 0 v n, le-leb v 512 l)
+
+handles-taken : (op count p q : ℕ) → 4 ≤ op → p ≤ count + 1 → q ≤ count + 1 → operationRefusal op count p q ≡ 0
+unfolding operationRefusal testsOf
+handles-taken op count p q n lp lq = rw (le-ltb op 4 n, le-ltb (count + 1) p lp, le-ltb (count + 1) q lq)
 
 module _ {s : Store} {nodes lookup cache : List ℕ} (S : Sound s nodes lookup cache) where
   book : Book itemLimit (bookOf nodes (s .count))
@@ -92,7 +97,7 @@ module _ {s : Store} {nodes lookup cache : List ℕ} (S : Sound s nodes lookup c
           held = λ e. k .1;
         }
 
-    pub placed-after : After (s .capacity) r nodes′ lookup′ cache′ (placed (s .capacity) (bookOf nodes (s .count)) F)
+    pub placed-after : After (s .capacity) r nodes′ lookup′ cache′ (called (s .capacity) (bookOf nodes (s .count)) F)
     placed-after =
         by-test (tooLarge (s .capacity) (bookOf nodes (s .count)) F)
         (λ t. rw (placed-full F s nodes lookup t) (full-after t))
@@ -101,14 +106,14 @@ module _ {s : Store} {nodes lookup cache : List ℕ} (S : Sound s nodes lookup c
   module _ {r : Placed} {nodes′ lookup′ cache′ : List ℕ} (p : ℕ) (lp : p ≤ s .count + 1) where
     -- Change
     pub change-after : (v : ℕ) → 0 < v → v ≤ 512 → OperationCall 3 p v s nodes lookup cache r nodes′ lookup′ cache′
-        → After (s .capacity) r nodes′ lookup′ cache′ (placed (s .capacity) (bookOf nodes (s .count)) (change v (at (bookOf nodes (s .count)) p)))
+        → After (s .capacity) r nodes′ lookup′ cache′ (called (s .capacity) (bookOf nodes (s .count)) (change v (at (bookOf nodes (s .count)) p)))
     unfolding named restrict
     change-after v n l P = placed-after (within-change v _ n l (handle-within p lp)) (rw (item-taken (s .count) p v lp n l) at P)
 
     -- Union, Intsec and Diff
     pub combine-after : (op : ℕ) → 4 ≤ op → (rule op false false ≡ false) → (q : ℕ) → q ≤ s .count + 1 → OperationCall op p q s nodes lookup cache r nodes′ lookup′ cache′
-        → After (s .capacity) r nodes′ lookup′ cache′ (placed (s .capacity) (bookOf nodes (s .count)) (combine (rule op) (at (bookOf nodes (s .count)) p) (at (bookOf nodes (s .count)) q)))
-    unfolding named operationRefusal
+        → After (s .capacity) r nodes′ lookup′ cache′ (called (s .capacity) (bookOf nodes (s .count)) (combine (rule op) (at (bookOf nodes (s .count)) p) (at (bookOf nodes (s .count)) q)))
+    unfolding named restrict
     combine-after op n f q lq P =
         placed-after (within-combine (rule op) f _ _ (handle-within p lp) (handle-within q lq))
-        (rw (le-ltb (s .count + 1) p lp, le-ltb (s .count + 1) q lq, le-ltb op 4 n) at P)
+        (rw (handles-taken op (s .count) p q n lp lq, le-ltb op 4 n) at P)

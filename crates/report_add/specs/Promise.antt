@@ -20,32 +20,34 @@ pub record Added : Type 0 where
   pub family : Family
 
 -- one call that places F
-unfoldable pub placed : ℕ → List Family → Family → Added
-placed capacity B F = cond (tooLarge capacity B F) (record { full = true; book = B; family = F }) (record { full = false; book = place B F; family = F })
+unfoldable pub called : ℕ → List Family → Family → Added
+called capacity B F = cond (tooLarge capacity B F) (record { full = true; book = B; family = F }) (record { full = false; book = place B F; family = F })
 
 -- the next call, unless one was refused
-abbrev pub next : ℕ → (Family → Family) → Added → Added
-next capacity f a = cond (a .full) a (placed capacity (a .book) (f (a .family)))
+abbrev pub nextCall : ℕ → (Family → Family) → Added → Added
+nextCall capacity f a = cond (a .full) a (called capacity (a .book) (f (a .family)))
 
--- "Each line is made by Change from handle 1 in rising items": a combination is a falling list, so the items behind x are smaller and come first
-abbrev pub made : ℕ → List Family → List ℕ → Added
-made capacity B [] = record { full = false; book = B; family = base }
-made capacity B (x ∷ c) = next capacity (change x) (made capacity B c)
+-- "Each line is made by Change from handle 1 in rising items": a combination is a falling list, so the items behind x
+-- are smaller and come first
+abbrev pub lineMade : ℕ → List Family → List ℕ → Added
+lineMade capacity B [] = record { full = false; book = B; family = base }
+lineMade capacity B (x ∷ c) = nextCall capacity (change x) (lineMade capacity B c)
 
 -- "then one Union into its family"
 abbrev pub added : ℕ → List Family → Family → List ℕ → Added
-added capacity B P c = next capacity (union P) (made capacity B c)
+added capacity B P c = nextCall capacity (union P) (lineMade capacity B c)
 
 -- what calls answer: 5 where the store was full, else the family's handle
-abbrev pub answerOf : Added → Given
-answerOf a = cond (a .full) (record { refusal = 5; handle = 0 }) (record { refusal = 0; handle = number (a .book) (a .family) })
+abbrev pub lastAnswer : Added → Given
+lastAnswer a = cond (a .full) (record { refusal = 5; handle = 0 }) (record { refusal = 0; handle = number (a .book) (a .family) })
 
--- A store after calls that place, with their last answer: it is sound, its words are those of the book (which a sound store's book decides), and an answer that is no refusal is the family's handle.
+-- A store after calls that place, with their last answer: it is sound, its words are those of the book (which a sound
+-- store's book decides), and an answer that is no refusal is the family's handle.
 pub record After (capacity : ℕ) (r : Placed) (nodes lookup cache : List ℕ) (a : Added) : Type 0 where
   pub sound : Sound (r .store) nodes lookup cache
   pub capacity-is : r .store .capacity ≡ capacity
   pub book-is : bookOf nodes (r .store .count) ≡ a .book
-  pub answer-is : givenBy (r .answer) ≡ answerOf a
+  pub answer-is : givenBy (r .answer) ≡ lastAnswer a
   pub held : a .full ≡ false → Held (a .book) (a .family)
 
 -- The promise of adding a combination to the family of a handle, for a sound store that holds the handle.

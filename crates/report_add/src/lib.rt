@@ -1,15 +1,14 @@
 // Adding a combination to a family: made by Change from handle 1 in rising items, then one Union.
-ghost use Prim.Native.Nat.{_≤_};
 ghost use Rattle.family.specs.Combination.{itemsOf};
 ghost use Rattle.report_add.specs.Promise.{AddCall};
-ghost use Rattle.report_add.specs.Inner.{ChangeIt, MakeIt};
+ghost use Rattle.report_add.specs.Inner.{InRange, ChangeIt, MakeIt};
 use combination::Combination;
 use op_families::calls::union;
-use store_fresh::base;
 use op_items::calls::change;
 use store::record::PlaceAnswer;
 use store::record::Placed;
 use store::record::Store;
+use store_fresh::base;
 
 // Changes the family placed last by an item, where the combination holds it and nothing was refused before.
 fn change_by(
@@ -20,7 +19,7 @@ fn change_by(
     items: Combination,
     item: u32,
 ) -> Placed
-    requires { ⌜ (1 ≤ item) × (item ≤ 512) ⌝ }
+    requires { ⌜ InRange item ⌝ }
     ensures { λ r. ⌜ ChangeIt placed (now (nodes .entry)) (now (lookup .entry)) (now (cache .entry)) (itemsOf (items .words)) item r (now (nodes .exit)) (now (lookup .exit)) (now (cache .exit)) ⌝ }
 {
     if !items.contains(item) {

@@ -1,5 +1,6 @@
--- The end of a report: the sizes of the two families and of what is in both and only in the returned one, or the line that ended the log.
--- The two calls leave the families' handles as they are, and Size tells the size of each family that the store holds.
+-- The end of a report: the sizes of the two families, of what is in both and only in the returned one; or the line
+-- that ended the log. The two calls leave the families' handles as they are, and Size tells the size of each family
+-- that the store holds.
 use Prim.Native.Nat.{ℕ, suc, _+_, _-_, _≤_, _<_}
 use mathlib.Core.Path.{_≡_, refl, sym, ap, _∙_}
 use mathlib.Core.Bool.{true, false}
@@ -23,6 +24,7 @@ use Rattle.store.specs.Sound.{Sound}
 use Rattle.store.specs.Scratch.{scratchTests}
 use Rattle.store.specs.Placing.{tooLarge}
 use Rattle.store.proofs.Decoding.{sound-holds}
+use Rattle.store.proofs.Sounds.{bare}
 use Rattle.store.proofs.Calls.{refusal-some}
 use Rattle.store.proofs.Tested.{tests-passed}
 use Rattle.op_promise.specs.Promise.{OperationCall}
@@ -34,33 +36,22 @@ use Rattle.family.specs.Combination.{itemsOf}
 use Rattle.report_line.specs.declared.Side.{Side}
 use Rattle.report_line.specs.declared.Stage.{Stage}
 use Rattle.report_line.proofs.Stage.{the-type as the-stage}
-use Rattle.report_close.specs.declared.Handles.{Handles}
+use Rattle.report_close.specs.declared.FourHandles.{FourHandles}
 use Rattle.report_log.specs.declared.tally.Ending.{Ending}
 use Rattle.report_log.specs.declared.tally.Ending.the-variants.{Going}
 use Rattle.report_log.proofs.tally.Ending.{the-type as the-ending}
 use Rattle.report_log.specs.declared.tally.Tally.{Tally}
 use Rattle.report_line.specs.Line.{progressOf}
-use Rattle.report_add.specs.Promise.{Added, placed, After}
-use Rattle.report_text.specs.Text.{reportFull, lineText, sumsText, Wrote}
-use Rattle.report_log.specs.Log.{Log, capped, closing, lastOf, endOf, outputOf, Keeps, CloseCall}
+use Rattle.report_add.specs.Promise.{Added, called, After}
+use Rattle.report_text.specs.Text.{reportFull, lineText, sumsText}
+use Rattle.report_text.specs.Promise.{Wrote}
+use Rattle.report_log.specs.Log.{Log, capped, closing, lastLine, endOf, outputOf}
+use Rattle.report_log.specs.Promise.{Keeps}
+use Rattle.report_close.specs.Promise.{CloseCall}
 use Rattle.report_close.specs.Inner.{SizeIt, SizesIt, SumsIt, endText, EndIs}
 use Rattle.report_add.proofs.Placings.{combine-after}
 use Rattle.report_add.proofs.Makings.{gives, refused-full, placed-grown}
 use Rattle.report_log.proofs.Logs.{Stays, stays}
-
--- a sound store is sound with no cache lent
-pub bare : {s : Store} {nodes lookup cache : List ℕ} → Sound s nodes lookup cache → Sound s nodes lookup []
-bare S =
-    record {
-      capacity-is = S .capacity-is;
-      longer = S .longer;
-      within = S .within;
-      each = S .each;
-      apart = S .apart;
-      blank = S .blank;
-      lookup-is = S .lookup-is;
-      cached = record { each = λ g op p q h G. absurd (omega (arith, G .within)) };
-    }
 
 -- the size of a handle that is held
 module _ (B : List Family) (p words : ℕ) (passed : scratchTests B p words ≡ 0) where
@@ -95,49 +86,47 @@ module _ {s : Store} {nodes lookup : List ℕ} {p : ℕ} {sizes : List ℕ} {m :
   pub size-brimmed : (x : Refusal) → m .answer ≡ NoSize x → SizeIt s nodes lookup p (length sizes) most
   size-brimmed x e = record { is = λ S l w. brimmed S l w x e }
 
--- the scratch keeps its length
-pub as-long : {s : Store} {nodes lookup : List ℕ} {p words words′ r : ℕ} → words ≡ words′ → SizeIt s nodes lookup p words r → SizeIt s nodes lookup p words′ r
-as-long e Z = rw (← e) Z
-
-pub sizes-written : {s : Store} {nodes lookup : List ℕ} {h : Handles} {words a b c d : ℕ} {out : List ℕ} {r : ℕ} {out′ : List ℕ}
-    → SizeIt s nodes lookup (h .passed) words a → SizeIt s nodes lookup (h .returned) words b → SizeIt s nodes lookup (h .both) words c → SizeIt s nodes lookup (h .only) words d
-    → Wrote out 0 (sumsText a b c d) r out′ → SizesIt s nodes lookup h words r out′
-sizes-written A B C D W =
+-- four sizes, written; the scratch keeps its length
+pub sizes-written : {s : Store} {nodes lookup : List ℕ} {h : FourHandles} {words words₁ words₂ words₃ a b c d : ℕ} {out : List ℕ} {r : ℕ} {out′ : List ℕ}
+    → SizeIt s nodes lookup (h .passed) words a → words₁ ≡ words → SizeIt s nodes lookup (h .returned) words₁ b → words₂ ≡ words₁ → SizeIt s nodes lookup (h .both) words₂ c → words₃ ≡ words₂
+    → SizeIt s nodes lookup (h .only) words₃ d → Wrote out 0 (sumsText a b c d) r out′ → SizesIt s nodes lookup h words r out′
+sizes-written A e₁ B e₂ C e₃ D W =
     record {
       inside = W .inside;
-      written = λ S H w. W .is ∙ (λ i. sumsText (A .is S (H .passed) w i) (B .is S (H .returned) w i) (C .is S (H .both) w i) (D .is S (H .only) w i));
+      written = λ S H w. W .is
+          ∙ (λ i. sumsText (A .is S (H .passed) w i) (B .is S (H .returned) (omega arith) i) (C .is S (H .both) (omega arith) i) (D .is S (H .only) (omega arith) i));
     }
 
 -- what the closing sums come to, by the two calls
 module _ (capacity : ℕ) (B : List Family) (P R : Family) where
-  closing-first : placed capacity B (intsec P R) .full ≡ true → closing capacity (record { book = B; passed = P; returned = R }) ≡ reportFull
+  closing-first : called capacity B (intsec P R) .full ≡ true → closing capacity (record { book = B; passed = P; returned = R }) ≡ reportFull
   unfolding closing
   closing-first e = rw e
 
-  module _ (first : placed capacity B (intsec P R) .full ≡ false) where
-    closing-second : placed capacity (placed capacity B (intsec P R) .book) (diff R P) .full ≡ true → closing capacity (record { book = B; passed = P; returned = R }) ≡ reportFull
+  module _ (first : called capacity B (intsec P R) .full ≡ false) where
+    closing-second : called capacity (called capacity B (intsec P R) .book) (diff R P) .full ≡ true → closing capacity (record { book = B; passed = P; returned = R }) ≡ reportFull
     unfolding closing
     closing-second e = rw (first, e)
 
-    closing-sums : placed capacity (placed capacity B (intsec P R) .book) (diff R P) .full ≡ false
+    closing-sums : called capacity (called capacity B (intsec P R) .book) (diff R P) .full ≡ false
         → closing capacity (record { book = B; passed = P; returned = R }) ≡ sumsText (capped (size P)) (capped (size R)) (capped (size (intsec P R))) (capped (size (diff R P)))
     unfolding closing
     closing-sums e = rw (first, e)
 
-pub placed-family : (capacity : ℕ) (B : List Family) (F : Family) → placed capacity B F .family ≡ F
-unfolding placed
+pub placed-family : (capacity : ℕ) (B : List Family) (F : Family) → called capacity B F .family ≡ F
+unfolding called
 placed-family capacity B F = by-test (tooLarge capacity B F) (λ t. rw t) (λ t. rw t)
 
 -- the second call, on the book of the first
 diff-after : {capacity : ℕ} {m : Placed} {nodes lookup cache : List ℕ} {a : Added} → After capacity m nodes lookup cache a → {p q : ℕ} {P R : Family}
     → Stays (m .store .count) (bookOf nodes (m .store .count)) p P → Stays (m .store .count) (bookOf nodes (m .store .count)) q R
-    → {r : Placed} {nodes′ lookup′ cache′ : List ℕ} → OperationCall 6 q p (m .store) nodes lookup cache r nodes′ lookup′ cache′ → After capacity r nodes′ lookup′ cache′ (placed capacity (a .book) (diff R P))
+    → {r : Placed} {nodes′ lookup′ cache′ : List ℕ} → OperationCall 6 q p (m .store) nodes lookup cache r nodes′ lookup′ cache′ → After capacity r nodes′ lookup′ cache′ (called capacity (a .book) (diff R P))
 unfolding rule
 diff-after A {p} {q} G H O = rw (← A .capacity-is, ← A .book-is, ← G .means, ← H .means) (combine-after (A .sound) q (H .held) 6 (omega arith) refl p (G .held) O)
 
 module _ {s : Store} {nodes lookup cache : List ℕ} (S : Sound s nodes lookup cache) {p q : ℕ} {P R : Family} (G : Stays (s .count) (bookOf nodes (s .count)) p P) (H : Stays (s .count) (bookOf nodes (s .count)) q R)
     {m : Placed} {nodes₁ lookup₁ cache₁ : List ℕ} (O : OperationCall 5 p q s nodes lookup cache m nodes₁ lookup₁ cache₁) where
-  first-after : After (s .capacity) m nodes₁ lookup₁ cache₁ (placed (s .capacity) (bookOf nodes (s .count)) (intsec P R))
+  first-after : After (s .capacity) m nodes₁ lookup₁ cache₁ (called (s .capacity) (bookOf nodes (s .count)) (intsec P R))
   unfolding rule
   first-after = rw (← G .means, ← H .means) (combine-after S p (G .held) 5 (omega arith) refl q (H .held) O)
 
@@ -148,13 +137,13 @@ module _ {s : Store} {nodes lookup cache : List ℕ} (S : Sound s nodes lookup c
   end-first x e = closing-first (s .capacity) (bookOf nodes (s .count)) P R (refused-full first-after x e)
 
   module _ {h : ℕ} (eh : m .answer ≡ Handle h) {r : Placed} {nodes₂ lookup₂ cache₂ : List ℕ} (O₂ : OperationCall 6 q p (m .store) nodes₁ lookup₁ cache₁ r nodes₂ lookup₂ cache₂) where
-    second-after : After (s .capacity) r nodes₂ lookup₂ cache₂ (placed (s .capacity) (placed (s .capacity) (bookOf nodes (s .count)) (intsec P R) .book) (diff R P))
+    second-after : After (s .capacity) r nodes₂ lookup₂ cache₂ (called (s .capacity) (called (s .capacity) (bookOf nodes (s .count)) (intsec P R) .book) (diff R P))
     second-after = diff-after first-after (first-stays p P G) (first-stays q R H) O₂
 
     second-stays : (k : ℕ) (F : Family) → Stays (m .store .count) (bookOf nodes₁ (m .store .count)) k F → Stays (r .store .count) (bookOf nodes₂ (r .store .count)) k F
     second-stays k F T =
         stays (first-after .sound) second-after
-        (rw (first-after .book-is) (placed-grown (s .capacity) (placed (s .capacity) (bookOf nodes (s .count)) (intsec P R) .book) (diff R P))) k F (T .held) (T .means)
+        (rw (first-after .book-is) (placed-grown (s .capacity) (called (s .capacity) (bookOf nodes (s .count)) (intsec P R) .book) (diff R P))) k F (T .held) (T .means)
 
     end-second : (x : Refusal) → r .answer ≡ NoHandle x → closing (s .capacity) (record { book = bookOf nodes (s .count); passed = P; returned = R }) ≡ reportFull
     end-second x e = closing-second (s .capacity) (bookOf nodes (s .count)) P R (gives first-after h eh .going) (refused-full second-after x e)
@@ -168,7 +157,7 @@ module _ {s : Store} {nodes lookup cache : List ℕ} (S : Sound s nodes lookup c
         let q₂ = second-stays q R (first-stays q R H) in
         let h₂ = second-stays h (intsec P R) (record { held = g .inside; means = g .means ∙ placed-family (s .capacity) (bookOf nodes (s .count)) (intsec P R) }) in
         Z .written (bare (second-after .sound)) (record { passed = p₂ .held; returned = q₂ .held; both = h₂ .held; only = d .inside }) (omega (arith, second-after .sound .within, second-after .capacity-is))
-        ∙ (λ i. sumsText (capped (size (p₂ .means i))) (capped (size (q₂ .means i))) (capped (size (h₂ .means i))) (capped (size ((d .means ∙ placed-family (s .capacity) (placed (s .capacity) (bookOf nodes (s .count)) (intsec P R) .book) (diff R P)) i))))
+        ∙ (λ i. sumsText (capped (size (p₂ .means i))) (capped (size (q₂ .means i))) (capped (size (h₂ .means i))) (capped (size ((d .means ∙ placed-family (s .capacity) (called (s .capacity) (bookOf nodes (s .count)) (intsec P R) .book) (diff R P)) i))))
         ∙ sym (closing-sums (s .capacity) (bookOf nodes (s .count)) P R (g .going) (d .going))
 
 module _ {s : Store} {nodes lookup cache : List ℕ} (p q : ℕ) {m : Placed} {nodes₁ lookup₁ cache₁ : List ℕ} (O : OperationCall 5 p q s nodes lookup cache m nodes₁ lookup₁ cache₁) {words n : ℕ} {out′ : List ℕ} where
@@ -195,7 +184,7 @@ ended-text capacity g Ending.Going b = absurd (miss (1 ∷ 2 ∷ []) 0 tt b)
 ended-text capacity g Ending.Refused b = refl
 ended-text capacity g Ending.Full b = refl
 
-begun-text : (capacity : ℕ) (g : Log) (st : Stage) (d : Side) (c : List ℕ) (k : ℕ) → OneOf (1 ∷ 2 ∷ 3 ∷ 4 ∷ 5 ∷ []) (tagOf the-stage st) → lastOf capacity g (progressOf st d c k) ≡ endText capacity g Ending.Refused
+begun-text : (capacity : ℕ) (g : Log) (st : Stage) (d : Side) (c : List ℕ) (k : ℕ) → OneOf (1 ∷ 2 ∷ 3 ∷ 4 ∷ 5 ∷ []) (tagOf the-stage st) → lastLine capacity g (progressOf st d c k) ≡ endText capacity g Ending.Refused
 begun-text capacity g Stage.Blank d c k b = absurd (miss (1 ∷ 2 ∷ 3 ∷ 4 ∷ 5 ∷ []) 0 tt b)
 begun-text capacity g Stage.Letter d c k b = refl
 begun-text capacity g Stage.Space d c k b = refl
@@ -210,11 +199,11 @@ module _ {t : Tally} where
 
   module _ (e : t .ending ≡ Going) where
     at-progress : {capacity : ℕ} {nodes lookup cache : List ℕ} {g : Log} → Keeps capacity t nodes lookup cache g → {st : Stage} → t .reading .stage ≡ st
-        → outputOf capacity g ≡ lastOf capacity g (progressOf st (t .reading .side) (itemsOf (t .reading .items .words)) (t .reading .item))
+        → outputOf capacity g ≡ lastLine capacity g (progressOf st (t .reading .side) (itemsOf (t .reading .items .words)) (t .reading .item))
     unfolding outputOf
     at-progress {capacity} {g = g} K d =
         ap (λ x. endOf capacity g x) (sym (K .ending-is) ∙ e)
-        ∙ ap (λ p. lastOf capacity g p) (sym (ap (λ s. s .progress) (K .line-is)) ∙ ap (λ x. progressOf x (t .reading .side) (itemsOf (t .reading .items .words)) (t .reading .item)) d)
+        ∙ ap (λ p. lastLine capacity g p) (sym (ap (λ s. s .progress) (K .line-is)) ∙ ap (λ x. progressOf x (t .reading .side) (itemsOf (t .reading .items .words)) (t .reading .item)) d)
 
     pub end-blank : t .reading .stage ≡ Stage.Blank → EndIs t Going
     end-blank d = record { is = λ capacity nodes lookup cache g K. at-progress K d }

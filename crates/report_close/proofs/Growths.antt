@@ -1,5 +1,5 @@
--- The families of a log: each is in canonical form, and has no more members than lines were taken. So of at most 2^64 - 1 lines every number printed is exact.
--- A line adds one combination, which is a falling list of items from 1 to 512.
+-- The families of a log are in canonical form and have no more members than lines were taken, so of at most 2^64 - 1
+-- lines every number printed is exact. A line adds one combination, which is a falling list of items from 1 to 512.
 use Prim.Native.Nat.{ℕ, suc, _+_, _-_, _*_, _≤_, max}
 use mathlib.Core.Path.{_≡_, refl, sym, subst}
 use mathlib.Core.Bool.{Bool, true, false, cond, not, _&&_}
@@ -20,9 +20,10 @@ use Rattle.report_line.specs.declared.Side.{Side}
 use Rattle.report_line.specs.declared.Side.the-variants.{Passed, Returned}
 use Rattle.report_log.specs.declared.tally.Ending.{Ending}
 use Rattle.report_log.specs.declared.tally.Ending.the-variants.{Going, Refused, Full}
-use Rattle.report_line.specs.Line.{Progress, blank, letter, space, number, whole, malformed, gap, isDigit, closed, advance, State, begin, step, lineOf}
+use Rattle.report_line.specs.Line.{Progress, blank, letter, space, numeral, whole, malformed, gap, isDigit, closed, advance, LineState, begin, nextByte, lineOf}
 use Rattle.report_add.specs.Promise.{Added, added}
-use Rattle.report_log.specs.Log.{withPassed, withReturned, takeLine, Log, opening, counted, readOn, whileGoing, logByte, feed, capped}
+use Rattle.report_log.specs.Log.{ofSide, putSide, lotAfter, takeLine, Log, opening, counted, readOn, whileGoing, logByte, feed, capped}
+use Rattle.report_log.proofs.Logs.{side-full, side-more}
 use Rattle.report_close.proofs.Meanings.{added-single, union-size, intsec-size, diff-size}
 
 -- the items taken of a line are a combination
@@ -30,7 +31,7 @@ pub data Good : Progress → Type 0 where
   of-blank : Good blank
   of-letter : {d : Side} {c : List ℕ} → Combined 512 c → Good (letter d c)
   of-space : {d : Side} {c : List ℕ} → Combined 512 c → Good (space d c)
-  of-number : {d : Side} {c : List ℕ} {n : ℕ} → Combined 512 c → Good (number d c n)
+  of-number : {d : Side} {c : List ℕ} {n : ℕ} → Combined 512 c → Good (numeral d c n)
   of-whole : {d : Side} {c : List ℕ} → Combined 512 c → Good (whole d c)
   of-malformed : Good malformed
 
@@ -62,11 +63,11 @@ good-advance : (p : Progress) (b : ℕ) → Good p → Good (advance p b)
 good-advance blank b of-blank = either (eqb b 80) (of-letter none) (either (eqb b 82) (of-letter none) of-malformed)
 good-advance (letter d c) b (of-letter h) = good-gap d c b h
 good-advance (space d c) b (of-space h) = either (leb 49 b && leb b 57) (of-number h) of-malformed
-good-advance (number d c n) b (of-number h) = either (isDigit b) (either (leb (10 * n + (b - 48)) 512) (of-number h) of-malformed) (good-closed d c n b h)
+good-advance (numeral d c n) b (of-number h) = either (isDigit b) (either (leb (10 * n + (b - 48)) 512) (of-number h) of-malformed) (good-closed d c n b h)
 good-advance (whole d c) b (of-whole h) = of-malformed
 good-advance malformed b of-malformed = of-malformed
 
-good-step : (s : State) (b : ℕ) → Good (s .progress) → Good (step s b .progress)
+good-step : (s : LineState) (b : ℕ) → Good (s .progress) → Good (nextByte s b .progress)
 good-step s b h = either (eqb (s .left) 0) of-malformed (good-advance (s .progress) b h)
 
 -- a whole line's items
@@ -77,9 +78,9 @@ line-combined x d c e = out d c (subst Good e (go begin x of-blank))
     out : (d : Side) (c : List ℕ) → Good (whole d c) → Combined 512 c
     out d c (of-whole h) = h
 
-    go : (s : State) (y : List ℕ) → Good (s .progress) → Good (foldl step s y .progress)
+    go : (s : LineState) (y : List ℕ) → Good (s .progress) → Good (foldl nextByte s y .progress)
     go s [] h = h
-    go s (b ∷ y) h = go (step s b) y (good-step s b h)
+    go s (b ∷ y) h = go (nextByte s b) y (good-step s b h)
 
 -- a family with at most n members
 pub record Few (n : ℕ) (F : Family) : Type 0 where
@@ -104,36 +105,37 @@ pub record Sane (g : Log) : Type 0 where
   pub returned : Few (g .lines) (g .lot .returned)
 
 module _ (capacity : ℕ) (g : Log) (h : Sane g) where
-  sane-passed : (a : Added) → (a .full ≡ false → Few (suc (g .lines)) (a .family)) → Sane (counted g (withPassed (g .lot) a))
-  sane-passed a f =
+  sane-side : (d : Side) (a : Added) → (a .full ≡ false → Few (suc (g .lines)) (a .family)) → Sane (counted g (lotAfter d (g .lot) a))
+  sane-side d a f =
       by-test (a .full)
-      (λ t. rw t record { line = of-blank; passed = h .passed; returned = h .returned })
-      (λ t. rw t record { line = of-blank; passed = f t; returned = few-more (h .returned) })
-
-  sane-returned : (a : Added) → (a .full ≡ false → Few (suc (g .lines)) (a .family)) → Sane (counted g (withReturned (g .lot) a))
-  sane-returned a f =
-      by-test (a .full)
-      (λ t. rw t record { line = of-blank; passed = h .passed; returned = h .returned })
-      (λ t. rw t record { line = of-blank; passed = few-more (h .passed); returned = f t })
+      (λ t. subst Sane (side-full g a d t) (record { line = of-blank; passed = h .passed; returned = h .returned }))
+      (λ t. subst Sane (side-more g a d t) (more-sane d (f t)))
+    where
+      more-sane : (d : Side) → Few (suc (g .lines)) (a .family) → Sane (record { lot = putSide d (g .lot) (a .book) (a .family); lines = suc (g .lines); line = begin; ending = Going })
+      more-sane Passed x = record { line = of-blank; passed = x; returned = few-more (h .returned) }
+      more-sane Returned x = record { line = of-blank; passed = few-more (h .passed); returned = x }
 
   sane-line : (d : Side) (c : List ℕ) → Combined 512 c → Sane (counted g (takeLine capacity (g .lot) d c))
-  sane-line Passed c k = sane-passed (added capacity (g .lot .book) (g .lot .passed) c) (few-added capacity (g .lot .book) (g .lot .passed) c k (h .passed))
-  sane-line Returned c k = sane-returned (added capacity (g .lot .book) (g .lot .returned) c) (few-added capacity (g .lot .book) (g .lot .returned) c k (h .returned))
+  sane-line d c k = sane-side d (added capacity (g .lot .book) (ofSide d (g .lot)) c) (few-added capacity (g .lot .book) (ofSide d (g .lot)) c k (few d))
+    where
+      few : (d : Side) → Few (g .lines) (ofSide d (g .lot))
+      few Passed = h .passed
+      few Returned = h .returned
 
-  sane-read : (s : State) (p : Progress) → s .progress ≡ p → Good p → Sane (readOn capacity g s p)
+  sane-read : (s : LineState) (p : Progress) → s .progress ≡ p → Good p → Sane (readOn capacity g s p)
   sane-read s (whole d c) e (of-whole k) = sane-line d c k
   sane-read s malformed e k = record { line = rw e k; passed = h .passed; returned = h .returned }
   sane-read s blank e k = record { line = rw e k; passed = h .passed; returned = h .returned }
   sane-read s (letter d c) e k = record { line = rw e k; passed = h .passed; returned = h .returned }
   sane-read s (space d c) e k = record { line = rw e k; passed = h .passed; returned = h .returned }
-  sane-read s (number d c n) e k = record { line = rw e k; passed = h .passed; returned = h .returned }
+  sane-read s (numeral d c n) e k = record { line = rw e k; passed = h .passed; returned = h .returned }
 
   sane-byte : (b : ℕ) → Sane (logByte capacity g b)
   unfolding logByte
   sane-byte b = go (g .ending)
     where
-      go : (e : Ending) → Sane (whileGoing e (readOn capacity g (step (g .line) b) (step (g .line) b .progress)) g)
-      go Going = sane-read (step (g .line) b) (step (g .line) b .progress) refl (good-step (g .line) b (h .line))
+      go : (e : Ending) → Sane (whileGoing e (readOn capacity g (nextByte (g .line) b) (nextByte (g .line) b .progress)) g)
+      go Going = sane-read (nextByte (g .line) b) (nextByte (g .line) b .progress) refl (good-step (g .line) b (h .line))
       go Refused = h
       go Full = h
 

@@ -1,5 +1,6 @@
 -- What a line adds to its family: exactly the combination of its items; and how large families can grow.
--- Change in rising items from {{}} puts each item on top, so the family made has one member; a union has no more members than its two families.
+-- Change in rising items from {{}} puts each item on top, so the family made has one member; a union has no more
+-- members than its two families.
 use Prim.Native.Nat.{ℕ, zero, suc, _+_, _≤_, max}
 use mathlib.Core.Path.{_≡_, refl, sym, ap, _∙_}
 use mathlib.Core.Bool.{Bool, true, false, not, _&&_, _||_}
@@ -13,25 +14,25 @@ use Rattle.family.specs.Finite.{single}
 use Rattle.family.proofs.Diagrams.{within-lacking, within-holding, rebuild, is-leaf}
 use Rattle.family.proofs.Laws.{union-law}
 use Rattle.family.proofs.Finite.{single-falls, change-top}
-use Rattle.report_add.specs.Promise.{Added, next, made, added}
+use Rattle.report_add.specs.Promise.{Added, nextCall, lineMade, added}
 use Rattle.report_close.proofs.Closings.{placed-family}
 
 -- a call that was not refused
-next-not-full : (capacity : ℕ) (f : Family → Family) (a : Added) → next capacity f a .full ≡ false → (a .full ≡ false) × (next capacity f a .family ≡ f (a .family))
+next-not-full : (capacity : ℕ) (f : Family → Family) (a : Added) → nextCall capacity f a .full ≡ false → (a .full ≡ false) × (nextCall capacity f a .family ≡ f (a .family))
 next-not-full capacity f a e =
     by-test (a .full) (λ t. clash refl (rw t at e)) (λ t. (t, rw t (placed-family capacity (a .book) (f (a .family)))))
 
 -- the family made of a combination has it alone
-pub made-single : (capacity : ℕ) (B : List Family) (c : List ℕ) → Falling c → made capacity B c .full ≡ false → made capacity B c .family ≡ single c
+pub made-single : (capacity : ℕ) (B : List Family) (c : List ℕ) → Falling c → lineMade capacity B c .full ≡ false → lineMade capacity B c .family ≡ single c
 made-single capacity B [] h e = refl
 made-single capacity B (x ∷ c) h e =
-    let q = next-not-full capacity (change x) (made capacity B c) e in
+    let q = next-not-full capacity (change x) (lineMade capacity B c) e in
     q .1 ∙ ap (change x) (made-single capacity B c (h .1) (q .0)) ∙ change-top x c (h .0)
 
 -- what adding a line comes to, and its members: those of the family, and the combination
 pub added-single : (capacity : ℕ) (B : List Family) (F : Family) (c : List ℕ) → Falling c → added capacity B F c .full ≡ false → added capacity B F c .family ≡ union F (single c)
 added-single capacity B F c h e =
-    let q = next-not-full capacity (union F) (made capacity B c) e in
+    let q = next-not-full capacity (union F) (lineMade capacity B c) e in
     q .1 ∙ ap (union F) (made-single capacity B c h (q .0))
 
 pub added-members : (capacity : ℕ) (B : List Family) (F : Family) (c d : List ℕ) → Ordered F → Falling c → added capacity B F c .full ≡ false

@@ -8,26 +8,27 @@ use Rattle.family.specs.Book.{at}
 use Rattle.store.specs.declared.record.Store.{Store}
 use Rattle.store.specs.Words.{bookOf}
 use Rattle.store.specs.Sound.{Sound}
-use Rattle.report_close.specs.declared.Handles.{Handles}
+use Rattle.report_close.specs.declared.FourHandles.{FourHandles}
 use Rattle.report_log.specs.declared.tally.Ending.{Ending}
 use Rattle.report_log.specs.declared.tally.Ending.the-variants.{Going, Refused, Full}
 use Rattle.report_log.specs.declared.tally.Tally.{Tally}
 use Rattle.report_text.specs.Text.{refusedWord, fullWord, lineText, sumsText}
-use Rattle.report_log.specs.Log.{Log, capped, closing, outputOf, Keeps}
+use Rattle.report_log.specs.Log.{Log, capped, closing, outputOf}
+use Rattle.report_log.specs.Promise.{Keeps}
 
 -- the size of a handle that is held, with enough scratch
 pub record SizeIt (s : Store) (nodes lookup : List ℕ) (p words r : ℕ) : Type 0 where
   pub is : Sound s nodes lookup [] → p ≤ s .count + 1 → s .count ≤ words → r ≡ capped (size (at (bookOf nodes (s .count)) p))
 
 -- four handles that are held
-pub record AllHeld (n : ℕ) (h : Handles) : Type 0 where
+pub record AllHeld (n : ℕ) (h : FourHandles) : Type 0 where
   pub passed : h .passed ≤ n + 1
   pub returned : h .returned ≤ n + 1
   pub both : h .both ≤ n + 1
   pub only : h .only ≤ n + 1
 
 -- their sizes written
-pub record SizesIt (s : Store) (nodes lookup : List ℕ) (h : Handles) (words r : ℕ) (out′ : List ℕ) : Type 0 where
+pub record SizesIt (s : Store) (nodes lookup : List ℕ) (h : FourHandles) (words r : ℕ) (out′ : List ℕ) : Type 0 where
   pub inside : r ≤ length out′
   pub written : Sound s nodes lookup [] → AllHeld (s .count) h → s .count ≤ words
       → take r out′ ≡ sumsText (capped (size (at (bookOf nodes (s .count)) (h .passed)))) (capped (size (at (bookOf nodes (s .count)) (h .returned))))

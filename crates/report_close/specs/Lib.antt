@@ -1,3 +1,4 @@
 -- What the contracts of `report_close` cite.
-pub mod Inner
 pub mod Report
+pub mod Promise
+pub mod Inner

@@ -5,11 +5,12 @@ use mathlib.Core.List.{List, [], _∷_}
 use lib.Dec.{eqb}
 use Rattle.family.specs.Family.{empty}
 use Rattle.family.specs.Book.{start}
-use Rattle.report_line.specs.Line.{Progress, blank, letter, space, number, whole, malformed, lineOf}
+use Rattle.report_line.specs.Line.{Progress, blank, letter, space, numeral, whole, malformed, lineOf}
 use Rattle.report_text.specs.Text.{lineText, refusedWord, fullWord}
-use Rattle.report_log.specs.Log.{Lot, Taken, takeLine, capped, closing}
+use Rattle.report_log.specs.Log.{Lot, LineTaken, takeLine, capped, closing}
 
--- The lines of an input, each with its newline; what stands behind the last newline, where anything does, is a line too.
+-- The lines of an input, each with its newline; what stands behind the last newline, where anything does, is a line
+-- too.
 abbrev pub onto : ℕ → List (List ℕ) → List (List ℕ)
 onto b [] = (b ∷ []) ∷ []
 onto b (l ∷ ls) = (b ∷ l) ∷ ls
@@ -19,7 +20,7 @@ linesOf [] = []
 linesOf (b ∷ bs) = cond (eqb b 10) ((b ∷ []) ∷ linesOf bs) (onto b (linesOf bs))
 
 -- "a full store `line 3 full`": what is printed where line n is added, and what the lines behind it come to else
-abbrev pub nextLine : ℕ → Taken → (Lot → List ℕ) → List ℕ
+abbrev pub nextLine : ℕ → LineTaken → (Lot → List ℕ) → List ℕ
 nextLine n t rest = cond (t .full) (lineText (capped n) fullWord) (rest (t .lot))
 
 -- "A malformed line or repeated item prints only `line 3 refused`"
@@ -28,7 +29,7 @@ onLine capacity n l (whole d c) rest = nextLine n (takeLine capacity l d c) rest
 onLine capacity n l blank rest = lineText (capped n) refusedWord
 onLine capacity n l (letter d c) rest = lineText (capped n) refusedWord
 onLine capacity n l (space d c) rest = lineText (capped n) refusedWord
-onLine capacity n l (number d c k) rest = lineText (capped n) refusedWord
+onLine capacity n l (numeral d c k) rest = lineText (capped n) refusedWord
 onLine capacity n l malformed rest = lineText (capped n) refusedWord
 
 -- the lines from number n on

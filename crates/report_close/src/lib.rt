@@ -1,24 +1,24 @@
 // The end of a report: the closing sums, or the line that ended the log.
 ghost use Prim.Native.Nat.{_≤_};
 ghost use lib.ListN.{length};
-ghost use Rattle.report_log.specs.Log.{CloseCall};
+ghost use Rattle.report_close.specs.Promise.{CloseCall};
 ghost use Rattle.report_close.specs.Inner.{SizeIt, SizesIt, SumsIt, EndIs};
-use query_size::SizeAnswer;
-use query_size::size;
 use op_families::calls::diff;
 use op_families::calls::intsec;
+use query_size::SizeAnswer;
+use query_size::size;
 use report_line::Stage;
 use report_log::tally::Ending;
 use report_log::tally::Tally;
 use report_log::tally::bumped;
-use store::record::PlaceAnswer;
-use store::record::Store;
 use report_text::put_line;
 use report_text::put_sums;
 use report_text::put_word;
+use store::record::PlaceAnswer;
+use store::record::Store;
 
 // The families of which the sizes are printed.
-pub struct Handles {
+pub struct FourHandles {
     pub passed: u32,
     pub returned: u32,
     pub both: u32,
@@ -42,7 +42,7 @@ fn put_sizes(
     store: Store,
     nodes: &[u32],
     lookup: &[u32],
-    handles: Handles,
+    handles: FourHandles,
     sizes: &mut [u64],
     out: &mut [u8],
 ) -> usize
@@ -80,7 +80,7 @@ fn close_sums(
     let PlaceAnswer::Handle(only) = second_answer else {
         return put_word(out, 0, b"report full\n");
     };
-    let handles = Handles {
+    let handles = FourHandles {
         passed: passed,
         returned: returned,
         both: both,

@@ -9,33 +9,33 @@ use lib.ListN.{replicate}
 use borrow.Author.Tests.{eq-eqb, ne-eqb, le-leb, lt-leb}
 use Rattle.family.specs.Combination.{isFree, including, itemsOf}
 use Rattle.family.proofs.Words.{one-record, is-including}
-use Rattle.combination.specs.declared.Combination.{Combination}
 use Rattle.report_line.specs.declared.Side.{Side}
 use Rattle.report_line.specs.declared.Side.the-variants.{Passed, Returned}
 use Rattle.report_line.specs.declared.Stage.{Stage}
 use Rattle.report_line.specs.declared.Reading.{Reading}
-use Rattle.report_line.specs.Line.{Progress, letter, space, number, whole, malformed, first, gap, opened, grown, closed, advance, State, step, progressOf, stateOf}
+use Rattle.report_line.specs.Inner.{AtStage}
+use Rattle.report_line.specs.Line.{Progress, letter, space, numeral, whole, malformed, firstByte, gap, opened, grown, closed, advance, LineState, nextByte, progressOf, stateOf}
 
--- the state of a reading, by its fields
-pub state-is : {r : Reading} {st : Stage} {sd : Side} {c : Combination} {n l : ℕ} → r .stage ≡ st → r .side ≡ sd → r .items ≡ c → r .item ≡ n → r .left ≡ l
-    → stateOf r ≡ record { progress = progressOf st sd (itemsOf (c .words)) n; left = l }
-state-is a b c d e = λ i. record { progress = progressOf (a i) (b i) (itemsOf (c i .words)) (d i); left = e i }
+-- the state of a line at another stage
+pub staged-state : {line : Reading} {st : Stage} {r : Reading} → AtStage line st r
+    → stateOf r ≡ record { progress = progressOf st (line .side) (itemsOf (line .items .words)) (line .item); left = line .left }
+staged-state A = λ i. record { progress = progressOf (A .stage-is i) (A .side-is i) (itemsOf (A .items-is i .words)) (A .item-is i); left = A .left-is i }
 
 -- the same state, its progress named otherwise
-pub progress-is : {s : State} {p q : Progress} {l : ℕ} → s ≡ record { progress = p; left = l } → q ≡ p → s ≡ record { progress = q; left = l }
+pub progress-is : {s : LineState} {p q : Progress} {l : ℕ} → s ≡ record { progress = p; left = l } → q ≡ p → s ≡ record { progress = q; left = l }
 progress-is {l = l} e d = e ∙ ap (λ p. record { progress = p; left = l }) (sym d)
 
 pub no-items : itemsOf (replicate 16 0) ≡ []
 no-items = one-record [] (record { falling = tt; low = omega arith }) .means
 
 module _ (b : ℕ) where
-  pub first-passed : b ≡ 80 → first b ≡ letter Passed []
+  pub first-passed : b ≡ 80 → firstByte b ≡ letter Passed []
   first-passed e = rw (eq-eqb b 80 e)
 
-  pub first-returned : (b ≡ 80 → ⊥) → b ≡ 82 → first b ≡ letter Returned []
+  pub first-returned : (b ≡ 80 → ⊥) → b ≡ 82 → firstByte b ≡ letter Returned []
   first-returned d e = rw (ne-eqb b 80 d, eq-eqb b 82 e)
 
-  pub first-other : (b ≡ 80 → ⊥) → (b ≡ 82 → ⊥) → first b ≡ malformed
+  pub first-other : (b ≡ 80 → ⊥) → (b ≡ 82 → ⊥) → firstByte b ≡ malformed
   first-other d e = rw (ne-eqb b 80 d, ne-eqb b 82 e)
 
 module _ (s : Side) (c : List ℕ) (b : ℕ) where
@@ -54,17 +54,17 @@ module _ (s : Side) (c : List ℕ) (b : ℕ) where
   pub opened-high : 57 < b → opened s c b ≡ malformed
   opened-high l = rw (le-leb 49 b (omega arith), lt-leb b 57 l)
 
-  pub opened-digit : (n : ℕ) → 49 ≤ b → b ≤ 57 → n ≡ b - 48 → opened s c b ≡ number s c n
+  pub opened-digit : (n : ℕ) → 49 ≤ b → b ≤ 57 → n ≡ b - 48 → opened s c b ≡ numeral s c n
   opened-digit n l h e = rw (le-leb 49 b l, le-leb b 57 h, e)
 
   module _ (n : ℕ) where
-    pub number-low : b < 48 → advance (number s c n) b ≡ closed s c n b
+    pub number-low : b < 48 → advance (numeral s c n) b ≡ closed s c n b
     number-low l = rw (lt-leb 48 b l)
 
-    pub number-high : 57 < b → advance (number s c n) b ≡ closed s c n b
+    pub number-high : 57 < b → advance (numeral s c n) b ≡ closed s c n b
     number-high l = rw (le-leb 48 b (omega arith), lt-leb b 57 l)
 
-    pub number-digit : (d : ℕ) → 48 ≤ b → b ≤ 57 → d ≡ b - 48 → advance (number s c n) b ≡ grown s c (10 * n + d)
+    pub number-digit : (d : ℕ) → 48 ≤ b → b ≤ 57 → d ≡ b - 48 → advance (numeral s c n) b ≡ grown s c (10 * n + d)
     number-digit d l h e = rw (le-leb 48 b l, le-leb b 57 h, e)
 
     pub closed-not : isFree 512 n c ≡ false → closed s c n b ≡ malformed
@@ -77,17 +77,17 @@ module _ (s : Side) (c : List ℕ) (n : ℕ) where
   pub grown-high : 512 < n → grown s c n ≡ malformed
   grown-high l = rw (lt-leb n 512 l)
 
-  pub grown-low : n ≤ 512 → grown s c n ≡ number s c n
+  pub grown-low : n ≤ 512 → grown s c n ≡ numeral s c n
   grown-low l = rw (le-leb n 512 l)
 
 -- the next byte: none is left, or one is
-pub step-none : (s : State) (b : ℕ) → s .left ≡ 0 → step s b ≡ record { progress = malformed; left = s .left }
+pub step-none : (s : LineState) (b : ℕ) → s .left ≡ 0 → nextByte s b ≡ record { progress = malformed; left = s .left }
 step-none s b e = let f : s .left - 1 ≡ s .left = omega arith in rw (eq-eqb (s .left) 0 e, f)
 
-pub step-some : (s : State) (b : ℕ) → (s .left ≡ 0 → ⊥) → step s b ≡ record { progress = advance (s .progress) b; left = s .left - 1 }
+pub step-some : (s : LineState) (b : ℕ) → (s .left ≡ 0 → ⊥) → nextByte s b ≡ record { progress = advance (s .progress) b; left = s .left - 1 }
 step-some s b d = rw (ne-eqb (s .left) 0 d)
 
 -- what the stage decides
-pub at-stage : {s : State} {l : ℕ} (r : Reading) (b : ℕ) {st : Stage} → r .stage ≡ st → s ≡ record { progress = advance (progressOf st (r .side) (itemsOf (r .items .words)) (r .item)) b; left = l }
+pub at-stage : {s : LineState} {l : ℕ} (r : Reading) (b : ℕ) {st : Stage} → r .stage ≡ st → s ≡ record { progress = advance (progressOf st (r .side) (itemsOf (r .items .words)) (r .item)) b; left = l }
     → s ≡ record { progress = advance (stateOf r .progress) b; left = l }
 at-stage r b e d = progress-is d (ap (λ st. advance (progressOf st (r .side) (itemsOf (r .items .words)) (r .item)) b) e)

@@ -1,2 +1,4 @@
 -- What the contracts of `report_line` cite.
 pub mod Line
+pub mod Promise
+pub mod Inner

@@ -3,7 +3,9 @@ ghost use mathlib.Core.Path.{_≡_};
 ghost use mathlib.Core.List.{[]};
 ghost use Prim.Native.Nat.{_+_, _*_, _≤_};
 ghost use Rattle.family.specs.Combination.{including, itemsOf};
-ghost use Rattle.report_line.specs.Line.{letter, number, malformed, first, gap, opened, grown, closed, advance, begin, step, stateOf};
+ghost use Rattle.report_line.specs.Line.{letter, numeral, malformed, firstByte, gap, opened, grown, closed, advance, stateOf};
+ghost use Rattle.report_line.specs.Promise.{NewLine, ByteTaken};
+ghost use Rattle.report_line.specs.Inner.{AtStage};
 use combination::Combination;
 
 // Which family a line is for.
@@ -12,8 +14,8 @@ pub enum Side {
     Returned,
 }
 
-// How far a line is read: before its letter, behind its letter or an item taken, behind a space, within an item, behind
-// its newline.
+// How far a line is read: before its letter, behind its letter or an item taken, behind a space, within an item,
+// behind its newline.
 pub enum Stage {
     Blank,
     Letter,
@@ -35,7 +37,7 @@ pub struct Reading {
 impl Reading {
     // A line of which nothing is read yet.
     pub fn new() -> Reading
-        ensures { λ r. ⌜ stateOf r ≡ begin ⌝ }
+        ensures { λ r. ⌜ NewLine r ⌝ }
     {
         Reading {
             stage: Stage::Blank,
@@ -48,7 +50,7 @@ impl Reading {
 
     // The same line at another stage.
     fn at_stage(self, stage: Stage) -> Reading
-        ensures { λ r. ⌜ (r .stage ≡ stage) × (r .side ≡ self .side) × (r .items ≡ self .items) × (r .item ≡ self .item) × (r .left ≡ self .left) ⌝ }
+        ensures { λ r. ⌜ AtStage self stage r ⌝ }
     {
         let side = self.side;
         let items = self.items;
@@ -83,7 +85,7 @@ impl Reading {
 
     // The first byte of a line.
     fn take_letter(self, b: u8) -> Reading
-        ensures { λ r. ⌜ stateOf r ≡ record { progress = first b; left = self .left } ⌝ }
+        ensures { λ r. ⌜ stateOf r ≡ record { progress = firstByte b; left = self .left } ⌝ }
     {
         if b == b'P' {
             return self.begun(Side::Passed);
@@ -109,7 +111,7 @@ impl Reading {
 
     // Within an item, with its number so far.
     fn at_item(self, item: u32) -> Reading
-        ensures { λ r. ⌜ stateOf r ≡ record { progress = number (self .side) (itemsOf (self .items .words)) item; left = self .left } ⌝ }
+        ensures { λ r. ⌜ stateOf r ≡ record { progress = numeral (self .side) (itemsOf (self .items .words)) item; left = self .left } ⌝ }
     {
         let side = self.side;
         let items = self.items;
@@ -188,7 +190,7 @@ impl Reading {
 
     // A byte within an item: one more digit, or what follows the item.
     fn take_digit(self, b: u8) -> Reading
-        ensures { λ r. ⌜ stateOf r ≡ record { progress = advance (number (self .side) (itemsOf (self .items .words)) (self .item)) b; left = self .left } ⌝ }
+        ensures { λ r. ⌜ stateOf r ≡ record { progress = advance (numeral (self .side) (itemsOf (self .items .words)) (self .item)) b; left = self .left } ⌝ }
     {
         if b < b'0' {
             return self.close_item(b);
@@ -216,7 +218,7 @@ impl Reading {
 
     // The line with one byte more.
     pub fn take(mut self, b: u8) -> Reading
-        ensures { λ r. ⌜ stateOf r ≡ step (stateOf self) b ⌝ }
+        ensures { λ r. ⌜ ByteTaken self b r ⌝ }
     {
         if self.left == 0 {
             return self.spoiled();

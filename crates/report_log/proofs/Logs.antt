@@ -1,5 +1,6 @@
 -- A log taken byte by byte: what each function leaves keeps the log that the definitions name.
--- Families held before a call keep their handles, so the other family's handle stays; the rest is by the tally's fields.
+-- Families held before a call keep their handles, so the other family's handle stays; the rest is by the tally's
+-- fields.
 use Prim.Native.Nat.{ℕ, suc, _+_, _-_, _*_, _/_, _≤_, _<_}
 use mathlib.Core.Path.{_≡_, refl, sym, ap, subst, _∙_}
 use mathlib.Core.Bool.{true, false}
@@ -9,7 +10,6 @@ use lib.ListN.{length, getD, take}
 use lib.Seq.{take-suc, take-all}
 use types.Run.{OneOf, miss}
 use denote.Enum.Declared.{tagOf}
-use borrow.Author.Tests.{le-ltb, lt-leb}
 use Rattle.family.specs.Family.{Family}
 use Rattle.family.specs.Operation.{union}
 use Rattle.family.specs.Combination.{itemsOf}
@@ -24,7 +24,8 @@ use Rattle.store_fresh.specs.declared.Freshened.{Freshened}
 use Rattle.store.specs.Capacity.{capacityOf}
 use Rattle.store.specs.Words.{bookOf}
 use Rattle.store.specs.Sound.{Sound}
-use Rattle.store_fresh.specs.Promise.{FreshCall, freshOf}
+use Rattle.store_fresh.specs.Promise.{FreshCall}
+use Rattle.store_fresh.proofs.Freshly.{fresh-is}
 use Rattle.store.proofs.Decoding.{sound-holds}
 use Rattle.store.proofs.Sounds.{fresh-sound}
 use Rattle.report_line.specs.declared.Side.{Side}
@@ -36,24 +37,14 @@ use Rattle.report_log.specs.declared.tally.Ending.{Ending}
 use Rattle.report_log.specs.declared.tally.Ending.the-variants.{Going, Refused, Full}
 use Rattle.report_log.specs.declared.tally.Tally.{Tally}
 use Rattle.report_log.proofs.tally.Ending.{the-type as the-ending}
-use Rattle.report_line.specs.Line.{State, begin, step, progressOf, stateOf}
-use Rattle.report_add.specs.Promise.{Added, next, made, added, After, AddCall}
-use Rattle.report_log.specs.Log.{withPassed, withReturned, Log, opening, counted, readOn, whileGoing, logByte, feed, capped, Keeps, OpenCall, TakeCall}
-use Rattle.report_log.specs.Inner.{TallyIs, familyOf, LineEnd, LineIt}
+use Rattle.report_line.specs.Line.{LineState, begin, nextByte, progressOf, stateOf}
+use Rattle.report_add.specs.Promise.{Added, lineMade, added, After, AddCall}
+use Rattle.report_log.specs.Log.{ofSide, putSide, lotAfter, Log, opening, counted, readOn, whileGoing, logByte, feed, capped}
+use Rattle.report_log.specs.Promise.{Keeps, OpenCall, TakeCall}
+use Rattle.report_log.specs.Inner.{TallyIs, ReadOnIs, sideHandle, passedWith, returnedWith, LineEnd, LineIt}
 use Rattle.report_add.proofs.Makings.{gives, refused-full, next-grown, made-grown}
 
 -- opening
-freshly : (nodes lookup cache : List ℕ) → 3 ≤ length nodes → capacityOf (length nodes) + 1 ≤ length lookup
-    → freshOf nodes lookup cache ≡ record {
-      refusal = 0;
-      store = record { capacity = capacityOf (length nodes); count = 0 };
-      nodes = zeroed 0 (3 * capacityOf (length nodes)) nodes;
-      lookup = zeroed 0 (length lookup) lookup;
-      cache = zeroed 0 (length cache / 4 * 4) cache;
-    }
-unfolding freshOf
-freshly nodes lookup cache l h = rw (le-ltb (length nodes) 3 l, lt-leb (length lookup) (capacityOf (length nodes)) (omega arith))
-
 pub opened : {nodes lookup cache : List ℕ} {f : Freshened} {nodes′ lookup′ cache′ : List ℕ} → FreshCall nodes lookup cache f nodes′ lookup′ cache′ → {s : Store} {p q n : ℕ} {e : Ending} {t : Tally}
     → f .store ≡ s → p ≡ 0 → q ≡ 0 → n ≡ 0 → e ≡ Going → TallyIs s p q n e t → OpenCall nodes lookup t nodes′ lookup′ cache′
 unfolding bookOf
@@ -61,7 +52,7 @@ opened {nodes} {lookup} {cache} {f} {nodes′} {lookup′} {cache′} C {s} {p} 
   where
     go : 3 ≤ length nodes → capacityOf (length nodes) + 1 ≤ length lookup → Keeps (capacityOf (length nodes)) t nodes′ lookup′ cache′ opening
     go l h =
-        let L = C .leaves-is ∙ freshly nodes lookup cache l h in
+        let L = C .leaves-is ∙ fresh-is nodes lookup cache l (omega arith) in
         let x : t .store ≡ record { capacity = capacityOf (length nodes); count = 0 } = T .store-is ∙ sym es ∙ ap (λ y. y .store) L in
         let en : nodes′ ≡ zeroed 0 (3 * capacityOf (length nodes)) nodes = ap (λ y. y .nodes) L in
         let el : lookup′ ≡ zeroed 0 (length lookup) lookup = ap (λ y. y .lookup) L in
@@ -83,26 +74,25 @@ opened {nodes} {lookup} {cache} {f} {nodes′} {lookup′} {cache′} C {s} {p} 
         en₀ = en
 
 -- the line read on, the lot as it was
-pub read-keeps : {capacity : ℕ} {t : Tally} {nodes lookup cache : List ℕ} {g : Log} → Keeps capacity t nodes lookup cache g → {s : State} {e : Ending} (r : Tally)
-    → r .store ≡ t .store → r .passed ≡ t .passed → r .returned ≡ t .returned → r .lines ≡ t .lines → stateOf (r .reading) ≡ s → r .ending ≡ e
-    → Keeps capacity r nodes lookup cache (record { lot = g .lot; lines = g .lines; line = s; ending = e })
-read-keeps {nodes = nodes} K r a b c d f h =
+read-keeps : {capacity : ℕ} {t : Tally} {nodes lookup cache : List ℕ} {g : Log} → Keeps capacity t nodes lookup cache g → {s : LineState} {next : Reading} {e : Ending} {r : Tally}
+    → ReadOnIs t next e r → stateOf next ≡ s → Keeps capacity r nodes lookup cache (record { lot = g .lot; lines = g .lines; line = s; ending = e })
+read-keeps {nodes = nodes} K O f =
     record {
-      sound = rw a (K .sound);
-      capacity-is = ap (λ x. x .capacity) a ∙ K .capacity-is;
-      book-is = ap (λ x. bookOf nodes (x .count)) a ∙ K .book-is;
-      passed-held = rw (a, b) (K .passed-held);
-      passed-is = rw (a, b) (K .passed-is);
-      returned-held = rw (a, c) (K .returned-held);
-      returned-is = rw (a, c) (K .returned-is);
-      lines-is = d ∙ K .lines-is;
-      line-is = f;
-      ending-is = h;
+      sound = rw (O .store-is) (K .sound);
+      capacity-is = ap (λ x. x .capacity) (O .store-is) ∙ K .capacity-is;
+      book-is = ap (λ x. bookOf nodes (x .count)) (O .store-is) ∙ K .book-is;
+      passed-held = rw (O .store-is, O .passed-is) (K .passed-held);
+      passed-is = rw (O .store-is, O .passed-is) (K .passed-is);
+      returned-held = rw (O .store-is, O .returned-is) (K .returned-held);
+      returned-is = rw (O .store-is, O .returned-is) (K .returned-is);
+      lines-is = O .lines-is ∙ K .lines-is;
+      line-is = ap stateOf (O .reading-is) ∙ f;
+      ending-is = O .ending-is;
     }
 
 -- a line added
 pub added-grown : (capacity : ℕ) (B : List Family) (F : Family) (c : List ℕ) → Grown B (added capacity B F c .book)
-added-grown capacity B F c = next-grown capacity (union F) (made capacity B c) (made-grown capacity B c)
+added-grown capacity B F c = next-grown capacity (union F) (lineMade capacity B c) (made-grown capacity B c)
 
 pub record Stays (n : ℕ) (B : List Family) (q : ℕ) (F : Family) : Type 0 where
   pub held : q ≤ n + 1
@@ -119,163 +109,133 @@ stays S A g q F l e =
 
 module _ {capacity : ℕ} {t : Tally} {nodes lookup cache : List ℕ} {g : Log} (K : Keeps capacity t nodes lookup cache g) {m : Placed} {nodes′ lookup′ cache′ : List ℕ} where
   -- the promise of adding, on the log's own book and families
-  for-passed : {c : List ℕ} → AddCall (t .store) nodes lookup cache (t .passed) c m nodes′ lookup′ cache′ → After capacity m nodes′ lookup′ cache′ (added capacity (g .lot .book) (g .lot .passed) c)
-  for-passed C = rw (K .capacity-is, K .passed-is, K .book-is) at (C .on-sound (K .sound) (K .passed-held))
-
-  for-returned : {c : List ℕ} → AddCall (t .store) nodes lookup cache (t .returned) c m nodes′ lookup′ cache′ → After capacity m nodes′ lookup′ cache′ (added capacity (g .lot .book) (g .lot .returned) c)
-  for-returned C = rw (K .capacity-is, K .returned-is, K .book-is) at (C .on-sound (K .sound) (K .returned-held))
+  for-side : (d : Side) {c : List ℕ} → AddCall (t .store) nodes lookup cache (sideHandle d t) c m nodes′ lookup′ cache′ → After capacity m nodes′ lookup′ cache′ (added capacity (g .lot .book) (ofSide d (g .lot)) c)
+  for-side Passed C = rw (K .capacity-is, K .passed-is, K .book-is) at (C .on-sound (K .sound) (K .passed-held))
+  for-side Returned C = rw (K .capacity-is, K .returned-is, K .book-is) at (C .on-sound (K .sound) (K .returned-held))
 
   module _ {a : Added} (A : After capacity m nodes′ lookup′ cache′ a) (w : Grown (g .lot .book) (a .book)) where
     same : (q : ℕ) (F : Family) → q ≤ t .store .count + 1 → at (bookOf nodes (t .store .count)) q ≡ F → Stays (m .store .count) (bookOf nodes′ (m .store .count)) q F
     same q F l e = stays (K .sound) A (rw (K .book-is) w) q F l e
 
+    -- the tally behind a line: what the two handles mean, the lines counted, and how the log goes on
+    line-keeps : {r : Tally} {p q n k : ℕ} {P R : Family} {e : Ending} → Stays (m .store .count) (bookOf nodes′ (m .store .count)) p P → Stays (m .store .count) (bookOf nodes′ (m .store .count)) q R
+        → n ≡ capped k → TallyIs (m .store) p q n e r
+        → Keeps capacity r nodes′ lookup′ cache′ (record { lot = record { book = a .book; passed = P; returned = R }; lines = k; line = begin; ending = e })
+    line-keeps p q e T =
+        record {
+          sound = rw (T .store-is) (A .sound);
+          capacity-is = ap (λ x. x .capacity) (T .store-is) ∙ A .capacity-is;
+          book-is = ap (λ x. bookOf nodes′ (x .count)) (T .store-is) ∙ A .book-is;
+          passed-held = rw (T .store-is, T .passed-is) (p .held);
+          passed-is = rw (T .store-is, T .passed-is) (p .means);
+          returned-held = rw (T .store-is, T .returned-is) (q .held);
+          returned-is = rw (T .store-is, T .returned-is) (q .means);
+          lines-is = T .lines-is ∙ e;
+          line-is = T .line-is;
+          ending-is = T .ending-is;
+        }
+
+    passed-stays : Stays (m .store .count) (bookOf nodes′ (m .store .count)) (t .passed) (g .lot .passed)
+    passed-stays = same (t .passed) (g .lot .passed) (K .passed-held) (K .passed-is)
+
+    returned-stays : Stays (m .store .count) (bookOf nodes′ (m .store .count)) (t .returned) (g .lot .returned)
+    returned-stays = same (t .returned) (g .lot .returned) (K .returned-held) (K .returned-is)
+
     -- the store was full: the families stay
-    pub full-keeps : {r : Tally} → TallyIs (m .store) (t .passed) (t .returned) (t .lines) Full r
+    full-keeps : {r : Tally} → TallyIs (m .store) (t .passed) (t .returned) (t .lines) Full r
         → Keeps capacity r nodes′ lookup′ cache′ (record { lot = record { book = a .book; passed = g .lot .passed; returned = g .lot .returned }; lines = g .lines; line = begin; ending = Full })
-    full-keeps T =
-        let p = same (t .passed) (g .lot .passed) (K .passed-held) (K .passed-is) in
-        let q = same (t .returned) (g .lot .returned) (K .returned-held) (K .returned-is) in
-        record {
-          sound = rw (T .store-is) (A .sound);
-          capacity-is = ap (λ x. x .capacity) (T .store-is) ∙ A .capacity-is;
-          book-is = ap (λ x. bookOf nodes′ (x .count)) (T .store-is) ∙ A .book-is;
-          passed-held = rw (T .store-is, T .passed-is) (p .held);
-          passed-is = rw (T .store-is, T .passed-is) (p .means);
-          returned-held = rw (T .store-is, T .returned-is) (q .held);
-          returned-is = rw (T .store-is, T .returned-is) (q .means);
-          lines-is = T .lines-is ∙ K .lines-is;
-          line-is = T .line-is;
-          ending-is = T .ending-is;
-        }
+    full-keeps T = line-keeps passed-stays returned-stays (K .lines-is) T
 
-    -- one line more: the handles of the two families, whichever changed
-    pub more-keeps : {r : Tally} {p q n : ℕ} {P R : Family} → Stays (m .store .count) (bookOf nodes′ (m .store .count)) p P → Stays (m .store .count) (bookOf nodes′ (m .store .count)) q R
-        → n ≡ capped (suc (t .lines)) → TallyIs (m .store) p q n Going r
-        → Keeps capacity r nodes′ lookup′ cache′ (record { lot = record { book = a .book; passed = P; returned = R }; lines = suc (g .lines); line = begin; ending = Going })
-    more-keeps p q e T =
-        record {
-          sound = rw (T .store-is) (A .sound);
-          capacity-is = ap (λ x. x .capacity) (T .store-is) ∙ A .capacity-is;
-          book-is = ap (λ x. bookOf nodes′ (x .count)) (T .store-is) ∙ A .book-is;
-          passed-held = rw (T .store-is, T .passed-is) (p .held);
-          passed-is = rw (T .store-is, T .passed-is) (p .means);
-          returned-held = rw (T .store-is, T .returned-is) (q .held);
-          returned-is = rw (T .store-is, T .returned-is) (q .means);
-          lines-is = T .lines-is ∙ e ∙ omega (arith, K .lines-is);
-          line-is = T .line-is;
-          ending-is = T .ending-is;
-        }
+    -- one line more of a side: its handle is the one given, the other stays
+    more-keeps : (d : Side) {h n : ℕ} {r : Tally} → m .answer ≡ Handle h → n ≡ capped (suc (t .lines)) → TallyIs (m .store) (passedWith d t h) (returnedWith d t h) n Going r
+        → Keeps capacity r nodes′ lookup′ cache′ (record { lot = putSide d (g .lot) (a .book) (a .family); lines = suc (g .lines); line = begin; ending = Going })
+    more-keeps d {h} {n} {r} e en T = go d T
+      where
+        given : Stays (m .store .count) (bookOf nodes′ (m .store .count)) h (a .family)
+        given = let G = gives A h e in record { held = G .inside; means = G .means }
 
-    pub given-stays : (h : ℕ) → m .answer ≡ Handle h → Stays (m .store .count) (bookOf nodes′ (m .store .count)) h (a .family)
-    given-stays h e = let G = gives A h e in record { held = G .inside; means = G .means }
+        counts : n ≡ capped (suc (g .lines))
+        counts = en ∙ omega (arith, K .lines-is)
+
+        go : (d : Side) → TallyIs (m .store) (passedWith d t h) (returnedWith d t h) n Going r
+            → Keeps capacity r nodes′ lookup′ cache′ (record { lot = putSide d (g .lot) (a .book) (a .family); lines = suc (g .lines); line = begin; ending = Going })
+        go Passed T = line-keeps given returned-stays counts T
+        go Returned T = line-keeps passed-stays given counts T
 
 -- what is counted, by whether the store was full
 module _ (g : Log) (a : Added) where
-  passed-full : a .full ≡ true
-      → record { lot = record { book = a .book; passed = g .lot .passed; returned = g .lot .returned }; lines = g .lines; line = begin; ending = Full } ≡ counted g (withPassed (g .lot) a)
-  passed-full e = rw e
+  pub side-full : (d : Side) → a .full ≡ true
+      → record { lot = record { book = a .book; passed = g .lot .passed; returned = g .lot .returned }; lines = g .lines; line = begin; ending = Full } ≡ counted g (lotAfter d (g .lot) a)
+  side-full Passed e = rw e
+  side-full Returned e = rw e
 
-  passed-more : a .full ≡ false
-      → record { lot = record { book = a .book; passed = a .family; returned = g .lot .returned }; lines = suc (g .lines); line = begin; ending = Going } ≡ counted g (withPassed (g .lot) a)
-  passed-more e = rw e
+  pub side-more : (d : Side) → a .full ≡ false → record { lot = putSide d (g .lot) (a .book) (a .family); lines = suc (g .lines); line = begin; ending = Going } ≡ counted g (lotAfter d (g .lot) a)
+  side-more d e = rw e
 
-  returned-full : a .full ≡ true
-      → record { lot = record { book = a .book; passed = g .lot .passed; returned = g .lot .returned }; lines = g .lines; line = begin; ending = Full } ≡ counted g (withReturned (g .lot) a)
-  returned-full e = rw e
-
-  returned-more : a .full ≡ false
-      → record { lot = record { book = a .book; passed = g .lot .passed; returned = a .family }; lines = suc (g .lines); line = begin; ending = Going } ≡ counted g (withReturned (g .lot) a)
-  returned-more e = rw e
-
-module _ {t : Tally} {nodes lookup cache c : List ℕ} {m : Placed} {nodes′ lookup′ cache′ : List ℕ} {r : Tally} where
-  take-passed-full : AddCall (t .store) nodes lookup cache (t .passed) c m nodes′ lookup′ cache′ → (x : Refusal) → m .answer ≡ NoHandle x → TallyIs (m .store) (t .passed) (t .returned) (t .lines) Full r
-      → LineIt t nodes lookup cache Passed c r nodes′ lookup′ cache′
-  take-passed-full C x e T =
+-- the tally behind a line of a side, by what adding it gave
+module _ {t : Tally} (d : Side) {m : Placed} {r : Tally} where
+  pub end-full : (x : Refusal) → m .answer ≡ NoHandle x → TallyIs (m .store) (t .passed) (t .returned) (t .lines) Full r → LineEnd t d m r
+  end-full x e T =
       record {
-        keeps = λ capacity g K.
-            let A = for-passed K C in
-            subst (λ y. Keeps capacity r nodes′ lookup′ cache′ y) (passed-full g (added capacity (g .lot .book) (g .lot .passed) c) (refused-full A x e)) (full-keeps K A (added-grown capacity (g .lot .book) (g .lot .passed) c) T);
+        is = λ nodes lookup cache c nodes′ lookup′ cache′ C. record {
+          keeps = λ capacity g K.
+              let A = for-side K d C in
+              let w = added-grown capacity (g .lot .book) (ofSide d (g .lot)) c in
+              subst (λ y. Keeps capacity r nodes′ lookup′ cache′ y) (side-full g (added capacity (g .lot .book) (ofSide d (g .lot)) c) d (refused-full A x e)) (full-keeps K A w T);
+        };
       }
 
-  take-returned-full : AddCall (t .store) nodes lookup cache (t .returned) c m nodes′ lookup′ cache′ → (x : Refusal) → m .answer ≡ NoHandle x → TallyIs (m .store) (t .passed) (t .returned) (t .lines) Full r
-      → LineIt t nodes lookup cache Returned c r nodes′ lookup′ cache′
-  take-returned-full C x e T =
+  pub end-more : {h n : ℕ} → m .answer ≡ Handle h → n ≡ capped (suc (t .lines)) → TallyIs (m .store) (passedWith d t h) (returnedWith d t h) n Going r → LineEnd t d m r
+  end-more {h} e en T =
       record {
-        keeps = λ capacity g K.
-            let A = for-returned K C in
-            subst (λ y. Keeps capacity r nodes′ lookup′ cache′ y) (returned-full g (added capacity (g .lot .book) (g .lot .returned) c) (refused-full A x e)) (full-keeps K A (added-grown capacity (g .lot .book) (g .lot .returned) c) T);
+        is = λ nodes lookup cache c nodes′ lookup′ cache′ C. record {
+          keeps = λ capacity g K.
+              let A = for-side K d C in
+              let w = added-grown capacity (g .lot .book) (ofSide d (g .lot)) c in
+              subst (λ y. Keeps capacity r nodes′ lookup′ cache′ y) (side-more g (added capacity (g .lot .book) (ofSide d (g .lot)) c) d (gives A h e .going)) (more-keeps K A w d e en T);
+        };
       }
 
-  take-passed-more : AddCall (t .store) nodes lookup cache (t .passed) c m nodes′ lookup′ cache′ → {h n : ℕ} → m .answer ≡ Handle h → n ≡ capped (suc (t .lines)) → TallyIs (m .store) h (t .returned) n Going r
-      → LineIt t nodes lookup cache Passed c r nodes′ lookup′ cache′
-  take-passed-more C {h} e en T =
-      record {
-        keeps = λ capacity g K.
-            let A = for-passed K C in
-            let w = added-grown capacity (g .lot .book) (g .lot .passed) c in
-            subst (λ y. Keeps capacity r nodes′ lookup′ cache′ y) (passed-more g (added capacity (g .lot .book) (g .lot .passed) c) (gives A h e .going))
-            (more-keeps K A w (given-stays K A w h e) (same K A w (t .returned) (g .lot .returned) (K .returned-held) (K .returned-is)) en T);
-      }
+-- the side by what the match told
+pub end-at : {t : Tally} {d e : Side} {m : Placed} {r : Tally} → d ≡ e → LineEnd t e m r → LineEnd t d m r
+end-at p E = rw p E
 
-  take-returned-more : AddCall (t .store) nodes lookup cache (t .returned) c m nodes′ lookup′ cache′ → {h n : ℕ} → m .answer ≡ Handle h → n ≡ capped (suc (t .lines)) → TallyIs (m .store) (t .passed) h n Going r
-      → LineIt t nodes lookup cache Returned c r nodes′ lookup′ cache′
-  take-returned-more C {h} e en T =
-      record {
-        keeps = λ capacity g K.
-            let A = for-returned K C in
-            let w = added-grown capacity (g .lot .book) (g .lot .returned) c in
-            subst (λ y. Keeps capacity r nodes′ lookup′ cache′ y) (returned-more g (added capacity (g .lot .book) (g .lot .returned) c) (gives A h e .going))
-            (more-keeps K A w (same K A w (t .passed) (g .lot .passed) (K .passed-held) (K .passed-is)) (given-stays K A w h e) en T);
-      }
-
--- the tally behind a line, by what adding it gave
-module _ {t : Tally} {m : Placed} {r : Tally} where
-  pub end-full : (d : Side) (x : Refusal) → m .answer ≡ NoHandle x → TallyIs (m .store) (t .passed) (t .returned) (t .lines) Full r → LineEnd t d m r
-  end-full Passed x e T = record { is = λ nodes lookup cache c nodes′ lookup′ cache′ C. take-passed-full C x e T }
-  end-full Returned x e T = record { is = λ nodes lookup cache c nodes′ lookup′ cache′ C. take-returned-full C x e T }
-
-  pub end-passed : {d : Side} {h n : ℕ} → d ≡ Passed → m .answer ≡ Handle h → n ≡ capped (suc (t .lines)) → TallyIs (m .store) h (t .returned) n Going r → LineEnd t d m r
-  end-passed ed e en T = rw ed record { is = λ nodes lookup cache c nodes′ lookup′ cache′ C. take-passed-more C e en T }
-
-  pub end-returned : {d : Side} {h n : ℕ} → d ≡ Returned → m .answer ≡ Handle h → n ≡ capped (suc (t .lines)) → TallyIs (m .store) (t .passed) h n Going r → LineEnd t d m r
-  end-returned ed e en T = rw ed record { is = λ nodes lookup cache c nodes′ lookup′ cache′ C. take-returned-more C e en T }
-
-pub line-added : {t : Tally} {nodes lookup cache : List ℕ} {f : ℕ} {c : List ℕ} {m : Placed} {r : Tally} {nodes′ lookup′ cache′ : List ℕ} (d : Side) → f ≡ familyOf d t
+pub line-added : {t : Tally} {nodes lookup cache : List ℕ} {f : ℕ} {c : List ℕ} {m : Placed} {r : Tally} {nodes′ lookup′ cache′ : List ℕ} (d : Side) → f ≡ sideHandle d t
     → AddCall (t .store) nodes lookup cache f c m nodes′ lookup′ cache′ → LineEnd t d m r → LineIt t nodes lookup cache d c r nodes′ lookup′ cache′
 line-added d e C E = E .is _ _ _ _ _ _ _ (rw e at C)
 
 -- one byte more of the line, whatever the ending was
 pub record NextIt (t : Tally) (nodes lookup cache : List ℕ) (b : ℕ) (r : Tally) (nodes′ lookup′ cache′ : List ℕ) : Type 0 where
-  pub keeps : (capacity : ℕ) (g : Log) → Keeps capacity t nodes lookup cache g → Keeps capacity r nodes′ lookup′ cache′ (readOn capacity g (step (g .line) b) (step (g .line) b .progress))
+  pub keeps : (capacity : ℕ) (g : Log) → Keeps capacity t nodes lookup cache g → Keeps capacity r nodes′ lookup′ cache′ (readOn capacity g (nextByte (g .line) b) (nextByte (g .line) b .progress))
 
-module _ {t : Tally} {nodes lookup cache : List ℕ} (b : ℕ) (next : Reading) (e : stateOf next ≡ step (stateOf (t .reading)) b) where
-  read-is : {capacity : ℕ} {g : Log} → Keeps capacity t nodes lookup cache g → stateOf next ≡ step (g .line) b
-  read-is K = e ∙ ap (λ s. step s b) (K .line-is)
+module _ {t : Tally} {nodes lookup cache : List ℕ} (b : ℕ) (next : Reading) (e : stateOf next ≡ nextByte (stateOf (t .reading)) b) where
+  read-is : {capacity : ℕ} {g : Log} → Keeps capacity t nodes lookup cache g → stateOf next ≡ nextByte (g .line) b
+  read-is K = e ∙ ap (λ s. nextByte s b) (K .line-is)
 
-  staged : {capacity : ℕ} {g : Log} → Keeps capacity t nodes lookup cache g → {st : Stage} → next .stage ≡ st → step (g .line) b .progress ≡ progressOf st (next .side) (itemsOf (next .items .words)) (next .item)
+  staged : {capacity : ℕ} {g : Log} → Keeps capacity t nodes lookup cache g → {st : Stage} → next .stage ≡ st → nextByte (g .line) b .progress ≡ progressOf st (next .side) (itemsOf (next .items .words)) (next .item)
   staged K d = sym (ap (λ s. s .progress) (read-is K)) ∙ ap (λ x. progressOf x (next .side) (itemsOf (next .items .words)) (next .item)) d
 
   pub next-whole : {r : Tally} {nodes′ lookup′ cache′ : List ℕ} → next .stage ≡ Stage.Whole → LineIt t nodes lookup cache (next .side) (itemsOf (next .items .words)) r nodes′ lookup′ cache′ → NextIt t nodes lookup cache b r nodes′ lookup′ cache′
   next-whole {r} {nodes′} {lookup′} {cache′} d L =
-      record { keeps = λ capacity g K. subst (λ p. Keeps capacity r nodes′ lookup′ cache′ (readOn capacity g (step (g .line) b) p)) (sym (staged K d)) (L .keeps capacity g K) }
+      record { keeps = λ capacity g K. subst (λ p. Keeps capacity r nodes′ lookup′ cache′ (readOn capacity g (nextByte (g .line) b) p)) (sym (staged K d)) (L .keeps capacity g K) }
 
-pub next-read : {t : Tally} {nodes lookup cache : List ℕ} (b : ℕ) (next : Reading) → stateOf next ≡ step (stateOf (t .reading)) b → {st : Stage} → next .stage ≡ st → {r : Tally} (end : Ending)
-    → (r .store ≡ t .store) × (r .passed ≡ t .passed) × (r .returned ≡ t .returned) × (r .lines ≡ t .lines) × (r .reading ≡ next) × (r .ending ≡ end)
-    → ((capacity : ℕ) (g : Log) (s : State) (d : Side) (c : List ℕ) (n : ℕ) → readOn capacity g s (progressOf st d c n) ≡ record { lot = g .lot; lines = g .lines; line = s; ending = end })
+pub next-read : {t : Tally} {nodes lookup cache : List ℕ} (b : ℕ) (next : Reading) → stateOf next ≡ nextByte (stateOf (t .reading)) b → {st : Stage} → next .stage ≡ st → {r : Tally} (end : Ending)
+    → ReadOnIs t next end r
+    → ((capacity : ℕ) (g : Log) (s : LineState) (d : Side) (c : List ℕ) (n : ℕ) → readOn capacity g s (progressOf st d c n) ≡ record { lot = g .lot; lines = g .lines; line = s; ending = end })
     → NextIt t nodes lookup cache b r nodes lookup cache
 next-read {t} {nodes} {lookup} {cache} b next e {st} d {r} end f h =
     record {
       keeps = λ capacity g K.
           subst (λ x. Keeps capacity r nodes lookup cache x)
-          (sym (h capacity g (step (g .line) b) (next .side) (itemsOf (next .items .words)) (next .item)) ∙ sym (ap (λ p. readOn capacity g (step (g .line) b) p) (staged b next e K d)))
-          (read-keeps K r (f .0) (f .1) (f .2) (f .3) (ap stateOf (f .4) ∙ read-is b next e K) (f .5));
+          (sym (h capacity g (nextByte (g .line) b) (next .side) (itemsOf (next .items .words)) (next .item)) ∙ sym (ap (λ p. readOn capacity g (nextByte (g .line) b) p) (staged b next e K d)))
+          (read-keeps K f (read-is b next e K));
     }
 
 -- the stages at which a line goes on: blank, letter, space, number
 abbrev going : List ℕ
 going = 0 ∷ 1 ∷ 2 ∷ 3 ∷ []
 
-going-on : (st : Stage) → OneOf going (tagOf the-stage st) → (capacity : ℕ) (g : Log) (s : State) (d : Side) (c : List ℕ) (n : ℕ)
+going-on : (st : Stage) → OneOf going (tagOf the-stage st) → (capacity : ℕ) (g : Log) (s : LineState) (d : Side) (c : List ℕ) (n : ℕ)
     → readOn capacity g s (progressOf st d c n) ≡ record { lot = g .lot; lines = g .lines; line = s; ending = Going }
 going-on Stage.Blank k capacity g s d c n = refl
 going-on Stage.Letter k capacity g s d c n = refl
@@ -284,8 +244,8 @@ going-on Stage.Number k capacity g s d c n = refl
 going-on Stage.Whole k capacity g s d c n = absurd (miss going 4 tt k)
 going-on Stage.Malformed k capacity g s d c n = absurd (miss going 5 tt k)
 
-pub next-going : {t : Tally} {nodes lookup cache : List ℕ} (b : ℕ) (next : Reading) → stateOf next ≡ step (stateOf (t .reading)) b → OneOf going (tagOf the-stage (next .stage)) → {r : Tally}
-    → (r .store ≡ t .store) × (r .passed ≡ t .passed) × (r .returned ≡ t .returned) × (r .lines ≡ t .lines) × (r .reading ≡ next) × (r .ending ≡ Going) → NextIt t nodes lookup cache b r nodes lookup cache
+pub next-going : {t : Tally} {nodes lookup cache : List ℕ} (b : ℕ) (next : Reading) → stateOf next ≡ nextByte (stateOf (t .reading)) b → OneOf going (tagOf the-stage (next .stage)) → {r : Tally}
+    → ReadOnIs t next Going r → NextIt t nodes lookup cache b r nodes lookup cache
 next-going b next e k f = next-read b next e refl Going f (going-on (next .stage) k)
 
 stopped : (x : Ending) → OneOf (1 ∷ 2 ∷ []) (tagOf the-ending x) → (u w : Log) → whileGoing x u w ≡ w
@@ -300,7 +260,7 @@ module _ {t : Tally} {nodes lookup cache : List ℕ} {b : ℕ} where
   byte-going {r} {nodes′} {lookup′} {cache′} e N =
       record {
         keeps = λ capacity g K.
-            subst (λ x. Keeps capacity r nodes′ lookup′ cache′ (whileGoing x (readOn capacity g (step (g .line) b) (step (g .line) b .progress)) g)) (sym e ∙ K .ending-is) (N .keeps capacity g K);
+            subst (λ x. Keeps capacity r nodes′ lookup′ cache′ (whileGoing x (readOn capacity g (nextByte (g .line) b) (nextByte (g .line) b .progress)) g)) (sym e ∙ K .ending-is) (N .keeps capacity g K);
       }
 
   -- a log that ended, either way
@@ -310,7 +270,7 @@ module _ {t : Tally} {nodes lookup cache : List ℕ} {b : ℕ} where
       record {
         keeps = λ capacity g K.
             subst (λ y. Keeps capacity t nodes lookup cache y)
-            (sym (stopped (t .ending) k (readOn capacity g (step (g .line) b) (step (g .line) b .progress)) g) ∙ ap (λ y. whileGoing y (readOn capacity g (step (g .line) b) (step (g .line) b .progress)) g) (K .ending-is)) K;
+            (sym (stopped (t .ending) k (readOn capacity g (nextByte (g .line) b) (nextByte (g .line) b .progress)) g) ∙ ap (λ y. whileGoing y (readOn capacity g (nextByte (g .line) b) (nextByte (g .line) b .progress)) g) (K .ending-is)) K;
       }
 
 -- a piece, byte by byte

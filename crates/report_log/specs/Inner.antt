@@ -6,11 +6,13 @@ use Rattle.store.specs.declared.record.Store.{Store}
 use Rattle.store.specs.declared.record.Placed.{Placed}
 use Rattle.report_line.specs.declared.Side.{Side}
 use Rattle.report_line.specs.declared.Side.the-variants.{Passed, Returned}
+use Rattle.report_line.specs.declared.Reading.{Reading}
 use Rattle.report_log.specs.declared.tally.Ending.{Ending}
 use Rattle.report_log.specs.declared.tally.Tally.{Tally}
 use Rattle.report_add.specs.Promise.{AddCall}
 use Rattle.report_line.specs.Line.{begin, stateOf}
-use Rattle.report_log.specs.Log.{Log, takeLine, counted, Keeps}
+use Rattle.report_log.specs.Log.{Log, takeLine, counted}
+use Rattle.report_log.specs.Promise.{Keeps}
 
 -- a tally by its fields, behind the end of a line
 pub record TallyIs (s : Store) (passed returned lines : ℕ) (e : Ending) (t : Tally) : Type 0 where
@@ -21,15 +23,35 @@ pub record TallyIs (s : Store) (passed returned lines : ℕ) (e : Ending) (t : T
   pub line-is : stateOf (t .reading) ≡ begin
   pub ending-is : t .ending ≡ e
 
+-- a tally by its fields, with its line read on
+pub record ReadOnIs (t : Tally) (reading : Reading) (e : Ending) (r : Tally) : Type 0 where
+  pub store-is : r .store ≡ t .store
+  pub passed-is : r .passed ≡ t .passed
+  pub returned-is : r .returned ≡ t .returned
+  pub lines-is : r .lines ≡ t .lines
+  pub reading-is : r .reading ≡ reading
+  pub ending-is : r .ending ≡ e
+
 -- a whole line taken
 pub record LineIt (t : Tally) (nodes lookup cache : List ℕ) (d : Side) (c : List ℕ) (r : Tally) (nodes′ lookup′ cache′ : List ℕ) : Type 0 where
-  pub keeps : (capacity : ℕ) (g : Log) → Keeps capacity t nodes lookup cache g → Keeps capacity r nodes′ lookup′ cache′ (counted g (takeLine capacity (g .lot) d c))
+  pub keeps : (capacity : ℕ) (g : Log) → Keeps capacity t nodes lookup cache g
+      → Keeps capacity r nodes′ lookup′ cache′ (counted g (takeLine capacity (g .lot) d c))
 
--- the family that a line of a side goes to
-abbrev pub familyOf : Side → Tally → ℕ
-familyOf Passed t = t .passed
-familyOf Returned t = t .returned
+-- the handle of the family that a line of a side goes to, and the two handles with another one there
+abbrev pub sideHandle : Side → Tally → ℕ
+sideHandle Passed t = t .passed
+sideHandle Returned t = t .returned
+
+abbrev pub passedWith : Side → Tally → ℕ → ℕ
+passedWith Passed t h = h
+passedWith Returned t h = t .passed
+
+abbrev pub returnedWith : Side → Tally → ℕ → ℕ
+returnedWith Passed t h = t .returned
+returnedWith Returned t h = h
 
 -- the tally behind a line of a side, by what adding it gave
 pub record LineEnd (t : Tally) (d : Side) (m : Placed) (r : Tally) : Type 0 where
-  pub is : (nodes lookup cache c nodes′ lookup′ cache′ : List ℕ) → AddCall (t .store) nodes lookup cache (familyOf d t) c m nodes′ lookup′ cache′ → LineIt t nodes lookup cache d c r nodes′ lookup′ cache′
+  pub is : (nodes lookup cache c nodes′ lookup′ cache′ : List ℕ)
+      → AddCall (t .store) nodes lookup cache (sideHandle d t) c m nodes′ lookup′ cache′
+      → LineIt t nodes lookup cache d c r nodes′ lookup′ cache′

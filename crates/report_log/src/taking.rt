@@ -1,21 +1,21 @@
 // A log, taken in pieces of any size: its lines are counted, and each is added to its family.
 ghost use mathlib.Core.Path.{_≡_};
 ghost use mathlib.Core.List.{[], _∷_};
-ghost use Rattle.report_log.specs.Log.{TakeCall};
-ghost use Rattle.report_log.specs.Inner.{familyOf, LineEnd};
-use report_add::add;
-use report_line::Side;
-use report_line::Stage;
+ghost use Rattle.report_log.specs.Promise.{TakeCall};
+ghost use Rattle.report_log.specs.Inner.{sideHandle, LineEnd};
 use crate::tally::Ending;
 use crate::tally::Tally;
 use crate::tally::bumped;
 use crate::tally::tally_of;
+use report_add::add;
+use report_line::Side;
+use report_line::Stage;
 use store::record::PlaceAnswer;
 use store::record::Placed;
 
-// The family that a line of this side goes to.
-fn family_of(t: Tally, side: Side) -> u32
-    ensures { λ r. ⌜ r ≡ familyOf side t ⌝ }
+// The handle of the family that a line of this side goes to.
+fn side_handle(t: Tally, side: Side) -> u32
+    ensures { λ r. ⌜ r ≡ sideHandle side t ⌝ }
 {
     match side {
         Side::Passed => t.passed,
@@ -53,7 +53,7 @@ fn take_byte(t: Tally, nodes: &mut [u32], lookup: &mut [u32], cache: &mut [u32],
     let stage = next.stage;
     match stage {
         Stage::Whole => {
-            let family = family_of(t, side);
+            let family = side_handle(t, side);
             let placed = add(t.store, nodes, lookup, cache, family, next.items);
             line_end(t, side, placed)
         }

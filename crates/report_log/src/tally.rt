@@ -1,12 +1,13 @@
-// A log so far: what is kept of it, its definition, and opening one.
+// A log so far: what is kept of it, and opening one.
 ghost use mathlib.Core.Path.{_≡_};
 ghost use Prim.Native.Nat.{suc};
-ghost use Rattle.report_log.specs.Log.{capped, OpenCall};
-ghost use Rattle.report_log.specs.Inner.{TallyIs};
-use store_fresh::empty;
-use store_fresh::fresh;
+ghost use Rattle.report_log.specs.Log.{capped};
+ghost use Rattle.report_log.specs.Promise.{OpenCall};
+ghost use Rattle.report_log.specs.Inner.{TallyIs, ReadOnIs};
 use report_line::Reading;
 use store::record::Store;
+use store_fresh::empty;
+use store_fresh::fresh;
 
 // Whether a log goes on, or ended with a line that was refused or found the store full.
 pub enum Ending {
@@ -38,7 +39,7 @@ pub fn bumped(n: u64) -> u64
 impl Tally {
     // The same log with its line read on, and how it goes on.
     pub fn read_on(self, reading: Reading, ending: Ending) -> Tally
-        ensures { λ r. ⌜ (r .store ≡ self .store) × (r .passed ≡ self .passed) × (r .returned ≡ self .returned) × (r .lines ≡ self .lines) × (r .reading ≡ reading) × (r .ending ≡ ending) ⌝ }
+        ensures { λ r. ⌜ ReadOnIs self reading ending r ⌝ }
     {
         let store = self.store;
         Tally {

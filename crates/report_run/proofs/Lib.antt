@@ -1,3 +1,3 @@
 -- The laws of reading a log and of the report on it.
-pub mod Onward
-pub mod Reported
+pub mod Feedings
+pub mod Reports

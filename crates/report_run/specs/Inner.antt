@@ -1,9 +1,33 @@
--- What reading leaves: no contract can say which bytes the system gave, but all that is taken is taken as a log.
-use Prim.Native.Nat.{ℕ}
+-- What the functions below `read_all` and `report_on` promise each other. A reader of the promises can pass this page
+-- over.
+use Prim.Native.Nat.{ℕ, _≤_}
+use mathlib.Core.Path.{_≡_}
 use mathlib.Core.List.{List}
+use lib.ListN.{length, take}
 use Rattle.report_log.specs.declared.tally.Tally.{Tally}
-use Rattle.report_log.specs.Log.{Log, feed, Keeps}
+use Rattle.report_close.specs.Report.{reportOf}
+use Rattle.report_run.specs.declared.feeding.Fed.{Fed}
+use Rattle.report_run.specs.declared.report.Report.{Report}
+use Rattle.report_run.specs.Answers.{ReadAnswer}
+use Rattle.report_run.specs.Promise.{ReadCall, ReportOf}
 
--- words that keep a log keep it afterwards with some bytes behind it
-pub record Follows (t : Tally) (nodes lookup cache : List ℕ) (t′ : Tally) (nodes′ lookup′ cache′ : List ℕ) : Type 0 where
-  pub keeps : (capacity : ℕ) (g : Log) → Keeps capacity t nodes lookup cache g → (bytes : List ℕ) × Keeps capacity t′ nodes′ lookup′ cache′ (feed capacity g bytes)
+-- one read, taken
+pub record OneRead (t : Tally) (nodes lookup cache : List ℕ) (r : Fed) (nodes′ lookup′ cache′ : List ℕ) : Type 0 where
+  pub answer : ReadAnswer
+  pub taken : ReadCall t nodes lookup cache (answer .buffer) (answer .got) r nodes′ lookup′ cache′
+
+-- "(500 nodes, 1,001 lookup words, 1,024 cache words)": a report, on words of these lengths
+pub record Reported (lookup cache : List ℕ) (r : Report) (out′ : List ℕ) : Type 0 where
+  pub lookup-words : length lookup ≡ 1001
+  pub cache-words : length cache ≡ 1024
+  pub report : ReportOf r out′
+
+-- a text that is a report, on some input
+pub record IsReport (text : List ℕ) : Type 0 where
+  pub input : List ℕ
+  pub is : text ≡ reportOf 500 input
+
+-- an output with a report at its front
+pub record HasReport (out : List ℕ) (n : ℕ) : Type 0 where
+  pub inside : n ≤ length out
+  pub report : IsReport (take n out)

@@ -1,3 +1,4 @@
 -- What the contracts of `report_run` cite.
-pub mod Inner
+pub mod Answers
 pub mod Promise
+pub mod Inner

@@ -1,20 +1,52 @@
--- What a report comes to: no contract can say which bytes the system gave, but what is made of them is a report.
-use Prim.Native.Nat.{ℕ, _≤_}
+-- What reading a log and reporting on it promise. Which answers the system gives to a read, and what becomes of the
+-- bytes that it is handed, no contract can say; what is made of the answers is exact.
+use Prim.Native.Nat.{ℕ, suc, _≤_}
 use mathlib.Core.Path.{_≡_}
-use mathlib.Core.Bool.{Bool, true}
-use mathlib.Core.List.{List}
+use mathlib.Core.Bool.{false}
+use mathlib.Core.List.{List, [], _∷_, _++_}
+use lib.IntN.{ℤ, pos, negsuc}
 use lib.ListN.{length, take}
+use Rattle.report_log.specs.declared.tally.Tally.{Tally}
+use Rattle.report_log.specs.Promise.{TakeCall}
 use Rattle.report_close.specs.Report.{reportOf}
+use Rattle.report_run.specs.declared.feeding.Input.the-variants.{More, Done, Failed}
+use Rattle.report_run.specs.declared.feeding.Fed.{Fed}
 use Rattle.report_run.specs.declared.report.Report.{Report}
+use Rattle.report_run.specs.declared.report.Run.{Run}
+use Rattle.report_run.specs.Answers.{ReadAnswer, inputOf, behind, Heard}
 
--- "`gatecount` (500 nodes, ..)": a report that was made is the one of some input, on a store of 500 nodes
-pub record Reported (r : Report) (out′ : List ℕ) : Type 0 where
-  pub inside : r .length ≤ length out′
-  pub is : r .made ≡ true → (input : List ℕ) × (take (r .length) out′ ≡ reportOf 500 input)
+-- `take_read`, by what the system answered: below 0 the read failed and all is as it came; 0 is the end of the input
+-- and all is as it came; else the log is fed with exactly so many bytes of the buffer, and there is more while it
+-- goes on.
+pub data ReadCall (t : Tally) (nodes lookup cache buffer : List ℕ) : ℤ → Fed → List ℕ → List ℕ → List ℕ → Type 0 where
+  failed : (k : ℕ) → ReadCall t nodes lookup cache buffer (negsuc k) (record { tally = t; input = Failed }) nodes lookup cache
+  ended : ReadCall t nodes lookup cache buffer (pos 0) (record { tally = t; input = Done }) nodes lookup cache
+  brought : (k : ℕ) {t′ : Tally} {nodes′ lookup′ cache′ : List ℕ} → TakeCall t nodes lookup cache (take (suc k) buffer) t′ nodes′ lookup′ cache′
+      → ReadCall t nodes lookup cache buffer (pos (suc k)) (record { tally = t′; input = behind (t′ .ending) }) nodes′ lookup′ cache′
 
--- What running the report leaves: yes only where a report was made, of some input on a store of 500 nodes. Left open: which bytes the system gave, and what became of those that it was handed.
-pub record Ran (r : Bool) : Type 0 where
-  pub report : Report
-  pub out : List ℕ
-  pub is : Reported report out
-  pub made : r ≡ true → report .made ≡ true
+-- The reads of a log, turn by turn: each takes what one read brought, and comes only where there is more.
+pub data Reads (t : Tally) (nodes lookup cache : List ℕ) : List ReadAnswer → Fed → List ℕ → List ℕ → List ℕ → Type 0 where
+  none : Reads t nodes lookup cache [] (record { tally = t; input = More }) nodes lookup cache
+  turn : {qs : List ReadAnswer} {f : Fed} {nodes₁ lookup₁ cache₁ : List ℕ} → Reads t nodes lookup cache qs f nodes₁ lookup₁ cache₁ → f .input ≡ More
+      → (a : ReadAnswer) {f′ : Fed} {nodes₂ lookup₂ cache₂ : List ℕ} → ReadCall (f .tally) nodes₁ lookup₁ cache₁ (a .buffer) (a .got) f′ nodes₂ lookup₂ cache₂
+      → Reads t nodes lookup cache (qs ++ (a ∷ [])) f′ nodes₂ lookup₂ cache₂
+
+-- `read_all`: what it leaves is what the reads of a log leave.
+pub record ReadAllCall (t : Tally) (nodes lookup cache : List ℕ) (r : Fed) (nodes′ lookup′ cache′ : List ℕ) : Type 0 where
+  pub answers : List ReadAnswer
+  pub reads : Reads t nodes lookup cache answers r nodes′ lookup′ cache′
+
+-- "`gatecount` (500 nodes, ..)": how the input stands is what the reads say; where it is done the output has the
+-- report on all that they brought, on a store of 500 nodes, and else there is none.
+pub record ReportOf (r : Report) (out′ : List ℕ) : Type 0 where
+  pub answers : List ReadAnswer
+  pub heard : Heard 500 answers (r .input)
+  pub inside : r .bytes ≤ length out′
+  pub text-is : r .input ≡ Done → take (r .bytes) out′ ≡ reportOf 500 (inputOf answers)
+  pub no-text : (r .input ≡ Done → ⊥) → r .bytes ≡ 0
+
+-- `report_on`: nothing counts as written where a read failed; where the input is done, whether the report was written
+-- is the answer of the system's write.
+pub record ReportCall (r : Run) (out′ : List ℕ) : Type 0 where
+  pub report : ReportOf (r .report) out′
+  pub unwritten : (r .report .input ≡ Done → ⊥) → r .written ≡ false

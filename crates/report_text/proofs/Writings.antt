@@ -8,7 +8,8 @@ use lib.ListN.{length, getD, take, set, length-set, length-append}
 use lib.Seq.{take-suc, take-all, take-suc-set}
 use borrow.Author.Tests.{lt-ltb, le-ltb}
 use Rattle.words.proofs.Cases.{by-lt}
-use Rattle.report_text.specs.Text.{digitsFrom, decimalOf, sumText, Wrote}
+use Rattle.report_text.specs.Text.{digitsFrom, decimalOf, sumText}
+use Rattle.report_text.specs.Promise.{Wrote}
 
 -- one byte
 pub wrote-byte : (out : List ℕ) (at b to : ℕ) → to ≡ at + 1 → at < length out → Wrote out at (b ∷ []) to (set out at b)

@@ -1,12 +1,11 @@
 -- What the program prints: document 01, 'Report program', as bytes.
-use Prim.Native.Nat.{ℕ, zero, suc, _+_, _/_, _%_, _≤_}
-use mathlib.Core.Path.{_≡_}
+use Prim.Native.Nat.{ℕ, zero, suc, _+_, _/_, _%_}
 use mathlib.Core.Bool.{cond}
 use mathlib.Core.List.{List, [], _∷_, _++_}
 use lib.Dec.{ltb}
-use lib.ListN.{length, take}
 
--- The digits of a number with no leading zeros: its last digit behind those of its tenth. The first number says how often to divide at most.
+-- The digits of a number with no leading zeros: its last digit behind those of its tenth.
+-- The first number says how often to divide at most.
 abbrev pub digitsFrom : ℕ → ℕ → List ℕ
 digitsFrom zero n = []
 digitsFrom (suc k) n = cond (ltb n 10) ((48 + n) ∷ []) (digitsFrom k (n / 10) ++ ((48 + n % 10) ∷ []))
@@ -46,7 +45,8 @@ bothWord = 98 ∷ 111 ∷ 116 ∷ 104 ∷ 32 ∷ []
 abbrev pub onlyWord : List ℕ
 onlyWord = 111 ∷ 110 ∷ 108 ∷ 121 ∷ 45 ∷ 114 ∷ 101 ∷ 116 ∷ 117 ∷ 114 ∷ 110 ∷ 101 ∷ 100 ∷ 32 ∷ []
 
--- "prints only `line 3 refused`, with its number counted from 1, and a full store `line 3 full`": the last word is either
+-- "prints only `line 3 refused`, with its number counted from 1, and a full store `line 3 full`": the last word is
+-- either
 abbrev pub lineText : ℕ → List ℕ → List ℕ
 lineText n word = lineWord ++ (decimalOf n ++ word)
 
@@ -56,9 +56,3 @@ sumText word n = word ++ (decimalOf n ++ (10 ∷ []))
 
 abbrev pub sumsText : ℕ → ℕ → ℕ → ℕ → List ℕ
 sumsText passed returned both only = sumText passedWord passed ++ (sumText returnedWord returned ++ (sumText bothWord both ++ sumText onlyWord only))
-
--- bytes written behind the first ones of an output: what stands up to the new place, and that the place lies within
-pub record Wrote (out : List ℕ) (from : ℕ) (text : List ℕ) (to : ℕ) (out′ : List ℕ) : Type 0 where
-  pub end : to ≡ from + length text
-  pub inside : to ≤ length out′
-  pub is : take to out′ ≡ take from out ++ text

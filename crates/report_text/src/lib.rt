@@ -2,7 +2,9 @@
 ghost use Prim.Native.Nat.{_+_, _≤_, _<_};
 ghost use mathlib.Core.List.{[], _∷_};
 ghost use lib.ListN.{length};
-ghost use Rattle.report_text.specs.Text.{decimalOf, lineText, sumText, sumsText, Wrote};
+ghost use Rattle.report_text.specs.Text.{decimalOf, lineText, sumText, sumsText};
+ghost use Rattle.report_text.specs.Promise.{Wrote};
+ghost use Rattle.report_text.specs.Inner.{LineFits};
 
 // Writes one byte at a place, and gives the next one.
 fn put_byte(out: &mut [u8], at: usize, b: u8) -> usize
@@ -61,7 +63,7 @@ pub fn put_sums(out: &mut [u8], passed: u64, returned: u64, both: u64, only: u64
 
 // Writes the number of a line and a word behind it.
 pub fn put_line(out: &mut [u8], n: u64, word: &[u8]) -> usize
-    requires { ⌜ (128 ≤ length (now out)) × (length (now word) ≤ 20) ⌝ }
+    requires { ⌜ LineFits (now out) (now word) ⌝ }
     ensures { λ r. ⌜ Wrote (now (out .entry)) 0 (lineText n (now (word .entry))) r (now (out .exit)) ⌝ }
 {
     let first = put_word(out, 0, b"line ");

@@ -18,8 +18,8 @@ arg-count-requires c κs = search needs
 loop-holds : tie.Need-loop-holds Inv-loop μ-loop
 loop-holds c = tt
 
-report-on-requires : tie.Need-report-on-requires Inv-loop μ-loop
-report-on-requires c κs = search needs
+report-file-requires : tie.Need-report-file-requires Inv-loop μ-loop
+report-file-requires c κs = search needs
 
 add-i : tie.Need-add-i Inv-loop μ-loop
 add-i c = search needs
@@ -41,7 +41,7 @@ main-spec =
     μ-loop
     arg-count-requires
     loop-holds
-    report-on-requires
+    report-file-requires
     add-i
     loop-less
     loop-again

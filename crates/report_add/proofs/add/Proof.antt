@@ -2,7 +2,6 @@
 -- The family's handle still means the family after the combination is made.
 use borrow.Author.Needs.{needs}
 use Rattle.report_add.proofs.Makings.{add-refused, add-united}
-use borrow.Author.Needs.{needs}
 use Rattle.report_add.proofs.add.Statement.{statement}
 use Rattle.report_add.proofs.add.Tie as tie
 
@@ -37,16 +36,10 @@ same-length-6 : tie.Need-same-length-6
 same-length-6 c = search needs
 
 returns : tie.Need-returns
-returns c =
-    let at-make-combination : tie.After-make-combination = search in
-    add-refused (at-make-combination .make-combination .ensures) _ _ (c .enum-told .given .1)
+returns c = search add-refused
 
 returns-2 : tie.Need-returns-2
-returns-2 c =
-    let at-union : tie.After-union = search in
-    let at-answer : tie.After-answer = search in
-    let at-make-combination : tie.After-make-combination = search in
-    add-united (at-make-combination .make-combination .ensures) _ (at-answer .answer .given .1) (at-union .union .ensures)
+returns-2 c = search add-united
 
 pub add-spec : {M : Type 1} → statement M
 add-spec =

@@ -2,7 +2,6 @@
 -- The laws of `Makings` have one case for each way out.
 use borrow.Author.Needs.{needs}
 use Rattle.report_add.proofs.Makings.{turn-absent, turn-refused, turn-changed}
-use borrow.Author.Needs.{needs}
 use Rattle.report_add.proofs.change_by.Statement.{statement}
 use Rattle.report_add.proofs.change_by.Tie as tie
 
@@ -28,19 +27,13 @@ same-length-3 : tie.Need-same-length-3
 same-length-3 c = search needs
 
 returns : tie.Need-returns
-returns c = turn-absent _ _ _ _ _ _ ((c .before) .contains .ensures) (c .if1 .taken)
+returns c = search turn-absent
 
 returns-2 : tie.Need-returns-2
-returns-2 c = turn-refused _ _ _ _ _ _ _ (c .enum-told .given .1)
+returns-2 c = search turn-refused
 
 returns-3 : tie.Need-returns-3
-returns-3 c =
-    let at-change : tie.After-change = search in
-    let at-answer : tie.After-answer = search in
-    let at-if1 : tie.Else1 = search in
-    let at-contains : tie.After-contains = search in
-    let at-start : tie.Start = search in
-    turn-changed _ _ _ _ _ _ (at-contains .contains .ensures) (at-if1 .if1 .left) (at-start .pre .0) (at-start .pre .1) (at-answer .answer .given .1) (at-change .change .ensures)
+returns-3 c = search turn-changed
 
 pub change-by-spec : {M : Type 1} → statement M
 change-by-spec =

@@ -1,7 +1,7 @@
 -- Every item from 1 to 512 that the combination holds is put in by one Change, the smallest first.
 -- Before each turn the combination of the smaller items is made.
 use borrow.Author.Needs.{needs}
-use Prim.Native.Nat.{_-_}
+use Prim.Native.Nat.{_-_, _≤_}
 use mathlib.Core.Path.{refl}
 use native.Mathlib.Omega.{arith}
 use Rattle.report_add.proofs.Makings.{Making, making-start, making-again, making-end}
@@ -26,7 +26,8 @@ loop-holds c = making-start _ _ _ _ _ _ 1 (c .placed .ensures .1) ((c .before) .
 change-by-requires : tie.Need-change-by-requires Inv-loop μ-loop
 change-by-requires c κs =
     let at-loop : tie.At-loop Inv-loop μ-loop = search in
-    (at-loop .loop .inv .low, (c .before .before .before) .loop-test .taken)
+    let at-loop-test : tie.In-loop Inv-loop μ-loop = search in
+    record { low = at-loop .loop .inv .low; high = omega (arith, at-loop-test .loop-test .taken) }
 
 add-item : tie.Need-add-item Inv-loop μ-loop
 add-item c = search needs
@@ -36,10 +37,10 @@ loop-less c = search needs
 
 loop-again : tie.Need-loop-again Inv-loop μ-loop
 loop-again c =
-    let at-change-by : tie.After-change-by Inv-loop μ-loop = search in
     let at-loop-test : tie.In-loop Inv-loop μ-loop = search in
     let at-loop : tie.At-loop Inv-loop μ-loop = search in
-    making-again (at-loop .loop .inv) (at-loop-test .loop-test .taken) (at-change-by .change-by .ensures) (at-change-by .change-by .kept .1 .0) (at-change-by .change-by .kept .1 .1 .0) (at-change-by .change-by .kept .1 .1 .1 .0)
+    let low : at-loop .loop .item ≤ 512 = omega (arith, at-loop-test .loop-test .taken) in
+    search making-again
 
 same-length : tie.Need-same-length Inv-loop μ-loop
 same-length c = (c .before) .loop .inv .long
@@ -53,7 +54,7 @@ same-length-3 c = (c .before) .loop .inv .long-cache
 returns : tie.Need-returns Inv-loop μ-loop
 returns c =
     let at-start : tie.Start Inv-loop μ-loop = search in
-    making-end ((c .before) .loop .inv) (at-start .args .store) ((c .before .before) .placed .ensures .0) (c .loop-test .left)
+    making-end ((c .before) .loop .inv) (at-start .args .store) ((c .before .before) .placed .ensures .0) (omega (arith, c .loop-test .left))
 
 pub make-combination-spec : {M : Type 1} → statement M
 make-combination-spec =

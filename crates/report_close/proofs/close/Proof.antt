@@ -55,18 +55,21 @@ same-length-4 c = search needs
 returns : tie.Need-returns
 returns c =
     let at-close-sums : tie.After-close-sums = search in
-    let at-enum-told : tie.After-enum-told = search in
-    close-with-sums ((at-enum-told .before .before) .ending-of .ensures) (at-enum-told .enum-told .given .1) (at-close-sums .close-sums .ensures)
+    let at-told : tie.After-enum-told = search in
+    let at-ending-of : tie.After-ending-of = search (at-told) in
+    close-with-sums (at-ending-of .ending-of .ensures) (at-told .enum-told .given .1) (at-close-sums .close-sums .ensures)
 
 returns-2 : tie.Need-returns-2
 returns-2 c =
-    let at-ending-of : tie.After-ending-of = search in
-    close-with-line (at-ending-of .ending-of .ensures) refusedWord _ _ ((c .before .before .before .before) .enum-told2 .given .1) (λ capacity g. refl) ((c .before .before) .bumped .ensures) (c .put-line .ensures)
+    let at-told : tie.After-enum-told2 = search in
+    let at-ending-of : tie.After-ending-of = search (at-told) in
+    close-with-line (at-ending-of .ending-of .ensures) refusedWord _ _ (at-told .enum-told2 .given .1) (λ capacity g. refl) ((c .before .before) .bumped .ensures) (c .put-line .ensures)
 
 returns-3 : tie.Need-returns-3
 returns-3 c =
-    let at-ending-of : tie.After-ending-of = search in
-    close-with-line (at-ending-of .ending-of .ensures) fullWord _ _ ((c .before .before .before .before) .enum-told3 .given .1) (λ capacity g. refl) ((c .before .before) .bumped2 .ensures) (c .put-line2 .ensures)
+    let at-told : tie.After-enum-told3 = search in
+    let at-ending-of : tie.After-ending-of = search (at-told) in
+    close-with-line (at-ending-of .ending-of .ensures) fullWord _ _ (at-told .enum-told3 .given .1) (λ capacity g. refl) ((c .before .before) .bumped2 .ensures) (c .put-line2 .ensures)
 
 pub close-spec : {M : Type 1} → statement M
 close-spec =

@@ -3,7 +3,6 @@
 use borrow.Author.Needs.{needs}
 use native.Mathlib.Omega.{arith}
 use Rattle.report_close.proofs.Closings.{sums-first, sums-second, sums-written}
-use borrow.Author.Needs.{needs}
 use Rattle.report_close.proofs.close_sums.Statement.{statement}
 use Rattle.report_close.proofs.close_sums.Tie as tie
 
@@ -74,14 +73,12 @@ same-length-13 : tie.Need-same-length-13
 same-length-13 c = search needs
 
 returns : tie.Need-returns
-returns c =
-    let at-enum-told : tie.After-enum-told = search in
-    let at-intsec : tie.After-intsec = search in
-    sums-first _ _ (at-intsec .intsec .ensures) _ (at-enum-told .enum-told .given .1) ((c .before .before) .put-word .ensures)
+returns c = search sums-first
 
 put-word-requires-2 : tie.Need-put-word-requires-2
 put-word-requires-2 c κs =
-    let at-start : tie.Start = search in
+    let at-first-answer : tie.After-first-answer = search in
+    let at-start : tie.Start = search (at-first-answer) in
     omega (arith, at-start .pre)
 
 returns-2 : tie.Need-returns-2
@@ -94,7 +91,8 @@ returns-2 c =
 
 put-sizes-requires : tie.Need-put-sizes-requires
 put-sizes-requires c κs =
-    let at-start : tie.Start = search in
+    let at-first-answer : tie.After-first-answer = search in
+    let at-start : tie.Start = search (at-first-answer) in
     at-start .pre
 
 returns-3 : tie.Need-returns-3

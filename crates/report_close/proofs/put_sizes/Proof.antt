@@ -1,9 +1,7 @@
 -- The sizes of four families, written.
 -- Size leaves the store's words, and the scratch its length.
 use borrow.Author.Needs.{needs}
-use mathlib.Core.Path.{_∙_}
-use Rattle.report_close.proofs.Closings.{as-long, sizes-written}
-use borrow.Author.Needs.{needs}
+use Rattle.report_close.proofs.Closings.{sizes-written}
 use Rattle.report_close.proofs.put_sizes.Statement.{statement}
 use Rattle.report_close.proofs.put_sizes.Tie as tie
 
@@ -34,11 +32,8 @@ returns c =
     let at-size-of3 : tie.After-size-of3 = search in
     let at-size-of2 : tie.After-size-of2 = search in
     let at-size-of : tie.After-size-of = search in
-    sizes-written (at-size-of .size-of .ensures)
-    (as-long (at-size-of .size-of .kept .1 .1 .1 .1 .0) (at-size-of2 .size-of2 .ensures))
-    (as-long (at-size-of2 .size-of2 .kept .1 .1 .1 .1 .0 ∙ at-size-of .size-of .kept .1 .1 .1 .1 .0) (at-size-of3 .size-of3 .ensures))
-    (as-long (at-size-of3 .size-of3 .kept .1 .1 .1 .1 .0 ∙ at-size-of2 .size-of2 .kept .1 .1 .1 .1 .0 ∙ at-size-of .size-of .kept .1 .1 .1 .1 .0) (at-size-of4 .size-of4 .ensures))
-    ((c .before .before) .put-sums .ensures)
+    sizes-written (at-size-of .size-of .ensures) (search (at-size-of .size-of)) (at-size-of2 .size-of2 .ensures) (search (at-size-of2 .size-of2)) (at-size-of3 .size-of3 .ensures) (search (at-size-of3 .size-of3))
+    (at-size-of4 .size-of4 .ensures) ((c .before .before) .put-sums .ensures)
 
 pub put-sizes-spec : {M : Type 1} → statement M
 put-sizes-spec =

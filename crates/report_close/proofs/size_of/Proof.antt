@@ -2,7 +2,6 @@
 -- Of a sound store with enough scratch Size refuses nothing but a size above 2^64 - 1.
 use borrow.Author.Needs.{needs}
 use Rattle.report_close.proofs.Closings.{size-told, size-brimmed}
-use borrow.Author.Needs.{needs}
 use Rattle.report_close.proofs.size_of.Statement.{statement}
 use Rattle.report_close.proofs.size_of.Tie as tie
 
@@ -22,14 +21,10 @@ same-length-2 : tie.Need-same-length-2
 same-length-2 c = search needs
 
 returns : tie.Need-returns
-returns c =
-    let at-size : tie.After-size = search in
-    size-brimmed (at-size .size .ensures) _ (c .enum-told .given .1)
+returns c = search size-brimmed
 
 returns-2 : tie.Need-returns-2
-returns-2 c =
-    let at-size : tie.After-size = search in
-    size-told (at-size .size .ensures) ((c .before) .answer .given .1)
+returns-2 c = search size-told
 
 pub size-of-spec : {M : Type 1} → statement M
 size-of-spec =

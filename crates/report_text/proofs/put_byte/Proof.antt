@@ -1,9 +1,7 @@
 -- One byte written behind the first ones.
 -- The list with the byte set is, up to the next place, what stood before and the byte.
 use borrow.Author.Needs.{needs}
-use mathlib.Core.Path.{refl}
 use Rattle.report_text.proofs.Writings.{wrote-byte}
-use borrow.Author.Needs.{needs}
 use Rattle.report_text.proofs.put_byte.Statement.{statement}
 use Rattle.report_text.proofs.put_byte.Tie as tie
 
@@ -17,7 +15,7 @@ same-length : tie.Need-same-length
 same-length c = search needs
 
 returns : tie.Need-returns
-returns c = wrote-byte _ _ _ _ refl (c .pre)
+returns c = search wrote-byte
 
 pub put-byte-spec : {M : Type 1} → statement M
 put-byte-spec = tie.close (tie.spec slice-write-out add-result same-length returns)

@@ -3,7 +3,6 @@
 use borrow.Author.Needs.{needs}
 use native.Mathlib.Omega.{arith}
 use Rattle.report_text.proofs.Writings.{wrote-then, short-64}
-use borrow.Author.Needs.{needs}
 use Rattle.report_text.proofs.put_line.Statement.{statement}
 use Rattle.report_text.proofs.put_line.Tie as tie
 
@@ -19,21 +18,18 @@ same-length c = search needs
 spell-requires : tie.Need-spell-requires
 spell-requires c κs =
     let at-start : tie.Start = search in
-    omega (arith, at-start .pre .0, (c .before .before .before) .put-word .ensures .end, (c .before .before .before) .put-word .kept .0, short-64 (at-start .args .n) (at-start .fits .n .fits))
+    omega (arith, at-start .pre .room, (c .before .before .before) .put-word .ensures .end, (c .before .before .before) .put-word .kept .0, short-64 (at-start .args .n) (at-start .fits .n .fits))
 
 put-word-requires-2 : tie.Need-put-word-requires-2
 put-word-requires-2 c κs =
     let at-put-word : tie.After-put-word = search in
-    let a = start·After-put-word-arg3 c in
+    let a : tie.Start = search in
     let w = at-put-word .put-word in
     let d = (c .before .before .before) .spell in
-    omega (arith, a .pre .0, a .pre .1, w .ensures .end, w .kept .0, d .ensures .end, d .kept .0, short-64 (a .args .n) (a .fits .n .fits))
+    omega (arith, a .pre .room, a .pre .short, w .ensures .end, w .kept .0, d .ensures .end, d .kept .0, short-64 (a .args .n) (a .fits .n .fits))
 
 returns : tie.Need-returns
-returns c =
-    let at-spell : tie.After-spell = search in
-    let at-put-word : tie.After-put-word = search in
-    wrote-then (at-put-word .put-word .ensures) (wrote-then (at-spell .spell .ensures) ((c .before .before) .put-word2 .ensures))
+returns c = search wrote-then
 
 pub put-line-spec : {M : Type 1} → statement M
 put-line-spec =

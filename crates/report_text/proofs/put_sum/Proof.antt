@@ -3,7 +3,6 @@
 use borrow.Author.Needs.{needs}
 use native.Mathlib.Omega.{arith}
 use Rattle.report_text.proofs.Writings.{wrote-then, short-64}
-use borrow.Author.Needs.{needs}
 use Rattle.report_text.proofs.put_sum.Statement.{statement}
 use Rattle.report_text.proofs.put_sum.Tie as tie
 
@@ -25,10 +24,7 @@ put-byte-requires c κs =
     omega (arith, at-start .pre, at-put-word .put-word .ensures .end, at-put-word .put-word .kept .0, (c .before .before .before) .spell .ensures .end, (c .before .before .before) .spell .kept .0, short-64 (at-start .args .n) (at-start .fits .n .fits))
 
 returns : tie.Need-returns
-returns c =
-    let at-spell : tie.After-spell = search in
-    let at-put-word : tie.After-put-word = search in
-    wrote-then (at-put-word .put-word .ensures) (wrote-then (at-spell .spell .ensures) ((c .before .before) .put-byte .ensures))
+returns c = search wrote-then
 
 pub put-sum-spec : {M : Type 1} → statement M
 put-sum-spec =

@@ -4,7 +4,6 @@ use borrow.Author.Needs.{needs}
 use native.Mathlib.Omega.{arith}
 use Rattle.report_text.specs.Text.{passedWord, returnedWord, bothWord}
 use Rattle.report_text.proofs.Writings.{wrote-then, sum-short}
-use borrow.Author.Needs.{needs}
 use Rattle.report_text.proofs.put_sums.Statement.{statement}
 use Rattle.report_text.proofs.put_sums.Tie as tie
 
@@ -36,7 +35,7 @@ put-sum-requires-3 : tie.Need-put-sum-requires-3
 put-sum-requires-3 c κs =
     let at-put-sum2 : tie.After-put-sum2 = search in
     let at-put-sum : tie.After-put-sum = search in
-    let a = start·After-put-sum-arg6 c in
+    let a : tie.Start = search in
     let p = at-put-sum .put-sum in
     let q = at-put-sum2 .put-sum2 in
     omega (arith, a .pre, p .ensures .end, p .kept .0, q .ensures .end, q .kept .0, sum-short passedWord (a .args .passed) (a .fits .passed .fits), sum-short returnedWord (a .args .returned) (a .fits .returned .fits))
@@ -46,7 +45,7 @@ put-sum-requires-4 c κs =
     let at-put-sum3 : tie.After-put-sum3 = search in
     let at-put-sum2 : tie.After-put-sum2 = search in
     let at-put-sum : tie.After-put-sum = search in
-    let a = start·After-put-sum-arg8 c in
+    let a : tie.Start = search in
     let p = at-put-sum .put-sum in
     let q = at-put-sum2 .put-sum2 in
     let o = at-put-sum3 .put-sum3 in

@@ -2,7 +2,6 @@
 -- Before each turn the bytes of the word up to i stand behind them.
 use borrow.Author.Needs.{needs}
 use Prim.Native.Nat.{_-_}
-use mathlib.Core.Path.{refl}
 use lib.ListN.{length}
 use native.Mathlib.Omega.{arith}
 use Rattle.report_text.proofs.Writings.{Copied, copied-none, copied-more, copied-all}
@@ -16,7 +15,7 @@ abbrev μ-loop : tie.MeasureT-loop
 μ-loop out₀ at word i₀ out i = length word - i
 
 loop-holds : tie.Need-loop-holds Inv-loop μ-loop
-loop-holds c = copied-none _ _ _ _ refl
+loop-holds c = search copied-none
 
 shared-slice-read-out : tie.Need-shared-slice-read-out Inv-loop μ-loop
 shared-slice-read-out c = search needs
@@ -34,7 +33,7 @@ loop-less : tie.Need-loop-less Inv-loop μ-loop
 loop-less c = search needs
 
 loop-again : tie.Need-loop-again Inv-loop μ-loop
-loop-again c = copied-more ((c .before .before) .loop .inv) ((c .before) .loop-test .taken) ((c .before .before .before) .pre)
+loop-again c = search copied-more
 
 add-result : tie.Need-add-result Inv-loop μ-loop
 add-result c = omega (arith, (c .before) .loop .inv .low, (c .before .before) .pre)
@@ -43,7 +42,7 @@ same-length : tie.Need-same-length Inv-loop μ-loop
 same-length c = (c .before) .loop .inv .long
 
 returns : tie.Need-returns Inv-loop μ-loop
-returns c = copied-all ((c .before) .loop .inv) (c .loop-test .left) ((c .before .before) .pre) _ refl
+returns c = search copied-all
 
 pub put-word-spec : {M : Type 1} → statement M
 put-word-spec =

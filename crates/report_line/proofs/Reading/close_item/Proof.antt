@@ -5,7 +5,6 @@ use native.Mathlib.Omega.{arith}
 use mathlib.Core.Path.{sym, _∙_}
 use Rattle.family.proofs.Words.{free-zero, free-high, free-held, free-item}
 use Rattle.report_line.proofs.States.{progress-is, closed-not, closed-free}
-use borrow.Author.Needs.{needs}
 use Rattle.report_line.proofs.Reading.close_item.Statement.{statement}
 use Rattle.report_line.proofs.Reading.close_item.Tie as tie
 
@@ -25,10 +24,10 @@ join-item-requires : tie.Need-join-item-requires
 join-item-requires c κs = search needs
 
 returns : tie.Need-returns
-returns c = progress-is (c .spoiled .ensures) (closed-not ((c .before .before) .args .self .side) _ ((c .before .before) .args .b) _ (free-zero _ _ ((c .before) .if1 .taken)))
+returns c = search (free-zero, progress-is, closed-not)
 
 returns-2 : tie.Need-returns-2
-returns-2 c = progress-is (c .spoiled2 .ensures) (closed-not ((c .before .before .before) .args .self .side) _ ((c .before .before .before) .args .b) _ (free-high _ _ ((c .before) .if2 .taken)))
+returns-2 c = search (free-high, progress-is, closed-not)
 
 returns-3 : tie.Need-returns-3
 returns-3 c =

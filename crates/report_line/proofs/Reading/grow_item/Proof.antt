@@ -4,7 +4,6 @@ use borrow.Author.Needs.{needs}
 use Prim.Native.Nat.{_+_, _*_}
 use native.Mathlib.Omega.{arith}
 use Rattle.report_line.proofs.States.{progress-is, grown-high, grown-low}
-use borrow.Author.Needs.{needs}
 use Rattle.report_line.proofs.Reading.grow_item.Statement.{statement}
 use Rattle.report_line.proofs.Reading.grow_item.Tie as tie
 
@@ -27,10 +26,10 @@ returns : tie.Need-returns
 returns c = progress-is (c .spoiled .ensures) (grown-high _ _ (10 * (c .before .before) .args .self .item + (c .before .before) .args .digit) (omega (arith, (c .before) .if1 .taken)))
 
 returns-2 : tie.Need-returns-2
-returns-2 c = progress-is (c .spoiled2 .ensures) (grown-high _ _ _ ((c .before) .if2 .taken))
+returns-2 c = search (progress-is, grown-high)
 
 returns-3 : tie.Need-returns-3
-returns-3 c = progress-is (c .at-item .ensures) (grown-low _ _ _ ((c .before) .if2 .left))
+returns-3 c = search (progress-is, grown-low)
 
 pub grow-item-spec : {M : Type 1} → statement M
 grow-item-spec =

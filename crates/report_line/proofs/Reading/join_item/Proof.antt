@@ -3,7 +3,6 @@
 use borrow.Author.Needs.{needs}
 use mathlib.Core.Path.{ap, _∙_}
 use Rattle.report_line.specs.Line.{gap}
-use borrow.Author.Needs.{needs}
 use Rattle.report_line.proofs.Reading.join_item.Statement.{statement}
 use Rattle.report_line.proofs.Reading.join_item.Tie as tie
 

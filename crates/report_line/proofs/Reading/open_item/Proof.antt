@@ -1,8 +1,8 @@
 -- The first digit of an item is one of 1 to 9.
 -- The two tests of the code are the grammar's.
 use borrow.Author.Needs.{needs}
+use native.Mathlib.Omega.{arith}
 use Rattle.report_line.proofs.States.{progress-is, opened-low, opened-high, opened-digit}
-use borrow.Author.Needs.{needs}
 use Rattle.report_line.proofs.Reading.open_item.Statement.{statement}
 use Rattle.report_line.proofs.Reading.open_item.Tie as tie
 
@@ -22,13 +22,18 @@ at-item-requires : tie.Need-at-item-requires
 at-item-requires c κs = search needs
 
 returns : tie.Need-returns
-returns c = progress-is (c .spoiled .ensures) (opened-low _ _ _ ((c .before) .if1 .taken))
+returns c =
+    let at-start : tie.Start = search in
+    progress-is (c .spoiled .ensures) (opened-low _ _ (at-start .args .b) (omega (arith, (c .before) .if1 .taken)))
 
 returns-2 : tie.Need-returns-2
-returns-2 c = progress-is (c .spoiled2 .ensures) (opened-high _ _ _ ((c .before) .if2 .taken))
+returns-2 c = search (progress-is, opened-high)
 
 returns-3 : tie.Need-returns-3
-returns-3 c = progress-is (c .at-item .ensures) (opened-digit _ _ _ _ ((c .before .before .before) .if1 .left) ((c .before .before) .if2 .left) ((c .before) .wide .ensures))
+returns-3 c =
+    let at-start : tie.Start = search in
+    let at-low : tie.Else1 = search in
+    progress-is (c .at-item .ensures) (opened-digit _ _ (at-start .args .b) _ (omega (arith, at-low .if1 .left)) ((c .before .before) .if2 .left) ((c .before) .wide .ensures))
 
 pub open-item-spec : {M : Type 1} → statement M
 open-item-spec =

@@ -3,7 +3,6 @@
 use borrow.Author.Needs.{needs}
 use native.Mathlib.Omega.{arith}
 use Rattle.report_line.proofs.States.{progress-is, number-low, number-high, number-digit}
-use borrow.Author.Needs.{needs}
 use Rattle.report_line.proofs.Reading.take_digit.Statement.{statement}
 use Rattle.report_line.proofs.Reading.take_digit.Tie as tie
 
@@ -20,13 +19,13 @@ grow-item-requires : tie.Need-grow-item-requires
 grow-item-requires c κs = search needs
 
 returns : tie.Need-returns
-returns c = progress-is (c .close-item .ensures) (number-low _ _ _ _ ((c .before) .if1 .taken))
+returns c = search (progress-is, number-low)
 
 returns-2 : tie.Need-returns-2
-returns-2 c = progress-is (c .close-item2 .ensures) (number-high _ _ _ _ ((c .before) .if2 .taken))
+returns-2 c = search (progress-is, number-high)
 
 returns-3 : tie.Need-returns-3
-returns-3 c = progress-is (c .grow-item .ensures) (number-digit _ _ _ _ _ ((c .before .before .before) .if1 .left) ((c .before .before) .if2 .left) ((c .before) .wide .ensures))
+returns-3 c = search (progress-is, number-digit)
 
 pub take-digit-spec : {M : Type 1} → statement M
 take-digit-spec =

@@ -1,8 +1,7 @@
 -- Behind the letter or an item comes a space, the newline, or a byte that spoils the line.
 -- Each test of the code is one of the grammar's; the items stay.
 use borrow.Author.Needs.{needs}
-use Rattle.report_line.proofs.States.{state-is, progress-is, gap-space, gap-newline, gap-other}
-use borrow.Author.Needs.{needs}
+use Rattle.report_line.proofs.States.{staged-state, progress-is, gap-space, gap-newline, gap-other}
 use Rattle.report_line.proofs.Reading.take_gap.Statement.{statement}
 use Rattle.report_line.proofs.Reading.take_gap.Tie as tie
 
@@ -16,13 +15,13 @@ spoiled-requires : tie.Need-spoiled-requires
 spoiled-requires c κs = search needs
 
 returns : tie.Need-returns
-returns c = let e = c .at-stage .ensures in progress-is (state-is (e .0) (e .1) (e .2) (e .3) (e .4)) (gap-space _ _ _ ((c .before) .if1 .taken))
+returns c = search (progress-is, gap-space, staged-state)
 
 returns-2 : tie.Need-returns-2
-returns-2 c = let e = c .at-stage2 .ensures in progress-is (state-is (e .0) (e .1) (e .2) (e .3) (e .4)) (gap-newline _ _ _ ((c .before .before) .if1 .left) ((c .before) .if2 .taken))
+returns-2 c = search (progress-is, gap-newline, staged-state)
 
 returns-3 : tie.Need-returns-3
-returns-3 c = progress-is (c .spoiled .ensures) (gap-other _ _ _ ((c .before .before) .if1 .left) ((c .before) .if2 .left))
+returns-3 c = search (gap-other, progress-is)
 
 pub take-gap-spec : {M : Type 1} → statement M
 take-gap-spec =

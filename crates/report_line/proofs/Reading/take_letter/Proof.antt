@@ -2,7 +2,6 @@
 -- Each test of the code is one of the grammar's.
 use borrow.Author.Needs.{needs}
 use Rattle.report_line.proofs.States.{progress-is, first-passed, first-returned, first-other}
-use borrow.Author.Needs.{needs}
 use Rattle.report_line.proofs.Reading.take_letter.Statement.{statement}
 use Rattle.report_line.proofs.Reading.take_letter.Tie as tie
 
@@ -16,13 +15,13 @@ spoiled-requires : tie.Need-spoiled-requires
 spoiled-requires c κs = search needs
 
 returns : tie.Need-returns
-returns c = progress-is (c .begun .ensures) (first-passed _ ((c .before) .if1 .taken))
+returns c = search (progress-is, first-passed)
 
 returns-2 : tie.Need-returns-2
-returns-2 c = progress-is (c .begun2 .ensures) (first-returned _ ((c .before .before) .if1 .left) ((c .before) .if2 .taken))
+returns-2 c = search (progress-is, first-returned)
 
 returns-3 : tie.Need-returns-3
-returns-3 c = progress-is (c .spoiled .ensures) (first-other _ ((c .before .before) .if1 .left) ((c .before) .if2 .left))
+returns-3 c = search (progress-is, first-other)
 
 pub take-letter-spec : {M : Type 1} → statement M
 take-letter-spec =

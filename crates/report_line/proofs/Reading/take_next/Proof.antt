@@ -2,7 +2,6 @@
 -- Each arm is a case of the grammar.
 use borrow.Author.Needs.{needs}
 use Rattle.report_line.proofs.States.{at-stage}
-use borrow.Author.Needs.{needs}
 use Rattle.report_line.proofs.Reading.take_next.Statement.{statement}
 use Rattle.report_line.proofs.Reading.take_next.Tie as tie
 
@@ -43,22 +42,22 @@ spoiled-requires-2 : tie.Need-spoiled-requires-2
 spoiled-requires-2 c κs = search needs
 
 returns : tie.Need-returns
-returns c = at-stage ((c .before .before .before) .args .self) ((c .before .before .before) .args .b) ((c .before) .enum-told .given .1) (c .take-letter .ensures)
+returns c = search at-stage
 
 returns-2 : tie.Need-returns-2
-returns-2 c = at-stage ((c .before .before .before) .args .self) ((c .before .before .before) .args .b) ((c .before) .enum-told2 .given .1) (c .take-gap .ensures)
+returns-2 c = search at-stage
 
 returns-3 : tie.Need-returns-3
-returns-3 c = at-stage ((c .before .before .before) .args .self) ((c .before .before .before) .args .b) ((c .before) .enum-told3 .given .1) (c .open-item .ensures)
+returns-3 c = search at-stage
 
 returns-4 : tie.Need-returns-4
-returns-4 c = at-stage ((c .before .before .before) .args .self) ((c .before .before .before) .args .b) ((c .before) .enum-told4 .given .1) (c .take-digit .ensures)
+returns-4 c = search at-stage
 
 returns-5 : tie.Need-returns-5
-returns-5 c = at-stage ((c .before .before .before) .args .self) ((c .before .before .before) .args .b) ((c .before) .enum-told5 .given .1) (c .spoiled .ensures)
+returns-5 c = search at-stage
 
 returns-6 : tie.Need-returns-6
-returns-6 c = at-stage ((c .before .before .before) .args .self) ((c .before .before .before) .args .b) ((c .before) .enum-told6 .given .1) (c .spoiled2 .ensures)
+returns-6 c = search at-stage
 
 pub take-next-spec : {M : Type 1} → statement M
 take-next-spec =

@@ -1,7 +1,7 @@
--- The tally behind a line: the store was full and nothing else changes, or the handle of the line's family is the new one.
--- The laws of `Logs` have one case for each way out.
+-- The tally behind a line: the store was full and nothing else changes, or the handle of the line's family is the new
+-- one. The laws of `Logs` have one case for each way out.
 use borrow.Author.Needs.{needs}
-use Rattle.report_log.proofs.Logs.{end-full, end-passed, end-returned}
+use Rattle.report_log.proofs.Logs.{end-full, end-more, end-at}
 use Rattle.report_log.proofs.taking.line_end.Statement.{statement}
 use Rattle.report_log.proofs.taking.line_end.Tie as tie
 
@@ -15,7 +15,7 @@ tally-of-requires : tie.Need-tally-of-requires
 tally-of-requires c κs = search needs
 
 returns : tie.Need-returns
-returns c = end-full _ _ ((c .before) .enum-told .given .1) (c .tally-of .ensures)
+returns c = search end-full
 
 bumped-requires : tie.Need-bumped-requires
 bumped-requires c κs = search needs
@@ -33,10 +33,10 @@ tally-of-requires-3 : tie.Need-tally-of-requires-3
 tally-of-requires-3 c κs = search needs
 
 returns-2 : tie.Need-returns-2
-returns-2 c = end-passed ((c .before) .enum-told2 .given .1) ((c .before .before .before .before .before) .answer .given .1) ((c .before .before .before) .bumped .ensures) (c .tally-of2 .ensures)
+returns-2 c = search (end-at, end-more)
 
 returns-3 : tie.Need-returns-3
-returns-3 c = end-returned ((c .before) .enum-told3 .given .1) ((c .before .before .before .before .before) .answer .given .1) ((c .before .before .before) .bumped .ensures) (c .tally-of3 .ensures)
+returns-3 c = search (end-at, end-more)
 
 pub line-end-spec : {M : Type 1} → statement M
 line-end-spec =

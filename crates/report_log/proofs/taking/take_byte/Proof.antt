@@ -1,5 +1,5 @@
--- One byte more: a log that ended stays; else a whole line is added to the family of its side, a malformed one ends the log, and any other is read on.
--- The stage of the reading is the grammar's progress.
+-- One byte more: a log that ended stays; else a whole line is added, a malformed one ends the log, any other is read
+-- on. The stage of the reading is the grammar's progress.
 use borrow.Author.Needs.{needs}
 use mathlib.Core.Path.{refl}
 use Rattle.report_log.proofs.Logs.{line-added, next-whole, next-read, next-going, byte-going, byte-ended}
@@ -10,7 +10,7 @@ enum-told : tie.Need-enum-told
 enum-told c = search needs
 
 returns : tie.Need-returns
-returns c = byte-ended (c .match .keys2)
+returns c = search byte-ended
 
 take-requires : tie.Need-take-requires
 take-requires c κs = search needs
@@ -18,8 +18,8 @@ take-requires c κs = search needs
 enum-told-2 : tie.Need-enum-told-2
 enum-told-2 c = search needs
 
-family-of-requires : tie.Need-family-of-requires
-family-of-requires c κs = search needs
+side-handle-requires : tie.Need-side-handle-requires
+side-handle-requires c κs = search needs
 
 add-requires : tie.Need-add-requires
 add-requires c κs = search needs
@@ -48,22 +48,25 @@ same-length-3 c = search needs
 returns-2 : tie.Need-returns-2
 returns-2 c =
     let at-add : tie.After-add = search in
-    let at-family-of : tie.After-family-of = search in
-    let at-enum-told2 : tie.After-enum-told2 = search in
-    let T = take·After-line-end c in
-    byte-going ((T .before .before) .enum-told .given .1)
-    (next-whole _ (T .take .result) (T .take .ensures) (at-enum-told2 .enum-told2 .given .1)
-    (line-added _ (at-family-of .family-of .ensures) (at-add .add .ensures) (c .line-end .ensures)))
+    let at-side-handle : tie.After-side-handle = search in
+    let at-whole : tie.After-enum-told2 = search in
+    let at-take : tie.After-take = search in
+    let at-going : tie.After-enum-told = search in
+    byte-going (at-going .enum-told .given .1)
+    (next-whole _ (at-take .take .result) (at-take .take .ensures) (at-whole .enum-told2 .given .1)
+    (line-added _ (at-side-handle .side-handle .ensures) (at-add .add .ensures) (c .line-end .ensures)))
 
 returns-3 : tie.Need-returns-3
 returns-3 c =
-    let T = c .before .before .before in
-    byte-going ((T .before .before) .enum-told .given .1) (next-read _ (T .take .result) (T .take .ensures) ((c .before) .enum-told3 .given .1) _ (c .read-on .ensures) (λ capacity g s d x n. refl))
+    let at-take : tie.After-take = search in
+    let at-going : tie.After-enum-told = search in
+    byte-going (at-going .enum-told .given .1) (next-read _ (at-take .take .result) (at-take .take .ensures) ((c .before) .enum-told3 .given .1) _ (c .read-on .ensures) (λ capacity g s d x n. refl))
 
 returns-4 : tie.Need-returns-4
 returns-4 c =
-    let T = c .before .before in
-    byte-going ((T .before .before) .enum-told .given .1) (next-going _ (T .take .result) (T .take .ensures) ((c .before) .match2 .keys3) (c .read-on2 .ensures))
+    let at-take : tie.After-take = search in
+    let at-going : tie.After-enum-told = search in
+    byte-going (at-going .enum-told .given .1) (next-going _ (at-take .take .result) (at-take .take .ensures) ((c .before) .match2 .keys3) (c .read-on2 .ensures))
 
 pub take-byte-spec : {M : Type 1} → statement M
 take-byte-spec =
@@ -73,7 +76,7 @@ take-byte-spec =
     returns
     take-requires
     enum-told-2
-    family-of-requires
+    side-handle-requires
     add-requires
     line-end-requires
     enum-told-3

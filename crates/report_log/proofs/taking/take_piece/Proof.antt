@@ -2,7 +2,6 @@
 -- Before each turn the bytes up to i are taken.
 use borrow.Author.Needs.{needs}
 use Prim.Native.Nat.{_-_}
-use mathlib.Core.Path.{refl}
 use lib.ListN.{length}
 use native.Mathlib.Omega.{arith}
 use Rattle.report_log.proofs.Logs.{Taking, taking-start, taking-again, taking-end}
@@ -16,7 +15,7 @@ abbrev μ-loop : tie.MeasureT-loop
 μ-loop nodes₀ lookup₀ cache₀ piece taken₀ i₀ nodes lookup cache taken i = length piece - i
 
 loop-holds : tie.Need-loop-holds Inv-loop μ-loop
-loop-holds c = taking-start _ _ _ _ _ _ refl
+loop-holds c = search taking-start
 
 shared-slice-read-take-byte : tie.Need-shared-slice-read-take-byte Inv-loop μ-loop
 shared-slice-read-take-byte c = search needs
@@ -28,17 +27,13 @@ add-i : tie.Need-add-i Inv-loop μ-loop
 add-i c =
     let at-loop-test : tie.In-loop Inv-loop μ-loop = search in
     let at-start : tie.Start Inv-loop μ-loop = search in
-    record { fits = omega (arith, at-start .good .1 .1 .1 .1 .0, at-loop-test .loop-test .taken) }
+    search (needs, at-start, at-loop-test)
 
 loop-less : tie.Need-loop-less Inv-loop μ-loop
 loop-less c = search needs
 
 loop-again : tie.Need-loop-again Inv-loop μ-loop
-loop-again c =
-    let at-take-byte : tie.After-take-byte Inv-loop μ-loop = search in
-    let at-loop-test : tie.In-loop Inv-loop μ-loop = search in
-    let at-loop : tie.At-loop Inv-loop μ-loop = search in
-    taking-again (at-loop .loop .inv) (at-loop-test .loop-test .taken) (at-take-byte .take-byte .ensures) (at-take-byte .take-byte .kept .1 .0) (at-take-byte .take-byte .kept .1 .1 .0) (at-take-byte .take-byte .kept .1 .1 .1 .0)
+loop-again c = search taking-again
 
 same-length : tie.Need-same-length Inv-loop μ-loop
 same-length c = (c .before) .loop .inv .long
@@ -50,7 +45,7 @@ same-length-3 : tie.Need-same-length-3 Inv-loop μ-loop
 same-length-3 c = (c .before) .loop .inv .long-cache
 
 returns : tie.Need-returns Inv-loop μ-loop
-returns c = taking-end ((c .before) .loop .inv) (c .loop-test .left)
+returns c = search taking-end
 
 pub take-piece-spec : {M : Type 1} → statement M
 take-piece-spec =

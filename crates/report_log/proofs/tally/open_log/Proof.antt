@@ -3,7 +3,6 @@
 use borrow.Author.Needs.{needs}
 use mathlib.Core.Path.{refl}
 use Rattle.report_log.proofs.Logs.{opened}
-use borrow.Author.Needs.{needs}
 use Rattle.report_log.proofs.tally.open_log.Statement.{statement}
 use Rattle.report_log.proofs.tally.open_log.Tie as tie
 

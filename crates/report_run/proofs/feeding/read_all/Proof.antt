@@ -1,17 +1,17 @@
 -- Pieces are read and taken until the input or the log ends.
--- Before each turn all that was read is taken; the count of turns falls.
+-- Before each turn the reads so far left more to read; the count of turns falls.
 use borrow.Author.Needs.{needs}
-use mathlib.Core.Path.{_∙_}
 use native.Mathlib.Omega.{arith}
-use Rattle.report_run.proofs.Onward.{Onward, onward-start, onward-again}
+use mathlib.Core.Path.{_∙_}
+use Rattle.report_run.proofs.Feedings.{Onward, onward-start, one-more, onward-again}
 use Rattle.report_run.proofs.feeding.read_all.Statement.{statement}
 use Rattle.report_run.proofs.feeding.read_all.Tie as tie
 
 abbrev Inv-loop : tie.InvT-loop
-Inv-loop fd most nodes₀ lookup₀ cache₀ turn₀ turns₀ nodes lookup cache turn turns = Onward (turn₀ .tally) nodes₀ lookup₀ cache₀ nodes lookup cache (turn .tally)
+Inv-loop fd most nodes₀ lookup₀ cache₀ fed₀ turns₀ nodes lookup cache fed turns = Onward (fed₀ .tally) nodes₀ lookup₀ cache₀ nodes lookup cache fed
 
 abbrev μ-loop : tie.MeasureT-loop
-μ-loop fd most nodes₀ lookup₀ cache₀ turn₀ turns₀ nodes lookup cache turn turns = turns
+μ-loop fd most nodes₀ lookup₀ cache₀ fed₀ turns₀ nodes lookup cache fed turns = turns
 
 loop-holds : tie.Need-loop-holds Inv-loop μ-loop
 loop-holds c = onward-start _ _ _ _
@@ -26,25 +26,22 @@ same-length : tie.Need-same-length Inv-loop μ-loop
 same-length c =
     let at-read-piece : tie.After-read-piece Inv-loop μ-loop = search in
     let at-loop : tie.At-loop Inv-loop μ-loop = search in
-    at-read-piece .read-piece .kept .1 .1 .1 .0 ∙ at-loop .loop .inv .long
+    search (at-read-piece .read-piece) ∙ at-loop .loop .inv .long
 
 same-length-2 : tie.Need-same-length-2 Inv-loop μ-loop
 same-length-2 c =
     let at-read-piece : tie.After-read-piece Inv-loop μ-loop = search in
     let at-loop : tie.At-loop Inv-loop μ-loop = search in
-    at-read-piece .read-piece .kept .1 .1 .1 .1 .0 ∙ at-loop .loop .inv .long-lookup
+    search (at-read-piece .read-piece) ∙ at-loop .loop .inv .long-lookup
 
 same-length-3 : tie.Need-same-length-3 Inv-loop μ-loop
 same-length-3 c =
     let at-read-piece : tie.After-read-piece Inv-loop μ-loop = search in
     let at-loop : tie.At-loop Inv-loop μ-loop = search in
-    at-read-piece .read-piece .kept .1 .1 .1 .1 .1 .0 ∙ at-loop .loop .inv .long-cache
+    search (at-read-piece .read-piece) ∙ at-loop .loop .inv .long-cache
 
 returns : tie.Need-returns Inv-loop μ-loop
-returns c =
-    let at-read-piece : tie.After-read-piece Inv-loop μ-loop = search in
-    let at-loop : tie.At-loop Inv-loop μ-loop = search in
-    onward-again (at-loop .loop .inv) (at-read-piece .read-piece .ensures) (at-read-piece .read-piece .kept .1 .1 .1 .0) (at-read-piece .read-piece .kept .1 .1 .1 .1 .0) (at-read-piece .read-piece .kept .1 .1 .1 .1 .1 .0) .follows
+returns c = search one-more
 
 sub-turns : tie.Need-sub-turns Inv-loop μ-loop
 sub-turns c = search needs
@@ -53,10 +50,7 @@ loop-less : tie.Need-loop-less Inv-loop μ-loop
 loop-less c = search needs
 
 loop-again : tie.Need-loop-again Inv-loop μ-loop
-loop-again c =
-    let at-read-piece : tie.After-read-piece Inv-loop μ-loop = search in
-    let at-loop : tie.At-loop Inv-loop μ-loop = search in
-    onward-again (at-loop .loop .inv) (at-read-piece .read-piece .ensures) (at-read-piece .read-piece .kept .1 .1 .1 .0) (at-read-piece .read-piece .kept .1 .1 .1 .1 .0) (at-read-piece .read-piece .kept .1 .1 .1 .1 .1 .0)
+loop-again c = search onward-again
 
 same-length-4 : tie.Need-same-length-4 Inv-loop μ-loop
 same-length-4 c = (c .before) .loop .inv .long
@@ -68,7 +62,7 @@ same-length-6 : tie.Need-same-length-6 Inv-loop μ-loop
 same-length-6 c = (c .before) .loop .inv .long-cache
 
 returns-2 : tie.Need-returns-2 Inv-loop μ-loop
-returns-2 c = (c .before) .loop .inv .follows
+returns-2 c = (c .before) .loop .inv .call
 
 pub read-all-spec : {M : Type 1} → statement M
 read-all-spec =

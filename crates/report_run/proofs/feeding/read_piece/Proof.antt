@@ -1,8 +1,7 @@
--- A piece that was read is taken; nothing is where the input is at its end or the read failed.
--- What `take_piece` ensures of the bytes that the buffer holds.
+-- One read, taken.
+-- The answer is the system's own, and the buffer as its read left it.
 use borrow.Author.Needs.{needs}
-use Rattle.report_run.proofs.Onward.{follows-none, follows-piece}
-use borrow.Author.Needs.{needs}
+use Rattle.report_run.proofs.Feedings.{one-read}
 use Rattle.report_run.proofs.feeding.read_piece.Statement.{statement}
 use Rattle.report_run.proofs.feeding.read_piece.Tie as tie
 
@@ -15,23 +14,11 @@ slice-aggregate-read-some c = search needs
 read-some-requires : tie.Need-read-some-requires
 read-some-requires c κs = search needs
 
-slice-aggregate-count : tie.Need-slice-aggregate-count
-slice-aggregate-count c = search needs
+slice-aggregate-take-read : tie.Need-slice-aggregate-take-read
+slice-aggregate-take-read c = search needs
 
-count-requires : tie.Need-count-requires
-count-requires c κs = search needs
-
-array-share-prefix-buffer : tie.Need-array-share-prefix-buffer
-array-share-prefix-buffer c = search needs
-
-slice-aggregate-take-piece : tie.Need-slice-aggregate-take-piece
-slice-aggregate-take-piece c = search needs
-
-take-piece-requires : tie.Need-take-piece-requires
-take-piece-requires c κs = search needs
-
-step-after-requires : tie.Need-step-after-requires
-step-after-requires c κs = search needs
+take-read-requires : tie.Need-take-read-requires
+take-read-requires c κs = search needs
 
 same-length : tie.Need-same-length
 same-length c = search needs
@@ -43,15 +30,10 @@ same-length-3 : tie.Need-same-length-3
 same-length-3 c = search needs
 
 returns : tie.Need-returns
-returns c = follows-none _ _ _ _
-
-returns-2 : tie.Need-returns-2
-returns-2 c = follows-none _ _ _ _
-
-returns-3 : tie.Need-returns-3
-returns-3 c =
-    let at-take-piece : tie.After-take-piece = search in
-    follows-piece _ (at-take-piece .take-piece .ensures)
+returns c =
+    let at-take-read : tie.After-take-read = search in
+    let at-read-some : tie.After-read-some = search (at-take-read) in
+    one-read {z = at-read-some .read-some .result} (record { sfits = at-read-some .read-some .ok }) (at-read-some .read-some .ensures) (search (at-read-some .read-some)) (at-take-read .take-read .ensures)
 
 pub read-piece-spec : {M : Type 1} → statement M
 read-piece-spec =
@@ -60,15 +42,9 @@ read-piece-spec =
     large-buffer-requires
     slice-aggregate-read-some
     read-some-requires
-    returns
-    returns-2
-    slice-aggregate-count
-    count-requires
-    array-share-prefix-buffer
-    slice-aggregate-take-piece
-    take-piece-requires
-    step-after-requires
+    slice-aggregate-take-read
+    take-read-requires
     same-length
     same-length-2
     same-length-3
-    returns-3)
+    returns)
