@@ -17,7 +17,8 @@ use Rattle.c_records.specs.declared.CAsked.{CAsked}
 use Rattle.c_records.specs.declared.CSaved.{CSaved}
 use Rattle.c_records.specs.declared.CAudited.{CAudited}
 
--- The record that the call gave, the refusal's number, 0 where there is none, and the value, "0 where the answer has such a field" and is refused. All but the record is what the call's own promise takes from its answer.
+-- The record that the call gave, the refusal's number, 0 where there is none, and the value, "0 where the answer has
+-- such a field" and is refused. All but the record is what the call's own promise takes from its answer.
 abbrev pub freshenedOf : Freshened → CFreshened
 freshenedOf b = record { store = b .store; refusal = freshNumber (b .answer) }
 

@@ -2,19 +2,19 @@
 ghost use mathlib.Core.Path.{_≡_};
 ghost use Rattle.store.specs.Refusals.{refusalNumber};
 ghost use Rattle.c_records.specs.Promise.{freshenedOf, placedOf, measuredOf, askedOf, savedOf, auditedOf};
-use store_audit::audit::Audited;
-use query_size::Measured;
-use query_size::SizeAnswer;
-use store_fresh::FreshAnswer;
-use store_fresh::Freshened;
-use query_has::Asked;
-use query_has::HasAnswer;
 use file_save::SaveAnswer;
 use file_save::Saved;
+use query_has::Asked;
+use query_has::HasAnswer;
+use query_size::Measured;
+use query_size::SizeAnswer;
 use store::record::PlaceAnswer;
 use store::record::Placed;
 use store::record::Refusal;
 use store::record::Store;
+use store_audit::audit::Audited;
+use store_fresh::FreshAnswer;
+use store_fresh::Freshened;
 
 // What Fresh gives back. A refusal is its number, 0 where there is none, here and below.
 #[repr(C)]

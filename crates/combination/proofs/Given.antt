@@ -1,5 +1,7 @@
--- What the language tells of an array of sixteen 32-bit words that came in by value: its length, and that each word fits.
--- The logic owns an array as its length and a machine value for each element; an element's own relation holds its bound.
+-- What the language tells of an array of sixteen 32-bit words that came in by value: its length, and that each word
+-- fits.
+-- The logic owns an array as its length and a machine value for each element; an element's own relation holds its
+-- bound.
 use Prim.Native.Nat.{ℕ, zero, suc, _^_, _<_}
 use mathlib.Core.Path.{_≡_, refl, ap, _∙_, sym}
 use mathlib.Core.List.{List, [], _∷_, map}

@@ -1,4 +1,5 @@
--- The bits of a number: setting one that is 0 changes that bit alone, a bit that is 1 can be taken off again, and two numbers with equal bits are equal.
+-- The bits of a number: setting one that is 0 changes that bit alone, a bit that is 1 can be taken off again, and two
+-- numbers with equal bits are equal.
 -- Each is an induction on the bit's place, halving the number at each step.
 use Prim.Native.Nat.{ℕ, zero, suc, _+_, _-_, _/_, _%_, _^_, _≤_, _<_}
 use mathlib.Core.Path.{_≡_, sym, ap, _∙_}

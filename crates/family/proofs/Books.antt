@@ -1,5 +1,6 @@
 -- Books: the number of a family, adding one, and what every book obeys.
--- A held family has the place where it first stands, an absent one the book's length; so appending keeps every number, and the number of F after adding F is its number before.
+-- A held family has the place where it first stands, an absent one the book's length; so appending keeps every
+-- number, and the number of F after adding F is its number before.
 use Prim.Native.Nat.{ℕ, zero, suc, _+_, _≤_, _<_}
 use mathlib.Core.Path.{_≡_, refl, sym, ap, _∙_}
 use mathlib.Core.Bool.{true, false, decide, decide-iff}

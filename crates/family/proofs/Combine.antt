@@ -1,5 +1,6 @@
 -- Union, Intsec and Diff: membership of what they give, and the equations that a recursion on two sides follows.
--- All three are one operation by level with a rule f on memberships, so each law is proved once, for every f that leaves out what neither family has.
+-- All three are one operation by level with a rule f on memberships, so each law is proved once, for every f that
+-- leaves out what neither family has.
 use mathlib.Core.Path.{_≡_, refl, sym, ap, ap₂, _∙_}
 use Prim.Native.Nat.{ℕ, zero, suc, _≤_, _<_, max}
 use mathlib.Core.Bool.{Bool, false, _&&_, _||_, and-false, or-false, and-true, or-self, and-self, and-not-self}

@@ -1,4 +1,5 @@
--- Adding a list of families to a book appends its different families that the book does not hold, in their order; so placing F appends exactly the different parts of F not yet held.
+-- Adding a list of families to a book appends its different families that the book does not hold, in their order; so
+-- placing F appends exactly the different parts of F not yet held.
 -- By induction on the list: a family that was just added is left out of what follows, which is what `distinct` says.
 use Prim.Native.Nat.{ℕ, suc, _+_, _≤_, _<_}
 use mathlib.Core.Path.{_≡_, refl, sym, ap, _∙_}

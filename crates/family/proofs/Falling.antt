@@ -1,4 +1,5 @@
--- Combinations as falling lists: which items they hold decides them, and what taking an item out leaves, and putting one in.
+-- Combinations as falling lists: which items they hold decides them, and what taking an item out leaves, and putting
+-- one in.
 -- A falling list holds nothing above its first item, so two of them with the same items agree from the front on.
 use Prim.Native.Nat.{ℕ, max, _≤_, _<_}
 use mathlib.Core.Path.{_≡_, refl, sym, ap, _∙_}

@@ -1,5 +1,7 @@
--- The file of a family and the family of a file belong together: reading gives F exactly for the bytes that are F's file.
--- The bytes give a local book and that book gives the bytes; the order walk says that the book is what placing its last family gives.
+-- The file of a family and the family of a file belong together: reading gives F exactly for the bytes that are F's
+-- file.
+-- The bytes give a local book and that book gives the bytes; the order walk says that the book is what placing its
+-- last family gives.
 use Prim.Native.Nat.{ℕ, suc, _+_, _-_, _<_, _≤_}
 use mathlib.Core.Path.{_≡_, refl, sym, ap, _∙_}
 use mathlib.Core.Bool.{cond, _&&_}

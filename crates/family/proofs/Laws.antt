@@ -1,5 +1,7 @@
--- Demand 2 at the level of families, one law for each operation: what is a member of the result, for every ordered family and every combination; and that the result keeps to the limit.
--- Each cites the law of its kind (Combine, Restrict); the last ones say that the sides and the top are what document 01 calls so.
+-- Demand 2 at the level of families, one law for each operation: what is a member of the result, for every ordered
+-- family and every combination; and that the result keeps to the limit.
+-- Each cites the law of its kind (Combine, Restrict); the last ones say that the sides and the top are what document
+-- 01 calls so.
 use Prim.Native.Nat.{ℕ, _≤_, _<_}
 use mathlib.Core.Path.{_≡_, refl, sym, ap, _∙_}
 use mathlib.Core.Bool.{true, not, _&&_, _||_}

@@ -1,4 +1,5 @@
--- The records of a book that grows by one family: those of before, then one more, which goes by the last family of before.
+-- The records of a book that grows by one family: those of before, then one more, which goes by the last family of
+-- before.
 -- The numbers of the sides stay, since both stand in the book before the family does.
 use Prim.Native.Nat.{ℕ, zero, suc, _+_, _-_, _≤_, _<_}
 use mathlib.Core.Path.{_≡_, refl, sym, ap, _∙_}

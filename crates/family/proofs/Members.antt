@@ -1,4 +1,5 @@
--- The list of members: its length is the size, no combination stands in it twice, and it holds exactly the combinations that `has` says yes to.
+-- The list of members: its length is the size, no combination stands in it twice, and it holds exactly the
+-- combinations that `has` says yes to.
 -- Each is an induction on the family; the two halves of a node's list differ in the item in front.
 use Prim.Native.Nat.{ℕ}
 use mathlib.Core.Path.{_≡_, refl}

@@ -1,4 +1,5 @@
--- The placing order, as a walk over a book: the walk from a family passes exactly when the book is what placing that family gives.
+-- The placing order, as a walk over a book: the walk from a family passes exactly when the book is what placing that
+-- family gives.
 -- Both directions are one induction on the family, which carries the book placed so far.
 use Prim.Native.Nat.{ℕ, suc, _<_, _≤_}
 use mathlib.Core.Path.{_≡_, refl, sym, ap, _∙_}

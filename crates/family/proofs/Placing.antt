@@ -1,5 +1,7 @@
--- Placing: it is the fold of adding over the parts, only appends, keeps a book a book, and leaves every part held; placing again changes nothing.
--- Each law is an induction on the family; that no book on the way is longer than the last follows since each step only appends.
+-- Placing: it is the fold of adding over the parts, only appends, keeps a book a book, and leaves every part held;
+-- placing again changes nothing.
+-- Each law is an induction on the family; that no book on the way is longer than the last follows since each step
+-- only appends.
 use Prim.Native.Nat.{ℕ, suc, _+_, _≤_, _<_}
 use mathlib.Core.Path.{_≡_, refl, sym, ap, _∙_}
 use mathlib.Core.List.{List, [], _∷_, _++_, append-assoc, append-nil, foldl, foldl-append, List·Memᴰ, List·Memᴰ·head, List·Memᴰ·append-cases, Memᴰ·append-left, Memᴰ·append-right, List·Memᴰ·eq-of-singleton}

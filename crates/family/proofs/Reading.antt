@@ -1,5 +1,7 @@
--- The records of a file, taken into a local book one after another: what is read is a book whose records are exactly the bytes, and the records of a book are read back as that book.
--- A triple is taken exactly when its node is the book's next one, so each step adds one node to a book within the limit.
+-- The records of a file, taken into a local book one after another: what is read is a book whose records are exactly
+-- the bytes, and the records of a book are read back as that book.
+-- A triple is taken exactly when its node is the book's next one, so each step adds one node to a book within the
+-- limit.
 use Prim.Native.Nat.{ℕ, zero, suc, _+_, _<_, _≤_}
 use mathlib.Core.Path.{_≡_, refl, sym, ap, _∙_}
 use mathlib.Core.Bool.{true, cond}

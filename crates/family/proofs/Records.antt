@@ -1,5 +1,7 @@
--- Records: what is written is read back, and what is read was written exactly so; hence the code is canonical and no record is the beginning of another.
--- One law over the number of bytes serves fields of two and of four; a record is three fields after a map byte of three bits.
+-- Records: what is written is read back, and what is read was written exactly so; hence the code is canonical and no
+-- record is the beginning of another.
+-- One law over the number of bytes serves fields of two and of four; a record is three fields after a map byte of
+-- three bits.
 use Prim.Native.Nat.{ℕ, zero, suc, _+_, _*_, _/_, _%_, _<_}
 use mathlib.Core.Path.{_≡_, refl, sym, ap}
 use mathlib.Core.Bool.{Bool, true, false, cond}

@@ -1,5 +1,6 @@
 -- The record of sixteen words: every combination of items up to 512 is the meaning of exactly one record.
--- Which items a record's combination holds is read off its bits, and a combination and a record are both decided by that.
+-- Which items a record's combination holds is read off its bits, and a combination and a record are both decided by
+-- that.
 use Prim.Native.Nat.{ℕ, zero, suc, max, _+_, _-_, _*_, _/_, _%_, _^_, _≤_, _<_}
 use mathlib.Core.Path.{_≡_, refl, sym, ap, ap₂, _∙_}
 use mathlib.Core.Bool.{true, false, _&&_, _||_}

@@ -37,7 +37,8 @@ held B F = ltb (number B F) (length B)
 unfoldable pub add : List Family → Family → List Family
 add B F = cond (held B F) B (B ++ (F ∷ []))
 
--- "To place F means: visit its parts, without-side first, then with-side, then the part itself; each part not yet held gets the next number"
+-- "To place F means: visit its parts, without-side first, then with-side, then the part itself; each part not yet
+-- held gets the next number"
 abbrev pub place : List Family → Family → List Family
 place B empty = B
 place B base = B

@@ -1,4 +1,5 @@
--- Combinations of items, and the record of sixteen words that holds one: document 01, 'Families and their parts' and 'Calls', Has.
+-- Combinations of items, and the record of sixteen words that holds one: document 01, 'Families and their parts' and
+-- 'Calls', Has.
 use Prim.Native.Nat.{ℕ, zero, suc, _-_, _/_, _%_, _^_, _≤_, _<_}
 use mathlib.Core.Path.{_≡_}
 use mathlib.Core.Bool.{Bool, true, false, cond, not, _&&_, _||_}

@@ -4,13 +4,15 @@ use mathlib.Core.Bool.{Bool, true, false, cond}
 use mathlib.Core.List.{List, [], _∷_, _++_, map}
 use lib.Dec.{T, eqb}
 
--- A family by its diagram: {}, {{}}, or a node of its top item, its without-side (zero child) and its with-side (one child).
+-- A family by its diagram: {}, {{}}, or a node of its top item, its without-side (zero child) and its with-side (one
+-- child).
 pub data Family : Type 0 where
   empty base : Family
   node : ℕ → Family → Family → Family
   deriving Discrete as Family-discrete
 
--- "The top of a family is the largest item in any of its members. The empty family {} and the base family {{}} have no item; their top counts as 0."
+-- "The top of a family is the largest item in any of its members. The empty family {} and the base family {{}} have
+-- no item; their top counts as 0."
 abbrev pub top : Family → ℕ
 top empty = 0
 top base = 0
@@ -34,7 +36,8 @@ inhabited empty = false
 inhabited base = true
 inhabited (node i a b) = true
 
--- A diagram in canonical form: items fall on every way down, and no with-side is {} (the zero-suppression rule). Equal sides are kept.
+-- A diagram in canonical form: items fall on every way down, and no with-side is {} (the zero-suppression rule).
+-- Equal sides are kept.
 abbrev pub Ordered : Family → Type 0
 Ordered empty = Unit {0}
 Ordered base = Unit {0}
@@ -65,7 +68,8 @@ size empty = 0
 size base = 1
 size (node i a b) = size a + size b
 
--- "The parts of F are F itself and the parts of both sides; {} and {{}} have no parts": in visiting order, "without-side first, then with-side, then the part itself".
+-- "The parts of F are F itself and the parts of both sides; {} and {{}} have no parts": in visiting order,
+-- "without-side first, then with-side, then the part itself".
 abbrev pub parts : Family → List Family
 parts empty = []
 parts base = []

@@ -9,7 +9,8 @@ use Rattle.family.specs.Family.{Family, empty, base, node, top, withoutS
 use Rattle.family.specs.Book.{start, at, number, held, place}
 use Rattle.family.specs.Record.{then, bytesOf, readNumber, Triple, triple, itemOf, recordBytes, readRecord}
 
--- "Record k has local number k + 1; 0 and 1 keep their meaning": the triples of some families, with the numbers that a book gives
+-- "Record k has local number k + 1; 0 and 1 keep their meaning": the triples of some families, with the numbers that
+-- a book gives
 abbrev pub triplesOf : List Family → List Family → List Triple
 triplesOf B [] = []
 triplesOf B (F ∷ Fs) = triple (top F) (number B (withoutSide F)) (number B (withSide F)) ∷ triplesOf B Fs
@@ -24,7 +25,8 @@ recordsBytes previousItem previousNumber (t ∷ ts) =
 unfoldable pub fileOfBook : List Family → List ℕ
 fileOfBook B = 1 ∷ (bytesOf 4 (length B - 2) ++ recordsBytes 0 1 (triplesOf B (drop 2 B)))
 
--- "{} is the byte 00 and {{}} is 02. Any other family .. is 01, .. and one record per part in placing order": the parts as an empty store would number them
+-- "{} is the byte 00 and {{}} is 02. Any other family .. is 01, .. and one record per part in placing order": the
+-- parts as an empty store would number them
 abbrev pub fileOf : Family → List ℕ
 fileOf empty = 0 ∷ []
 fileOf base = 2 ∷ []
@@ -39,7 +41,8 @@ pub record HasFile (limit : ℕ) (F : Family) : Type 0 where
 abbrev pub nodeOf : List Family → Triple → Family
 nodeOf C (triple i z o) = node i (at C z) (at C o)
 
--- whether a triple can be the next node of a local book: an item within the limit, children that stand before and have smaller tops, one child not 0, a family not yet held
+-- whether a triple can be the next node of a local book: an item within the limit, children that stand before and
+-- have smaller tops, one child not 0, a family not yet held
 unfoldable pub fits : ℕ → List Family → Triple → Bool
 fits limit C (triple i z o) =
     leb i limit &&
@@ -58,7 +61,8 @@ abbrev pub andThen : {A B : Type 0} → Option A → (A → Option B) → Option
 andThen none k = none
 andThen (some x) k = k x
 
--- whether the parts of a family of the book that have numbers from n on stand in placing order; then the number after them
+-- whether the parts of a family of the book that have numbers from n on stand in placing order; then the number after
+-- them
 abbrev pub order : List Family → Family → ℕ → Option ℕ
 order B empty n = some n
 order B base n = some n

@@ -22,7 +22,8 @@ change v empty = empty
 change v base = node v empty base
 change v (node i a b) = cond (ltb i v) (node v empty (node i a b)) (cond (eqb i v) (mk i b a) (mk i (change v a) (change v b)))
 
--- The two cofactors of a family at an item v that is not below its top: the members that lack v, and those that hold it, v taken out.
+-- The two cofactors of a family at an item v that is not below its top: the members that lack v, and those that hold
+-- it, v taken out.
 abbrev pub lacking : ℕ → Family → Family
 lacking v empty = empty
 lacking v base = base
@@ -42,7 +43,8 @@ abbrev pub leaf : Bool → Family
 leaf true = base
 leaf false = empty
 
--- "An operation on two families works part by part, top item first": at each item, from the level down, on the two cofactors;
+-- "An operation on two families works part by part, top item first": at each item, from the level down, on the two
+-- cofactors;
 -- below the last item it decides on {{}} alone. f says whether a combination stays, by its membership in the two.
 abbrev pub apply : (Bool → Bool → Bool) → ℕ → Family → Family → Family
 apply f zero F G = leaf (f (isBase F) (isBase G))

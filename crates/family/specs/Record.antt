@@ -10,7 +10,8 @@ use lib.ListN.{getD}
 abbrev pub Bytes : List ℕ → Type 0
 Bytes l = (k : ℕ) → getD l k 0 < 256
 
--- what a reader took from the front of some bytes, and the bytes after it: "each record is taken from the rest of the file"
+-- what a reader took from the front of some bytes, and the bytes after it: "each record is taken from the rest of the
+-- file"
 pub data Front (A : Type 0) : Type 0 where
   front : A → List ℕ → Front A
 
@@ -58,7 +59,8 @@ bit false = 0
 unfoldable pub mapOf : Bool → Bool → Bool → ℕ
 mapOf item zeroChild oneChild = bit item + (2 * bit zeroChild + 4 * bit oneChild)
 
--- "then only the fields whose bit stands": item in two bytes, else the previous record's item plus 1; zero child in four, else 0; one child in four, else the previous local number
+-- "then only the fields whose bit stands": item in two bytes, else the previous record's item plus 1; zero child in
+-- four, else 0; one child in four, else the previous local number
 unfoldable pub recordBytes : ℕ → ℕ → Triple → List ℕ
 recordBytes previousItem previousNumber (triple i z o) =
     mapOf (stands i (suc previousItem)) (stands z 0) (stands o previousNumber) ∷

@@ -36,7 +36,7 @@ use Rattle.lists.specs.Calls.{Call, Operate, Size, Has, Save, Load, Audi
 use Rattle.lists.specs.Acts.{placeReturns, sizeReturns, hasReturns, saveReturns, auditReturns, Saves, actAnswer, stays}
 use Rattle.lists.specs.Books.{bookAnswer, bookEffect}
 use Rattle.lists.specs.Runs.{State, sameWords, withPart, Step, operates, sizes, asks, saves, loads, audits}
-use Rattle.lists.proofs.Lending.{lent-true, joined-true}
+use Rattle.lists.proofs.Lending.{joined-true}
 use Rattle.lists.proofs.Invariant.{Inv, BookStep, count-is}
 use Rattle.lists.proofs.Placings.{place-step}
 

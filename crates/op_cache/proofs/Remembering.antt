@@ -1,4 +1,5 @@
--- The cache: remembering a call changes its group alone, so a cache that is true of a book stays true of it and of every book that it grows to.
+-- The cache: remembering a call changes its group alone, so a cache that is true of a book stays true of it and of
+-- every book that it grows to.
 -- A group after remembering is a group of before, or the call's with its result.
 use Prim.Native.Nat.{ℕ, _+_, _*_, _/_, _≤_, _<_}
 use mathlib.Core.Path.{_≡_, refl, sym, _∙_}

@@ -1,4 +1,5 @@
--- What recalling, remembering and a call that leaves the cache alone promise. A reader of the public promises can pass this page over.
+-- What recalling, remembering and a call that leaves the cache alone promise. A reader of the public promises can
+-- pass this page over.
 use Prim.Native.Nat.{ℕ, _+_, _*_, _/_, _≤_}
 use mathlib.Core.Path.{_≡_}
 use mathlib.Core.List.{List}

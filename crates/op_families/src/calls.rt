@@ -1,16 +1,16 @@
 // Union, Intsec and Diff: what refuses them, the recursion, and the end of the call.
 ghost use Rattle.op_families.specs.Inner.{FamilyOperation};
 ghost use Rattle.op_promise.specs.Promise.{OperationCall};
-use op_cache::Call;
 use crate::recursion::apply;
 use crate::recursion::larger;
-use store_undo::finish;
+use op_cache::Call;
 use store::node::top_of;
 use store::record::Placed;
 use store::record::Refusal;
 use store::record::Store;
 use store::tests::Test;
 use store::tests::tested;
+use store_undo::finish;
 
 // An operation on two families.
 fn of_families(

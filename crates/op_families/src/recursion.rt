@@ -4,6 +4,8 @@ ghost use Prim.Native.Nat.{_<_, max};
 ghost use Rattle.store.specs.Cache.{named};
 ghost use Rattle.store.specs.Inner.{Ran};
 ghost use Rattle.op_families.specs.Inner.{ForkAsks, ApplyAsks, FamilyStepAsks, ForkOf};
+use crate::terminal::ordered;
+use crate::terminal::shortcut;
 use op_cache::Call;
 use op_cache::Recalled;
 use op_cache::recall;
@@ -14,8 +16,6 @@ use store::record::PlaceAnswer;
 use store::record::Placed;
 use store::record::Refusal;
 use store::record::Store;
-use crate::terminal::ordered;
-use crate::terminal::shortcut;
 
 // The larger number.
 pub fn larger(a: u32, b: u32) -> u32

@@ -1,4 +1,5 @@
--- Subset1, Subset0 and Change where the item is not below the top: the result is at hand, or one node of handles at hand.
+-- Subset1, Subset0 and Change where the item is not below the top: the result is at hand, or one node of handles at
+-- hand.
 -- Each is the operation's equation at that place, read through the book that the words hold.
 use Prim.Native.Nat.{ℕ, _<_}
 use mathlib.Core.Path.{_≡_, sym, ap, _∙_}

@@ -1,9 +1,8 @@
 // Subset1, Subset0 and Change: what refuses them, the recursion, and the end of the call.
 ghost use Rattle.op_items.specs.Inner.{ItemOperation};
 ghost use Rattle.op_promise.specs.Promise.{OperationCall};
-use op_cache::Call;
 use crate::recursion::restrict;
-use store_undo::finish;
+use op_cache::Call;
 use store::node::top_of;
 use store::record::Placed;
 use store::record::Refusal;
@@ -11,6 +10,7 @@ use store::record::Store;
 use store::tests::Test;
 use store::tests::item_test;
 use store::tests::tested;
+use store_undo::finish;
 
 // An operation on a family and an item.
 fn of_item(

@@ -3,6 +3,8 @@ ghost use Rattle.op_items.specs.Inner.{RestrictAsks, ItemStepAsks};
 ghost use Prim.Native.Nat.{_<_};
 ghost use Rattle.store.specs.Cache.{named};
 ghost use Rattle.store.specs.Inner.{Ran};
+use crate::terminal::above_top;
+use crate::terminal::at_top;
 use op_cache::Call;
 use op_cache::Recalled;
 use op_cache::recall;
@@ -13,8 +15,6 @@ use store::record::PlaceAnswer;
 use store::record::Placed;
 use store::record::Refusal;
 use store::record::Store;
-use crate::terminal::above_top;
-use crate::terminal::at_top;
 
 // The operation on a family whose top is the level: above and at the top at once, else the cache, then the two sides.
 pub fn restrict(

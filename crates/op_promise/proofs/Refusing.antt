@@ -1,4 +1,5 @@
--- Each way out of the six calls keeps the promise: refused by the tests, by a top that no sound store has, or run to its end.
+-- Each way out of the six calls keeps the promise: refused by the tests, by a top that no sound store has, or run to
+-- its end.
 -- The tests that the calls make are the promise's own.
 use Prim.Native.Nat.{ℕ, _+_, _≤_, _<_, max}
 use mathlib.Core.Path.{_≡_}

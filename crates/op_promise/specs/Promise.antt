@@ -25,7 +25,8 @@ numberOf Diff = 6
 unfoldable pub operationNumber : ℕ → ℕ
 operationNumber n = cond (eqb n 0) 6 (min n 6)
 
--- The number that refuses an operation before it places, 0 where none does: the operations 1 to 3 take a handle and an item, 4 to 6 two handles.
+-- The number that refuses an operation before it places, 0 where none does: the operations 1 to 3 take a handle and
+-- an item, 4 to 6 two handles.
 unfoldable pub operationRefusal : ℕ → ℕ → ℕ → ℕ → ℕ
 operationRefusal op count p q = cond (ltb op 4) (testsOf count p 0 (itemTest q) 0 0) (testsOf count p q 0 0 0)
 

@@ -1,5 +1,7 @@
--- The ways out of the recursions before a step: a terminal case, a result recalled from the cache, words that hold no book.
--- Each gives a handle that the book has already, or is refused on words of no sound store; operands in another order name the same family.
+-- The ways out of the recursions before a step: a terminal case, a result recalled from the cache, words that hold no
+-- book.
+-- Each gives a handle that the book has already, or is refused on words of no sound store; operands in another order
+-- name the same family.
 use Prim.Native.Nat.{ℕ, _≤_}
 use mathlib.Core.Path.{_≡_, refl, sym, _∙_}
 use mathlib.Core.List.{List}

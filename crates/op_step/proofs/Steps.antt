@@ -1,5 +1,7 @@
--- One step of the recursion, the same for every operation: the family is the node of two families that the same operation names below, so placing the two and then the node places it.
--- A refusal on the way stands, since no book on the way is longer than the last; the cache stays true, since every book on the way only grew.
+-- One step of the recursion, the same for every operation: the family is the node of two families that the same
+-- operation names below, so placing the two and then the node places it.
+-- A refusal on the way stands, since no book on the way is longer than the last; the cache stays true, since every
+-- book on the way only grew.
 use Prim.Native.Nat.{ℕ, _+_, _*_, _/_, _≤_, _<_}
 use mathlib.Core.Path.{_≡_, refl, sym, ap, _∙_}
 use mathlib.Core.List.{List}

@@ -25,7 +25,8 @@ pub record JoinAsks (second : Placed) (nodes lookup : List ℕ) (level z : ℕ) 
   pub zero-held : z ≤ second .store .count + 1
   pub one-held : (h : ℕ) → second .answer ≡ Handle h → h ≤ second .store .count + 1
 
--- the end of a step: a refused second result is handed on; else the node of the level, the zero side and the second result, remembered
+-- the end of a step: a refused second result is handed on; else the node of the level, the zero side and the second
+-- result, remembered
 pub record Joined (second : Placed) (nodes lookup cache : List ℕ) (call : Call) (level z : ℕ) (r : Placed) (nodes′ lookup′ cache′ : List ℕ) : Type 0 where
   pub passed : (x : Refusal) → second .answer ≡ Refused x → (r ≡ second) × (nodes′ ≡ nodes) × (lookup′ ≡ lookup) × (cache′ ≡ cache)
   pub made : (o : ℕ) → second .answer ≡ Handle o → NodeIt (second .store) nodes lookup level z o r nodes′ lookup′

@@ -3,9 +3,9 @@ ghost use Rattle.store.specs.declared.record.PlaceAnswer;
 ghost use Rattle.op_step.specs.Inner.{Joined, RememberedAnswer};
 use op_cache::Call;
 use op_cache::remember;
-use store_node::getnode::get_node;
 use store::record::PlaceAnswer;
 use store::record::Placed;
+use store_node::getnode::get_node;
 ghost use Rattle.op_step.specs.Inner.{JoinAsks};
 
 // Keeps the answer of a call in the cache, where it is a handle.

@@ -1,4 +1,5 @@
--- The way down of Has: at each node the members that hold its item are met on the one side, the others on the zero side, and at {{}} no item may be left.
+-- The way down of Has: at each node the members that hold its item are met on the one side, the others on the zero
+-- side, and at {{}} no item may be left.
 -- A combination with an item above the top is in no side, so that it does not matter on which side it is looked for.
 use Prim.Native.Nat.{ℕ, _+_, _*_, _-_, _≤_, _<_}
 use mathlib.Core.Path.{_≡_, refl, sym, ap, _∙_}
@@ -39,7 +40,8 @@ has-base : (c : List ℕ) → has base c ≡ isNone c
 has-base [] = refl
 has-base (x ∷ c) = refl
 
--- on the way down from p: the rest is a member here exactly when the combination is one of p, and the top is at most what is left
+-- on the way down from p: the rest is a member here exactly when the combination is one of p, and the top is at most
+-- what is left
 pub record Along (nodes : List ℕ) (n p : ℕ) (c : List ℕ) (at′ : ℕ) (rest : List ℕ) (left : ℕ) : Type 0 where
   pub same : (B : List Family) (lookup : List ℕ) → Holds B n nodes lookup → (at′ ≤ n + 1) × (has (at B at′) rest ≡ has (at B p) c) × (top (at B at′) ≤ left)
 

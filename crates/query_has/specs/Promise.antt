@@ -18,7 +18,8 @@ use Rattle.query_has.specs.declared.HasAnswer.the-variants.{Yes, No, Ref
 use Rattle.query_has.specs.declared.Asked.{Asked}
 use Rattle.store.specs.Tests.{testsOf}
 
--- what Has gives besides the record: the refusal's number, 0 where there is none, and yes or no, no where it is refused
+-- what Has gives besides the record: the refusal's number, 0 where there is none, and yes or no, no where it is
+-- refused
 pub record HasGiven : Type 0 where
   pub refusal : ℕ
   pub member : Bool

@@ -32,7 +32,8 @@ pub struct Way {
     pub rest: Combination,
 }
 
-// The way from the node whose words start at `base`: to its one child where the item is to be met, else to its zero child.
+// The way from the node whose words start at `base`: to its one child where the item is to be met, else to its zero
+// child.
 fn step(nodes: &[u32], base: usize, rest: Combination) -> Way
     requires { ⌜ base + 3 ≤ length (now nodes) ⌝ }
     ensures { λ r. ⌜ Stepped (now (nodes .entry)) base (itemsOf (rest .words)) (r .at) (itemsOf (r .rest .words)) ⌝ }

@@ -1,4 +1,5 @@
--- Whether a size whose word is 2^64 - 1 is above that: on the way down the one sides the size stays the same, until a side tells.
+-- Whether a size whose word is 2^64 - 1 is above that: on the way down the one sides the size stays the same, until a
+-- side tells.
 -- The tops fall, so the way ends within the limit.
 use Prim.Native.Nat.{ℕ, zero, suc, _+_, _*_, _-_, _≤_, _<_, min}
 use mathlib.Core.Path.{_≡_, refl, sym, ap, _∙_}

@@ -76,7 +76,8 @@ logByte capacity g b = whileGoing (g .ending) (readOn capacity g (nextByte (g .l
 abbrev pub feed : ℕ → Log → List ℕ → Log
 feed capacity g bytes = foldl (logByte capacity) g bytes
 
--- a number as 64 bits hold it. Of an input of at most 18,446,744,073,709,551,615 lines every number is at most that, and so exact.
+-- a number as 64 bits hold it. Of an input of at most 18,446,744,073,709,551,615 lines every number is at most that,
+-- and so exact.
 abbrev pub capped : ℕ → ℕ
 capped n = min n most
 

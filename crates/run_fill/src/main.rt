@@ -1,4 +1,5 @@
-// Makes 100,000 nodes, audits, fills the store to a refusal with 5, and tests that all is as before; writes a line for each.
+// Makes 100,000 nodes, audits, fills the store to a refusal with 5, and tests that all is as before; writes a line
+// for each.
 mod compare;
 mod making;
 mod output;

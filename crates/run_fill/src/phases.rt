@@ -10,9 +10,9 @@ use crate::output::given;
 use crate::output::record;
 use crate::output::text;
 use crate::output::told;
+use store::record::Store;
 use store_audit::audit::audit;
 use store_fresh::fresh;
-use store::record::Store;
 
 // How many calls a phase has, whether they are unions or changes, and whether an audit follows.
 struct Plan {

@@ -54,7 +54,8 @@ fn put_fields(file: &mut [u8], at: usize, fields: Fields) -> usize {
     put_field(file, second, bits / 4 % 2 == 1, true, fields.one)
 }
 
-// An item: mostly the one before plus 1, or a little more; seldom the same, a small one, or one near the end of the items.
+// An item: mostly the one before plus 1, or a little more; seldom the same, a small one, or one near the end of the
+// items.
 fn craft_item(x: u32, before: u32) -> u32 {
     let way = x % 32;
     if way == 0 {

@@ -16,12 +16,13 @@ use crate::turn::Manner;
 use crate::turn::State;
 use crate::turn::turn;
 use crate::turn::with_record;
+use store::record::Store;
 use store_fresh::FreshAnswer;
 use store_fresh::Freshened;
 use store_fresh::fresh;
-use store::record::Store;
 
-// What is lent to a list, how many items it has, and how many calls. One with more than 16 items always lends its whole cache.
+// What is lent to a list, how many items it has, and how many calls. One with more than 16 items always lends its
+// whole cache.
 struct Setting {
     nodes: usize,
     lookup: usize,

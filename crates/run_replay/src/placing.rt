@@ -39,7 +39,8 @@ fn name(op: u32) {
     }
 }
 
-// Writes a refusal, and of the lent cache words: after 5 whether the whole groups are 0, else whether all are as before.
+// Writes a refusal, and of the lent cache words: after 5 whether the whole groups are 0, else whether all are as
+// before.
 fn refused_with(refusal: Refusal, cache: &[u32], before: u32) {
     refused(refusal);
     match refusal {

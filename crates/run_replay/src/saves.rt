@@ -119,7 +119,8 @@ fn file_line(file: &[u8], count: usize) {
     text(b"\n");
 }
 
-// Saves p; where that gives a length, writes the file, and saves again into just that many bytes and into one less. Gives the length of the last file.
+// Saves p; where that gives a length, writes the file, and saves again into just that many bytes and into one less.
+// Gives the length of the last file.
 pub fn lines(
     p: u32,
     room: Room,

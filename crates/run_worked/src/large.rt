@@ -8,8 +8,8 @@ use crate::output::word;
 use crate::questions::size_given;
 use op_calls::operate;
 use op_promise::operation_of;
-use store_fresh::fresh;
 use store::record::Store;
+use store_fresh::fresh;
 
 // A record, and the handles of all subsets so far and of what came last.
 struct Built {

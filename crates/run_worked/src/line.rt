@@ -12,7 +12,8 @@ use store::record::Placed;
 use store::record::Refusal;
 use store::record::Store;
 
-// The operations in the order of document 01: the worked store's, and from 11 on the first and the last item and the numbers beside them.
+// The operations in the order of document 01: the worked store's, and from 11 on the first and the last item and the
+// numbers beside them.
 fn numbered(k: u32) -> Operation {
     match k {
         0 => of(3, 1, 1),

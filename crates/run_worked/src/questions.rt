@@ -4,11 +4,11 @@ use crate::output::decimal;
 use crate::output::text;
 use crate::output::word;
 use combination::Combination;
-use query_size::SizeAnswer;
-use query_size::size;
 use query_has::Asked;
 use query_has::HasAnswer;
 use query_has::has;
+use query_size::SizeAnswer;
+use query_size::size;
 use store::record::Store;
 
 // The combination of items up to 32 whose bits are these.

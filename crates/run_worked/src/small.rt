@@ -7,10 +7,10 @@ use crate::output::decimal;
 use crate::output::text;
 use crate::output::word;
 use crate::questions::has_line;
+use store::record::Store;
 use store_fresh::FreshAnswer;
 use store_fresh::Freshened;
 use store_fresh::fresh;
-use store::record::Store;
 use table::start::start_slot;
 
 // Writes what Fresh gave.

@@ -1,4 +1,5 @@
--- The sides of a handle at a level: itself and {} where its top is below, else its children; and which words no book has.
+-- The sides of a handle at a level: itself and {} where its top is below, else its children; and which words no book
+-- has.
 -- Where the words hold a book, a node's children have smaller numbers and smaller tops, so no test on the way fails.
 use Prim.Native.Nat.{ℕ, suc, _+_, _*_, _-_, _≤_, _<_}
 use mathlib.Core.Path.{_≡_, refl, sym, ap, _∙_}

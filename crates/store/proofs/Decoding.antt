@@ -1,4 +1,5 @@
--- The book of words: where words hold a book it is the one that the definition reads, and the words of a sound store hold it.
+-- The book of words: where words hold a book it is the one that the definition reads, and the words of a sound store
+-- hold it.
 -- By induction on the nodes; in a sound store each node's words extend the book of those before.
 use Prim.Native.Nat.{ℕ, zero, suc, _+_, _*_, _-_, _≤_, _<_}
 use mathlib.Core.Path.{_≡_, refl, sym, ap, _∙_}

@@ -1,4 +1,5 @@
--- The words of a book: where words hold a book, the nodes' words and the lookup are those that the definitions give for it.
+-- The words of a book: where words hold a book, the nodes' words and the lookup are those that the definitions give
+-- for it.
 -- The n-th triple of the book is the n-th node's words, since a held family's number is its handle.
 use Prim.Native.Nat.{ℕ, zero, suc, _+_, _*_, _-_, _≤_, _<_}
 use mathlib.Core.Path.{_≡_, refl, sym, ap, _∙_}

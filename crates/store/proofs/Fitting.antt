@@ -1,4 +1,5 @@
--- A record as its two numbers; and when it fits words of some lengths and holds a handle: the tests part by part, and what they say where they pass.
+-- A record as its two numbers; and when it fits words of some lengths and holds a handle: the tests part by part, and
+-- what they say where they pass.
 -- Each is one branch of the definition.
 use Prim.Native.Nat.{ℕ, _+_, _-_, _≤_, _<_}
 use mathlib.Core.Path.{_≡_, sym, _∙_}

@@ -1,4 +1,5 @@
--- What any words keep through a call: it chains, it keeps the room for the next call, and it keeps the tops of the handles held before.
+-- What any words keep through a call: it chains, it keeps the room for the next call, and it keeps the tops of the
+-- handles held before.
 -- All of it is read off the kept words below the old count and above the new one.
 use Prim.Native.Nat.{ℕ, _+_, _*_, _-_, _≤_}
 use mathlib.Core.Path.{_≡_, refl, sym, _∙_}

@@ -1,4 +1,5 @@
--- The family that an operation names: it hangs on its operands alone, keeps to the limit, and follows the equations of the recursion.
+-- The family that an operation names: it hangs on its operands alone, keeps to the limit, and follows the equations
+-- of the recursion.
 -- Operations 4 to 6 are one combination by a rule on memberships; 1 to 3 are the three restrictions by an item.
 use Prim.Native.Nat.{ℕ, suc, _-_, _≤_, _<_}
 use mathlib.Core.Path.{_≡_, refl, sym, ap, _∙_}

@@ -1,4 +1,5 @@
--- Calls that need no new node: a handle that is in the book already, or words that hold no book; and calls that leave the cache alone.
+-- Calls that need no new node: a handle that is in the book already, or words that hold no book; and calls that leave
+-- the cache alone.
 -- Placing what is held changes nothing, and a cache that is true of a book is true of every book that it grows to.
 use Prim.Native.Nat.{ℕ, _+_, _≤_, _<_}
 use mathlib.Core.Path.{_≡_, refl, sym, _∙_}

@@ -1,4 +1,5 @@
--- The probe for a node's words where the words hold a book: it finds the node's number where the book holds the node, and else an empty slot.
+-- The probe for a node's words where the words hold a book: it finds the node's number where the book holds the node,
+-- and else an empty slot.
 -- The book holds the node exactly when some node has its words.
 use Prim.Native.Nat.{ℕ, _+_, _-_, _≤_, _<_}
 use mathlib.Core.Path.{_≡_, refl, sym, ap, _∙_}

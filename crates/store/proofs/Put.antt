@@ -1,4 +1,5 @@
--- The words of a new node after n others: those before and after stay, and the lookup with its number entered is the lookup of one node more.
+-- The words of a new node after n others: those before and after stay, and the lookup with its number entered is the
+-- lookup of one node more.
 -- The three stores hit three different places, and the start slots of the nodes before hang on words that stay.
 use Prim.Native.Nat.{ℕ, suc, _+_, _*_, _≤_, _<_}
 use mathlib.Core.Path.{_≡_, sym, _∙_}

@@ -1,4 +1,5 @@
--- The tests before a call: each branch of the definition under its own condition, and what the two answers of `tested` say.
+-- The tests before a call: each branch of the definition under its own condition, and what the two answers of
+-- `tested` say.
 -- Where nothing refuses, every test passed; a refusal has the number of the tests, or is a certain 10.
 use Prim.Native.Nat.{ℕ, _+_, _≤_, _<_}
 use mathlib.Core.Path.{_≡_, refl, sym, ap, _∙_}

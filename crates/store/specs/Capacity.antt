@@ -7,6 +7,7 @@ use lib.Dec.{eqb, ltb, leb}
 abbrev pub capacityOf : ℕ → ℕ
 capacityOf words = min (words / 3) 1000000
 
--- "10 is certain where the capacity in the record isn't the one that the node words give, the lookup isn't longer, or the count exceeds the capacity": whether none of the three holds, for the lengths of the node and lookup words
+-- "10 is certain where the capacity in the record isn't the one that the node words give, the lookup isn't longer, or
+-- the count exceeds the capacity": whether none of the three holds, for the lengths of the node and lookup words
 unfoldable pub fitting : ℕ → ℕ → ℕ → ℕ → Bool
 fitting capacity count nodes lookup = eqb capacity (capacityOf nodes) && (ltb capacity lookup && leb count capacity)

@@ -1,4 +1,5 @@
--- What the functions below the public calls promise each other: on any words that fit, and where the words hold a book. A reader of the promises can pass this page over.
+-- What the functions below the public calls promise each other: on any words that fit, and where the words hold a
+-- book. A reader of the promises can pass this page over.
 use Prim.Native.Nat.{ℕ, _+_, _*_, _-_, _/_, _≤_, _<_}
 use mathlib.Core.Path.{_≡_}
 use mathlib.Core.List.{List}
@@ -48,7 +49,8 @@ pub data Outcome (C : List Family) (F : Family) (capacity n : ℕ) (nodes lookup
   gave : {h : ℕ} → Handed C F h n nodes lookup → Outcome C F capacity n nodes lookup (Handle h)
   full : (D : List Family) → Holds D n nodes lookup → capacity + 2 < length C → Outcome C F capacity n nodes lookup (Refused Full)
 
--- what any words keep: the capacity, the words of the nodes held before, and all words past those of the nodes held after
+-- what any words keep: the capacity, the words of the nodes held before, and all words past those of the nodes held
+-- after
 pub record Kept (s : Store) (nodes lookup : List ℕ) (s′ : Store) (nodes′ lookup′ : List ℕ) : Type 0 where
   pub same-capacity : s′ .capacity ≡ s .capacity
   pub grows : s .count ≤ s′ .count
@@ -96,7 +98,8 @@ pub data SidesOf (nodes : List ℕ) (n p level : ℕ) : Sides → Type 0 where
 unfoldable pub putNode : List ℕ → ℕ → ℕ → ℕ → ℕ → List ℕ
 putNode nodes count item z o = set (set (set nodes (3 * count) item) (3 * count + 1) z) (3 * count + 2) o
 
--- A call that places the family F B of the book B that the words hold, with a true cache before and after. On any words it keeps what must be kept.
+-- A call that places the family F B of the book B that the words hold, with a true cache before and after. On any
+-- words it keeps what must be kept.
 pub record Ran (F : List Family → Family) (s : Store) (nodes lookup cache : List ℕ) (r : Placed) (nodes′ lookup′ cache′ : List ℕ) : Type 0 where
   pub kept : Kept s nodes lookup (r .store) nodes′ lookup′
   pub handle : (h : ℕ) → r .answer ≡ Handle h → h ≤ r .store .count + 1

@@ -1,4 +1,5 @@
--- How a call that places a family ends, worked out from the book alone: document 01, 'Calls' and 'Numbers and trade words'.
+-- How a call that places a family ends, worked out from the book alone: document 01, 'Calls' and 'Numbers and trade
+-- words'.
 use Prim.Native.Nat.{ℕ, _-_}
 use mathlib.Core.Bool.{Bool, cond}
 use mathlib.Core.List.{List}
@@ -23,6 +24,7 @@ placeAnswer capacity B refusal F =
     (cond (tooLarge capacity B F) (record { refusal = 5; handle = 0 }) (record { refusal = 0; handle = number (place B F) F }))
     (record { refusal = refusal; handle = 0 })
 
--- The book after it: "The call is refused ..; the book then stays. Otherwise a call that places .. puts each part not yet held at the book's end, in placing order"
+-- The book after it: "The call is refused ..; the book then stays. Otherwise a call that places .. puts each part not
+-- yet held at the book's end, in placing order"
 unfoldable pub placeBook : ℕ → List Family → ℕ → Family → List Family
 placeBook capacity B refusal F = cond (eqb refusal 0) (cond (tooLarge capacity B F) B (place B F)) B

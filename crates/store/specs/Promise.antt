@@ -27,7 +27,8 @@ pub record Left : Type 0 where
 abbrev pub leaves : Placed → List ℕ → List ℕ → Left
 leaves r nodes lookup = record { given = givenBy (r .answer); store = r .store; nodes = nodes; lookup = lookup }
 
--- what a placing call leaves on a sound store: the answer by the book that the words hold; where refused every word and the record stay, else they are those of the book after the call
+-- what a placing call leaves on a sound store: the answer by the book that the words hold; where refused every word
+-- and the record stay, else they are those of the book after the call
 unfoldable pub placing : ℕ → Family → Store → List ℕ → List ℕ → Left
 placing refusal F s nodes lookup =
     let B = bookOf nodes (s .count) in
@@ -46,14 +47,16 @@ placing refusal F s nodes lookup =
 unfoldable pub cacheRefused : ℕ → List ℕ → List ℕ
 cacheRefused refusal cache = cond (eqb refusal 5) (zeroed 0 (length cache / 4 * 4) cache) cache
 
--- What a placing call promises of a sound store. "Which groups are filled after a success is free": of the cache it says that the store is sound with it, and that words past the whole groups stay.
+-- What a placing call promises of a sound store. "Which groups are filled after a success is free": of the cache it
+-- says that the store is sound with it, and that words past the whole groups stay.
 pub record Placed-sound (refusal : ℕ) (F : Family) (s : Store) (nodes lookup cache : List ℕ) (r : Placed) (nodes′ lookup′ cache′ : List ℕ) : Type 0 where
   pub leaves-is : leaves r nodes′ lookup′ ≡ placing refusal F s nodes lookup
   pub refused-cache : (n : ℕ) → givenBy (r .answer) .refusal ≡ n → (n ≡ 0 → ⊥) → cache′ ≡ cacheRefused n cache
   pub sound : Sound (r .store) nodes′ lookup′ cache′
   pub rest : drop (length cache / 4 * 4) cache′ ≡ drop (length cache / 4 * 4) cache
 
--- The promise. `refusal` and `F` say, for the book that the words hold, which number refuses the call before it places, and the family that it takes.
+-- The promise. `refusal` and `F` say, for the book that the words hold, which number refuses the call before it
+-- places, and the family that it takes.
 pub record PlaceCall (refusal : ℕ) (F : Family) (s : Store) (nodes lookup cache : List ℕ) (r : Placed) (nodes′ lookup′ cache′ : List ℕ) : Type 0 where
   -- a certain 10: every word and the record stay
   pub misfit : fitting (s .capacity) (s .count) (length nodes) (length lookup) ≡ false

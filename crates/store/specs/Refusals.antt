@@ -18,7 +18,8 @@ refusalNumber Output = 8
 refusalNumber NoFile = 9
 refusalNumber Damaged = 10
 
--- What a call that places gives besides the record: the refusal's number, 0 where there is none, and the handle, "0 where the answer has such a field" and is refused.
+-- What a call that places gives besides the record: the refusal's number, 0 where there is none, and the handle, "0
+-- where the answer has such a field" and is refused.
 pub record Given : Type 0 where
   pub refusal : ℕ
   pub handle : ℕ

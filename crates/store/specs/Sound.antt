@@ -9,7 +9,8 @@ use Rattle.store.specs.Capacity.{capacityOf}
 use Rattle.store.specs.Words.{itemLimit, topAt, bookOf}
 use Rattle.store.specs.Cache.{True}
 
--- What the words of node number k + 2 obey: "An item is a number from 1 to 512", "No node has one child 0", "nodes have children with smaller numbers and smaller tops".
+-- What the words of node number k + 2 obey: "An item is a number from 1 to 512", "No node has one child 0", "nodes
+-- have children with smaller numbers and smaller tops".
 pub record Node (nodes : List ℕ) (k item zeroChild oneChild : ℕ) : Type 0 where
   pub item-limit : item ≤ itemLimit
   pub one-some : 0 < oneChild
@@ -18,7 +19,8 @@ pub record Node (nodes : List ℕ) (k item zeroChild oneChild : ℕ) : Type 0 wh
   pub zero-below : topAt nodes zeroChild < item
   pub one-below : topAt nodes oneChild < item
 
--- "A store is sound when its words and record obey all of the above, .. the capacity's node words past the count are 0, and the lookup is what entering the nodes in rising number gives."
+-- "A store is sound when its words and record obey all of the above, .. the capacity's node words past the count are
+-- 0, and the lookup is what entering the nodes in rising number gives."
 pub record Sound (s : Store) (nodes lookup cache : List ℕ) : Type 0 where
   pub capacity-is : s .capacity ≡ capacityOf (length nodes)
   pub longer : s .capacity < length lookup

@@ -22,12 +22,14 @@ isItem v = ltb 0 v && leb v itemLimit
 abbrev pub itemTest : ℕ → ℕ
 itemTest v = cond (isItem v) 0 3
 
--- 4: "a handle above count + 1", of two handles; then what the call finds by its own test, as 3; then 7: "scratch shorter than stated". 0 where nothing refuses the call.
+-- 4: "a handle above count + 1", of two handles; then what the call finds by its own test, as 3; then 7: "scratch
+-- shorter than stated". 0 where nothing refuses the call.
 -- A call with one handle or none has 0 for the others, which is always held; one without scratch needs none.
 unfoldable pub testsOf : ℕ → ℕ → ℕ → ℕ → ℕ → ℕ → ℕ
 testsOf count p q own scratch need =
     cond (ltb (count + 1) p) 4 (cond (ltb (count + 1) q) 4 (cond (eqb own 0) (cond (ltb scratch need) 7 0) own))
 
--- What the tests of a call find over words of these lengths: 10 where the record does not fit them, else the number of the tests.
+-- What the tests of a call find over words of these lengths: 10 where the record does not fit them, else the number
+-- of the tests.
 pub record Found (s : Store) (nodes lookup p q own scratch need : ℕ) (r : Test) : Type 0 where
   pub number-is : testNumber r ≡ cond (fitting (s .capacity) (s .count) nodes lookup) (testsOf (s .count) p q own scratch need) 10

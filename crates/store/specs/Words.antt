@@ -18,7 +18,8 @@ itemLimit = 512
 unfoldable pub topAt : List ℕ → ℕ → ℕ
 topAt nodes p = cond (ltb p 2) 0 (getD nodes (3 * (p - 2)) 0)
 
--- "It means: zero child's family, together with one child's members each with the item added": the families of the handles 0 to n + 1, in rising number
+-- "It means: zero child's family, together with one child's members each with the item added": the families of the
+-- handles 0 to n + 1, in rising number
 unfoldable pub bookOf : List ℕ → ℕ → List Family
 bookOf nodes zero = start
 bookOf nodes (suc n) =
@@ -33,7 +34,8 @@ flat (triple i z o ∷ ts) = i ∷ z ∷ o ∷ flat ts
 unfoldable pub wordsOf : List Family → List ℕ
 wordsOf B = flat (triplesOf B (drop 2 B))
 
--- the lent node words once they hold a book: the book's words, "the capacity's node words past the count are 0", and what belongs to nobody as it was
+-- the lent node words once they hold a book: the book's words, "the capacity's node words past the count are 0", and
+-- what belongs to nobody as it was
 unfoldable pub nodesWith : ℕ → List Family → List ℕ → List ℕ
 nodesWith capacity B nodes = wordsOf B ++ (replicate (3 * capacity - length (wordsOf B)) 0 ++ drop (3 * capacity) nodes)
 
@@ -41,6 +43,7 @@ nodesWith capacity B nodes = wordsOf B ++ (replicate (3 * capacity - length (wor
 unfoldable pub lookupOf : ℕ → List Family → List ℕ
 lookupOf len B = entered (startAt (wordsOf B) len) len (length B - 2)
 
--- what a word per node says of a handle: the handles 0 and 1 stand for themselves, and handle h from 2 on has word h − 2
+-- what a word per node says of a handle: the handles 0 and 1 stand for themselves, and handle h from 2 on has word h
+-- − 2
 unfoldable pub wordOf : List ℕ → ℕ → ℕ
 wordOf words h = cond (ltb h 2) h (getD words (h - 2) 0)

@@ -23,8 +23,10 @@ pub fn item_test(item: u32) -> Test
     Test::Clear
 }
 
-// What refuses a call over words of these lengths: a record that does not fit, a handle that is not held, what the call
-// found by its own test, scratch that is short. A call with one handle or none tests the handle 0, which is always held.
+// What refuses a call over words of these lengths: a record that does not fit, a handle that is not held, what the
+// call
+// found by its own test, scratch that is short. A call with one handle or none tests the handle 0, which is always
+// held.
 pub fn tested(
     store: Store,
     nodes: usize,

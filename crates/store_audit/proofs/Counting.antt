@@ -1,4 +1,5 @@
--- How many slots hold a number: slot by slot, and a lookup that is a part of another and holds as many numbers is that other.
+-- How many slots hold a number: slot by slot, and a lookup that is a part of another and holds as many numbers is
+-- that other.
 -- By induction on the slots: where a slot of the part is empty and that of the whole is not, the whole holds more.
 use Prim.Native.Nat.{ℕ, suc, _+_, _≤_, _<_}
 use mathlib.Core.Path.{_≡_, refl, sym, ap, _∙_}

@@ -1,5 +1,7 @@
--- A lookup in which each node's own search stops at its number, and which holds as many numbers as there are nodes, is the one that entering the nodes gives, and no two nodes have equal words; and the other way round.
--- The search stops at each slot that is empty before the node is entered, so it stops where the node is entered; a node with equal words before it would have stopped it there.
+-- A lookup in which each node's own search stops at its number, and which holds as many numbers as there are nodes,
+-- is the one that entering the nodes gives, and no two nodes have equal words; and the other way round.
+-- The search stops at each slot that is empty before the node is entered, so it stops where the node is entered; a
+-- node with equal words before it would have stopped it there.
 use Prim.Native.Nat.{ℕ, zero, suc, _+_, _*_, _≤_, _<_}
 use mathlib.Core.Path.{_≡_, refl, sym, ap, _∙_, subst}
 use mathlib.Core.Bool.{Bool, true}
@@ -102,7 +104,8 @@ module _ (nodes l : List ℕ) (n : ℕ) (fits : n < length l) (own : (k : ℕ) �
   pub are-distinct : Distinct nodes n
   are-distinct = record { apart = λ j k f h w. none-before k k j h f f w }
 
--- the other way: in the lookup that entering gives, each search stops at the node's number, and as many slots are used as there are nodes
+-- the other way: in the lookup that entering gives, each search stops at the node's number, and as many slots are
+-- used as there are nodes
 module _ (nodes l : List ℕ) (n : ℕ) (fits : n < length l) (is : l ≡ entered (startAt nodes (length l)) (length l) n) where
   pub entered-used : used l ≡ n
   entered-used = ap used is ∙ filled (startAt nodes (length l)) (length l) (starts-in nodes (length l) (omega arith)) n (omega arith)

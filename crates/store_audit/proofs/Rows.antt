@@ -1,5 +1,7 @@
--- A lookup in which number k + 2 stands at a slot that is given for it, for each of n numbers, and that holds n numbers, is the one in which they are entered at these slots.
--- A slot given for one number is empty before that number is entered, since it holds a larger one; so the entered ones are a part of the lookup that holds as many.
+-- A lookup in which number k + 2 stands at a slot that is given for it, for each of n numbers, and that holds n
+-- numbers, is the one in which they are entered at these slots.
+-- A slot given for one number is empty before that number is entered, since it holds a larger one; so the entered
+-- ones are a part of the lookup that holds as many.
 use Prim.Native.Nat.{ℕ, zero, suc, _+_, _≤_, _<_}
 use mathlib.Core.Path.{_≡_, sym, ap, _∙_}
 use mathlib.Core.List.{List}

@@ -1,4 +1,5 @@
--- Each way out of the tests: words that are 0, a node's own slot, the rules of a node, and all nodes one after another.
+-- Each way out of the tests: words that are 0, a node's own slot, the rules of a node, and all nodes one after
+-- another.
 -- A test that fails is one rule broken; all tests passed are all rules kept.
 use Prim.Native.Nat.{ℕ, _+_, _≤_, _<_}
 use mathlib.Core.Path.{_≡_, ap, _∙_}

@@ -1,5 +1,6 @@
 -- Each way out of the whole test, and Audit's promise.
--- The tests passed are the rules of a sound store: the nodes' own slots and the used slots say that the lookup is what entering gives and that no two nodes have equal words; and in a sound store every test passes.
+-- The tests passed are the rules of a sound store: the nodes' own slots and the used slots say that the lookup is
+-- what entering gives and that no two nodes have equal words; and in a sound store every test passes.
 use Prim.Native.Nat.{ℕ, _*_, _/_, _<_}
 use mathlib.Core.Path.{_≡_, refl}
 use mathlib.Core.Bool.{Bool, true, false}

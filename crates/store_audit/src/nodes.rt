@@ -5,7 +5,8 @@ ghost use Rattle.store_audit.specs.Inner.{Decides, NodeAt, NodesTo};
 use crate::slots::is_entered;
 use store::node::top_of;
 
-// Whether the words of node k + 2 are an item, a child before it, and a child before it that is not {}, both with smaller tops.
+// Whether the words of node k + 2 are an item, a child before it, and a child before it that is not {}, both with
+// smaller tops.
 fn obeys(nodes: &[u32], k: u32) -> bool
     requires { ⌜ RowAsks (now nodes) k ⌝ }
     ensures { λ r. ⌜ Decides (NodeAt (now (nodes .entry)) k) r ⌝ }

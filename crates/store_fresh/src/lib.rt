@@ -33,7 +33,8 @@ pub fn base() -> u32
     1
 }
 
-// Makes an empty store of the lent words: zeroes the node words of the capacity, the lookup and the whole cache groups.
+// Makes an empty store of the lent words: zeroes the node words of the capacity, the lookup and the whole cache
+// groups.
 pub fn fresh(nodes: &mut [u32], lookup: &mut [u32], cache: &mut [u32]) -> Freshened
     ensures { λ r. ⌜ FreshCall (now (nodes .entry)) (now (lookup .entry)) (now (cache .entry)) r (now (nodes .exit)) (now (lookup .exit)) (now (cache .exit)) ⌝ }
 {

@@ -1,4 +1,5 @@
--- Each way out of `make`: where the words hold a book the probe's slot tells whether the book holds the node, so it is found, new at the book's end, or has no room, and never damaged.
+-- Each way out of `make`: where the words hold a book the probe's slot tells whether the book holds the node, so it
+-- is found, new at the book's end, or has no room, and never damaged.
 -- A new node's words and slot give the words of the book with that node.
 use Prim.Native.Nat.{ℕ, suc, _+_, _*_, _-_, _≤_, _<_}
 use mathlib.Core.Path.{_≡_, ap, _∙_}

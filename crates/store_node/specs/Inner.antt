@@ -1,4 +1,5 @@
--- What making a node promises: on any words that fit, and where the words hold a book. A reader of the promises can pass this page over.
+-- What making a node promises: on any words that fit, and where the words hold a book. A reader of the promises can
+-- pass this page over.
 use Rattle.store.specs.declared.record.PlaceAnswer.the-variants.{Handle}
 use Rattle.store.specs.declared.record.Placed.{Placed}
 use Prim.Native.Nat.{ℕ, _+_, _≤_, _-_, _<_, _*_}

@@ -1,10 +1,10 @@
 // Getnode of document 001: the family of an item and two sides.
 ghost use Rattle.store_node.specs.Inner.{NodeAsks, NodeIt};
+use crate::unique::Made;
+use crate::unique::make;
 use store::record::Placed;
 use store::record::Refusal;
 use store::record::Store;
-use crate::unique::Made;
-use crate::unique::make;
 
 // The family of this item and these two sides: the zero side itself where the one side is {}, else the node.
 pub fn get_node(

@@ -1,5 +1,6 @@
 -- Taking back all nodes that a refused call made leaves the node and lookup words as they were before it.
--- The nodes before keep their words, the words past them were blank, and emptying the newest slots gives the lookup of the nodes before.
+-- The nodes before keep their words, the words past them were blank, and emptying the newest slots gives the lookup
+-- of the nodes before.
 use Prim.Native.Nat.{ℕ, _+_, _*_, _-_, _≤_, _<_}
 use mathlib.Core.Path.{_≡_, sym, ap, _∙_}
 use mathlib.Core.List.{List}

@@ -23,7 +23,8 @@ pub record RolledBack (s : Store) (nodes lookup : List ℕ) (keep : ℕ) (s′ :
   pub nodes-are : nodes′ ≡ zeroed (3 * keep) (3 * s .count) nodes
   pub lookup-is : lookup′ ≡ cleared nodes lookup keep (s .count - keep)
 
--- How a call ends: with its handle as it is; or, refused, with the newest nodes taken back until `keep` are left and the whole cache groups zeroed.
+-- How a call ends: with its handle as it is; or, refused, with the newest nodes taken back until `keep` are left and
+-- the whole cache groups zeroed.
 pub record Finished (placed : Placed) (keep : ℕ) (nodes lookup cache : List ℕ) (r : Placed) (nodes′ lookup′ cache′ : List ℕ) : Type 0 where
   pub gave : (h : ℕ) → placed .answer ≡ Handle h → (r ≡ placed) × (nodes′ ≡ nodes) × (lookup′ ≡ lookup) × (cache′ ≡ cache)
   pub undone : (x : Refusal) → placed .answer ≡ Refused x

@@ -1,9 +1,9 @@
 // Taking back the newest nodes.
 ghost use Rattle.store_undo.specs.Inner.{UndoAsks, RolledBack, Finished};
-use table::own_slots::clear_newest;
 use store::record::PlaceAnswer;
 use store::record::Placed;
 use store::record::Store;
+use table::own_slots::clear_newest;
 use words::zero;
 use words::zero_groups;
 
@@ -18,7 +18,8 @@ pub fn rollback(store: Store, nodes: &mut [u32], lookup: &mut [u32], keep: u32) 
     store.rolled_back(keep)
 }
 
-// Ends a call that places: a handle stays; after a refusal the nodes from `keep` on are taken back and the whole cache groups zeroed.
+// Ends a call that places: a handle stays; after a refusal the nodes from `keep` on are taken back and the whole
+// cache groups zeroed.
 pub fn finish(
     placed: Placed,
     keep: u32,

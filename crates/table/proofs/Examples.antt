@@ -1,4 +1,5 @@
--- Document 01's worked store, as far as the table goes, computed by the checker: the wrapped sum, the slot, and the lookup of four nodes.
+-- Document 01's worked store, as far as the table goes, computed by the checker: the wrapped sum, the slot, and the
+-- lookup of four nodes.
 -- Each holds by computation alone.
 use Prim.Native.Nat.{ℕ, _+_, _*_, _%_, _^_}
 use mathlib.Core.Path.{_≡_, refl}

@@ -1,5 +1,6 @@
 -- The lookup of n nodes holds each number once, at the slot where it was entered, and nothing else.
--- By induction on n: entering takes a slot that was empty, so it moves no earlier number, and emptying it again gives the lookup of one node less.
+-- By induction on n: entering takes a slot that was empty, so it moves no earlier number, and emptying it again gives
+-- the lookup of one node less.
 use Prim.Native.Nat.{ℕ, zero, suc, _+_, _-_, _≤_, _<_}
 use mathlib.Core.Path.{_≡_, refl, sym, ap, _∙_, subst}
 use mathlib.Core.Bool.{Bool, true}

@@ -1,5 +1,6 @@
 -- A search for words in the lookup of n nodes finds the slot of the node that has them, and else the first empty slot.
--- A slot that stops the search before that would have been empty when the node was entered, or would hold an earlier node with the same words.
+-- A slot that stops the search before that would have been empty when the node was entered, or would hold an earlier
+-- node with the same words.
 use Prim.Native.Nat.{ℕ, _+_, _*_, _≤_, _<_}
 use mathlib.Core.Path.{_≡_, sym, _∙_}
 use mathlib.Core.Bool.{true, false}

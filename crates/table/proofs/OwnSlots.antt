@@ -1,4 +1,5 @@
--- A node's own slot is the slot where it was entered, so emptying the slots of the newest nodes gives the lookup of the first ones again.
+-- A node's own slot is the slot where it was entered, so emptying the slots of the newest nodes gives the lookup of
+-- the first ones again.
 -- Among the nodes before it no node has its words, and a number from its own on stops the search.
 use Prim.Native.Nat.{ℕ, zero, suc, _+_, _*_, _-_, _≤_, _<_}
 use mathlib.Core.Path.{_≡_, refl, ap, _∙_}

@@ -1,5 +1,6 @@
 -- A scan finds a slot at which its test holds wherever there is one, and what it finds hangs on the slots up to there.
--- Each law is an induction on the steps; around the end a slot is reached after at most as many steps as there are slots.
+-- Each law is an induction on the steps; around the end a slot is reached after at most as many steps as there are
+-- slots.
 use Prim.Native.Nat.{ℕ, zero, suc, _+_, _-_, _<_}
 use mathlib.Core.Path.{_≡_, refl, ap, _∙_}
 use mathlib.Core.Bool.{Bool, true, false}

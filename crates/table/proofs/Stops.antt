@@ -1,4 +1,5 @@
--- Where the search for words stops: at a number that is none of the nodes searched, and at the node that has the words.
+-- Where the search for words stops: at a number that is none of the nodes searched, and at the node that has the
+-- words.
 -- Each is one branch of the test.
 use Prim.Native.Nat.{ℕ, _+_, _*_, _-_, _≤_, _<_}
 use mathlib.Core.Path.{_≡_, _∙_}

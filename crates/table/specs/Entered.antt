@@ -15,7 +15,8 @@ emptySlot lookup x = eqb (getD lookup x 0) 0
 unfoldable pub firstFree : List ℕ → ℕ → ℕ
 firstFree lookup start = scan (emptySlot lookup) (length lookup) (length lookup) start
 
--- a lookup of len slots with the numbers 2 to n + 1 entered in rising order; `starts` gives the start slot of number k + 2
+-- a lookup of len slots with the numbers 2 to n + 1 entered in rising order; `starts` gives the start slot of number
+-- k + 2
 unfoldable pub entered : (ℕ → ℕ) → ℕ → ℕ → List ℕ
 entered starts len zero = replicate len 0
 entered starts len (suc n) = set (entered starts len n) (firstFree (entered starts len n) (starts n)) (n + 2)

@@ -6,7 +6,8 @@ use lib.Dec.{ltb}
 use lib.ListN.{getD, set, length}
 use Rattle.table.specs.Probe.{probeOf}
 
--- where the search for the words of node number k + 2 stops among the nodes before it; the length where its item is none of 1 to 512
+-- where the search for the words of node number k + 2 stops among the nodes before it; the length where its item is
+-- none of 1 to 512
 unfoldable pub ownOf : List ℕ → List ℕ → ℕ → ℕ
 ownOf nodes lookup k =
     cond (ltb (getD nodes (3 * k) 0) 1 || ltb 512 (getD nodes (3 * k) 0))

@@ -5,6 +5,7 @@ use Prim.Native.Nat.{ℕ, _+_, _*_, _%_, _^_}
 abbrev pub mixOf : ℕ → ℕ
 mixOf i = i * 40503 % 65536
 
--- "A node's start slot is mix(item) + 65,599 × (zero + 65,599 × one), where sums and products wrap at 4,294,967,296, then modulo the lookup length"
+-- "A node's start slot is mix(item) + 65,599 × (zero + 65,599 × one), where sums and products wrap at 4,294,967,296,
+-- then modulo the lookup length"
 unfoldable pub startOf : ℕ → ℕ → ℕ → ℕ → ℕ
 startOf item zeroChild oneChild len = (mixOf item + 65599 * (zeroChild + 65599 * oneChild)) % 2 ^ 32 % len

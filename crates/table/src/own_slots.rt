@@ -6,7 +6,8 @@ ghost use Rattle.table.specs.Own.{ownOf, cleared};
 ghost use Rattle.table.specs.Inner.{OwnAsks, ClearAsks};
 use crate::probe::probe;
 
-// Where the search for the words of node k + 2 stops among the nodes before it; the lookup's length where its item is none.
+// Where the search for the words of node k + 2 stops among the nodes before it; the lookup's length where its item is
+// none.
 pub fn own_slot(nodes: &[u32], lookup: &[u32], k: u32) -> usize
     requires { ⌜ OwnAsks (now nodes) (now lookup) k ⌝ }
     ensures { λ r. ⌜ r ≡ ownOf (now (nodes .entry)) (now (lookup .entry)) k ⌝ }

@@ -39,7 +39,8 @@ pub fn next_slot(slot: usize, slots: usize) -> usize
     next
 }
 
-// The first slot, from the start slot of the words on and around the end, at which their search stops; the lookup's length where there is none.
+// The first slot, from the start slot of the words on and around the end, at which their search stops; the lookup's
+// length where there is none.
 pub fn probe(nodes: &[u32], lookup: &[u32], count: u32, item: u32, zero: u32, one: u32) -> usize
     requires { ⌜ ProbeAsks (now nodes) (now lookup) count item ⌝ }
     ensures { λ r. ⌜ r ≡ probeOf (now (nodes .entry)) (now (lookup .entry)) count item zero one ⌝ }

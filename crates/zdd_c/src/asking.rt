@@ -9,8 +9,8 @@ use c_records::CMeasured;
 use c_records::asked;
 use c_records::measured;
 use combination::Combination;
-use query_size::size;
 use query_has::has;
+use query_size::size;
 use store::record::Store;
 
 // The number of members of p; the scratch then holds the size of every node held.

@@ -2,10 +2,10 @@
 ghost use Rattle.store_audit.specs.Promise.{AuditCall};
 ghost use Rattle.c_records.specs.Promise.{auditedOf};
 ghost use Rattle.zdd_c.specs.Promise.{Exported};
-use store_audit::audit::audit;
 use c_records::CAudited;
 use c_records::audited;
 use store::record::Store;
+use store_audit::audit::audit;
 
 // Zeroes the whole cache groups and says whether the store is then sound.
 #[no_mangle]

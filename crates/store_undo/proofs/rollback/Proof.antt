@@ -1,4 +1,5 @@
--- `rollback` takes the newest nodes back: their slots are emptied, their words zeroed, and the record counts the others.
+-- `rollback` takes the newest nodes back: their slots are emptied, their words zeroed, and the record counts the
+-- others.
 -- Each of the three calls ensures one of these.
 use borrow.Author.Needs.{needs}
 use Rattle.store_undo.proofs.rollback.Statement.{statement}

@@ -1,4 +1,5 @@
--- `contains` tells whether the record's combination holds the item: the bit that it tests is the one that the definition reads.
+-- `contains` tells whether the record's combination holds the item: the bit that it tests is the one that the
+-- definition reads.
 -- An item outside 1 to 512 is in no combination of a record.
 use Prim.Native.Nat.{suc, _-_, _<_}
 use mathlib.Core.Path.{_≡_, sym, ap, _∙_}

@@ -1,4 +1,5 @@
--- `including` puts the item into the record's combination: where it is absent its bit is set, else, or outside 1 to 512, nothing changes.
+-- `including` puts the item into the record's combination: where it is absent its bit is set, else, or outside 1 to
+-- 512, nothing changes.
 -- What `contains` ensures says which; a bit that is 0 can be set within 32 bits.
 use borrow.Author.Needs.{needs}
 use native.Mathlib.Omega.{arith}

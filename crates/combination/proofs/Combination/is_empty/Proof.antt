@@ -1,4 +1,5 @@
--- `is_empty` says yes exactly when every word is 0, and a record whose words are 0 means the combination without items.
+-- `is_empty` says yes exactly when every word is 0, and a record whose words are 0 means the combination without
+-- items.
 -- The loop's invariant: the words passed are 0.
 use Prim.Native.Nat.{ℕ, _-_, _≤_, _<_}
 use mathlib.Core.Path.{_≡_, sym}

@@ -1,4 +1,5 @@
--- `without` takes the item out of the record's combination: where the item is held its bit is taken off, else nothing changes.
+-- `without` takes the item out of the record's combination: where the item is held its bit is taken off, else nothing
+-- changes.
 -- What `contains` ensures says which, and that the item's bit stands.
 use mathlib.Core.Path.{sym}
 use native.Mathlib.Omega.{arith}

@@ -1,4 +1,5 @@
--- `apply` and `expand` run the operation on two families: the level falls from `expand` to each `apply`, and `apply` comes just above `expand` of its level.
+-- `apply` and `expand` run the operation on two families: the level falls from `expand` to each `apply`, and `apply`
+-- comes just above `expand` of its level.
 -- Every way out is a terminal case, a recalled result, or one step over the two results below.
 use Prim.Native.Nat.{ℕ, _+_, _*_, _<_}
 use native.Mathlib.Omega.{arith}

@@ -1,4 +1,5 @@
--- `restrict` and `expand` run the operation on a family and an item: the level falls from `expand` to each `restrict`, and `restrict` comes just above `expand` of its level.
+-- `restrict` and `expand` run the operation on a family and an item: the level falls from `expand` to each
+-- `restrict`, and `restrict` comes just above `expand` of its level.
 -- Every way out is one at or above the top, a recalled result, or one step over the two results below.
 use Prim.Native.Nat.{ℕ, _+_, _*_, _<_}
 use native.Mathlib.Omega.{arith}

@@ -1,4 +1,5 @@
--- `sides_at` hands on the sides of p at the level, each child tested before; where a test fails, the words hold no book.
+-- `sides_at` hands on the sides of p at the level, each child tested before; where a test fails, the words hold no
+-- book.
 -- Every way out is one law of the cofactors.
 use Prim.Native.Nat.{_-_, _≤_}
 use native.Mathlib.Omega.{arith}

@@ -1,4 +1,5 @@
--- `mix` gives the mixing number of an item: the table is the rule's 512 values, one equation that the checker computes.
+-- `mix` gives the mixing number of an item: the table is the rule's 512 values, one equation that the checker
+-- computes.
 -- The entry of item i stands at i - 1.
 use Prim.Native.Nat.{_+_, _-_, _<_}
 use mathlib.Core.Path.{_≡_, ap, _∙_}

@@ -1,4 +1,5 @@
--- `clear_newest` empties the slots of the newest nodes: what is left to empty, from the lookup as it is, gives the whole.
+-- `clear_newest` empties the slots of the newest nodes: what is left to empty, from the lookup as it is, gives the
+-- whole.
 -- The measure is the number of nodes left.
 use borrow.Author.Needs.{needs}
 use Prim.Native.Nat.{_-_, _≤_}

@@ -1,4 +1,5 @@
--- `start_slot` gives the start slot: each wrapped step is the definition's, and wrapping at each step is wrapping once.
+-- `start_slot` gives the start slot: each wrapped step is the definition's, and wrapping at each step is wrapping
+-- once.
 -- The remainder is taken of equal numbers.
 use Rattle.table.proofs.Starts.{start-steps, wrapped}
 use borrow.Author.Needs.{needs}
