@@ -18,7 +18,7 @@ use Rattle.family.proofs.Records.{not-some, then-inv}
 use Rattle.family.proofs.Orders.{and-then-inv, cond-inv}
 use Rattle.family.proofs.Reading.{fits-next, book-next}
 use Rattle.store.specs.Words.{itemLimit}
-use Rattle.store.specs.Cache.{named}
+use Rattle.store.specs.Operations.{named}
 use Rattle.store.proofs.Naming.{named-families, named-item, families-within, restrict-within}
 use Rattle.store.specs.Tests.{itemTest}
 use Rattle.store.proofs.Testing.{item-passed, passes}

@@ -14,7 +14,7 @@ use Rattle.family.specs.Family.{Family, size}
 use Rattle.family.specs.Book.{at}
 use Rattle.family.specs.File.{fileOf, familyOf}
 use Rattle.store.specs.Words.{itemLimit}
-use Rattle.store.specs.Cache.{named}
+use Rattle.store.specs.Operations.{named}
 use Rattle.store.specs.Placing.{tooLarge, placeAnswer}
 use Rattle.store.specs.Scratch.{scratchTests}
 use Rattle.store.specs.Tests.{isItem, testsOf}

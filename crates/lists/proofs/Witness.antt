@@ -11,7 +11,7 @@ use Rattle.family.specs.Combination.{itemsOf}
 use Rattle.family.specs.Book.{start}
 use Rattle.store.specs.Capacity.{capacityOf}
 use Rattle.store.specs.Words.{itemLimit, bookOf}
-use Rattle.store.specs.Cache.{named}
+use Rattle.store.specs.Operations.{named}
 use Rattle.store.specs.Sound.{Sound}
 use Rattle.store.proofs.Decoding.{sound-holds}
 use Rattle.store_fresh.specs.declared.FreshAnswer.the-variants.{Done}

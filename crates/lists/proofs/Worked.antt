@@ -16,7 +16,7 @@ use Rattle.table.specs.Start.{startOf}
 use Rattle.table.specs.Probe.{scan, after}
 use Rattle.table.specs.Entered.{firstFree, entered, startAt}
 use Rattle.store.specs.Words.{wordsOf, lookupOf}
-use Rattle.store.specs.Cache.{named, restrict, rule}
+use Rattle.store.specs.Operations.{named, restrict, rule}
 use Rattle.store.specs.Placing.{tooLarge, costOf, placeAnswer}
 use Rattle.store.specs.Scratch.{scratchTests}
 use Rattle.store.specs.Inner.{Holds}

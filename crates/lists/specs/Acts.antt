@@ -10,7 +10,7 @@ use Rattle.family.specs.Combination.{itemsOf}
 use Rattle.family.specs.Book.{at, place}
 use Rattle.family.specs.File.{fileOf}
 use Rattle.store.specs.Refusals.{Given}
-use Rattle.store.specs.Cache.{named}
+use Rattle.store.specs.Operations.{named}
 use Rattle.store.specs.Placing.{tooLarge, placeAnswer}
 use Rattle.op_promise.specs.Promise.{operationRefusal, numberOf}
 use Rattle.query_size.specs.Promise.{SizeGiven, sizeAnswer}

@@ -10,7 +10,7 @@ use Rattle.family.specs.Family.{Family, size}
 use Rattle.family.specs.Book.{at}
 use Rattle.family.specs.File.{fileOf, familyOf}
 use Rattle.store.specs.Words.{itemLimit}
-use Rattle.store.specs.Cache.{named}
+use Rattle.store.specs.Operations.{takesItem, named}
 use Rattle.store.specs.Placing.{tooLarge}
 use Rattle.store.specs.Tests.{isItem}
 use Rattle.query_sizes.specs.NodeSizes.{most}
@@ -25,7 +25,7 @@ above B h = ltb (count B + 1) h
 
 -- the operations 1 to 3 take an item, 4 to 6 a second handle
 abbrev pub onItem : Operation → Bool
-onItem op = ltb (numberOf op) 4
+onItem op = takesItem (numberOf op)
 
 -- 9: "the bytes are the file of no family"; then 5: "the result's parts not yet held outnumber capacity − count"
 abbrev pub fileRefusal : ℕ → List Family → Option Family → ℕ

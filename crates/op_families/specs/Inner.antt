@@ -2,7 +2,7 @@
 use mathlib.Core.Path.{_≡_}
 use mathlib.Core.Logic.{_⊎_}
 use Rattle.family.specs.Book.{at}
-use Rattle.store.specs.Cache.{named}
+use Rattle.store.specs.Operations.{named}
 use Rattle.op_cache.specs.declared.Recalled.{Recalled}
 use Rattle.op_cache.specs.declared.Recalled.the-variants.{Hit, Miss}
 use Prim.Native.Nat.{ℕ, _+_, _*_, _≤_, _<_, max}

@@ -1,7 +1,7 @@
 // Union (4), Intsec (5) and Diff (6): the recursion on the two sides; the larger top item falls at each call.
 ghost use mathlib.Core.Path.{_≡_};
 ghost use Prim.Native.Nat.{_<_, max};
-ghost use Rattle.store.specs.Cache.{named};
+ghost use Rattle.store.specs.Operations.{named};
 ghost use Rattle.store.specs.Inner.{Ran};
 ghost use Rattle.op_families.specs.Inner.{ForkAsks, ApplyAsks, FamilyStepAsks, ForkOf};
 use crate::terminal::ordered;

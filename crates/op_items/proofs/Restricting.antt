@@ -11,7 +11,7 @@ use Rattle.store.specs.declared.record.Store.{Store}
 use Rattle.store.specs.declared.record.PlaceAnswer.the-variants.{Handle}
 use Rattle.store.specs.declared.record.Placed.{Placed}
 use Rattle.store.specs.Words.{topAt}
-use Rattle.store.specs.Cache.{restrict, named}
+use Rattle.store.specs.Operations.{restrict, named}
 use Rattle.store_node.specs.Inner.{NodeIt}
 use Rattle.store.specs.Inner.{Holds, TwoSides, RanPlain}
 use Rattle.store.proofs.Held.{at-0, top-at}

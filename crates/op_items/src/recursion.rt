@@ -1,7 +1,7 @@
 // Subset1 (1), Subset0 (2) and Change (3): the recursion on the two sides; the top item falls at each call.
 ghost use Rattle.op_items.specs.Inner.{RestrictAsks, ItemStepAsks};
 ghost use Prim.Native.Nat.{_<_};
-ghost use Rattle.store.specs.Cache.{named};
+ghost use Rattle.store.specs.Operations.{named};
 ghost use Rattle.store.specs.Inner.{Ran};
 use crate::terminal::above_top;
 use crate::terminal::at_top;

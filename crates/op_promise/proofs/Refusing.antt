@@ -13,7 +13,7 @@ use Rattle.store.specs.declared.record.Placed.{Placed}
 use Rattle.store.specs.Capacity.{fitting}
 use Rattle.store.specs.Words.{itemLimit, topAt}
 use Rattle.store.specs.Tests.{itemTest, testsOf}
-use Rattle.store.specs.Cache.{named}
+use Rattle.store.specs.Operations.{named}
 use Rattle.store.specs.Sound.{Sound}
 use Rattle.store.specs.Inner.{Ran}
 use Rattle.store_undo.specs.Inner.{Finished}

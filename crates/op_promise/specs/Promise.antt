@@ -2,14 +2,14 @@
 use Prim.Native.Nat.{ℕ, min}
 use mathlib.Core.Bool.{cond}
 use mathlib.Core.List.{List}
-use lib.Dec.{eqb, ltb}
+use lib.Dec.{eqb}
 use Rattle.op_promise.specs.declared.Operation.{Operation}
 use Rattle.op_promise.specs.declared.Operation.the-variants.{Subset1, Subset0, Change, Union, Intsec, Diff}
 use Rattle.store.specs.declared.record.Store.{Store}
 use Rattle.store.specs.declared.record.Placed.{Placed}
 use Rattle.store.specs.Words.{bookOf}
 use Rattle.store.specs.Tests.{itemTest, testsOf}
-use Rattle.store.specs.Cache.{named}
+use Rattle.store.specs.Operations.{takesItem, named}
 use Rattle.store.specs.Promise.{PlaceCall}
 
 -- "operation (1 Subset1, 2 Subset0, 3 Change, 4 Union, 5 Intsec, 6 Diff)"
@@ -28,7 +28,7 @@ operationNumber n = cond (eqb n 0) 6 (min n 6)
 -- The number that refuses an operation before it places, 0 where none does: the operations 1 to 3 take a handle and
 -- an item, 4 to 6 two handles.
 unfoldable pub operationRefusal : ℕ → ℕ → ℕ → ℕ → ℕ
-operationRefusal op count p q = cond (ltb op 4) (testsOf count p 0 (itemTest q) 0 0) (testsOf count p q 0 0 0)
+operationRefusal op count p q = cond (takesItem op) (testsOf count p 0 (itemTest q) 0 0) (testsOf count p q 0 0 0)
 
 -- What operation number op on p and q promises: to place the family that it names in the book that the words hold.
 abbrev pub OperationCall : ℕ → ℕ → ℕ → Store → List ℕ → List ℕ → List ℕ → Placed → List ℕ → List ℕ → List ℕ → Type 0

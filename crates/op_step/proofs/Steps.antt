@@ -17,7 +17,8 @@ use Rattle.store.specs.declared.record.PlaceAnswer.{PlaceAnswer}
 use Rattle.store.specs.declared.record.PlaceAnswer.the-variants.{Handle, Refused}
 use Rattle.store.specs.declared.record.Placed.{Placed}
 use Rattle.store.specs.Words.{itemLimit}
-use Rattle.store.specs.Cache.{named, Truth, True}
+use Rattle.store.specs.Operations.{named}
+use Rattle.store.specs.Cache.{Truth, True}
 use Rattle.store_node.specs.Inner.{NodeIt}
 use Rattle.store.specs.Inner.{Holds, Handed, Outcome, Kept, Ran, Roomy}
 use Rattle.store.proofs.Held.{inside}

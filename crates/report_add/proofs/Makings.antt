@@ -21,7 +21,7 @@ use Rattle.store.specs.declared.record.PlaceAnswer.the-variants.{Handle, Refuse
 use Rattle.store.specs.declared.record.Placed.{Placed}
 use Rattle.store.specs.Refusals.{givenBy}
 use Rattle.store.specs.Words.{bookOf}
-use Rattle.store.specs.Cache.{rule}
+use Rattle.store.specs.Operations.{rule}
 use Rattle.store.specs.Sound.{Sound}
 use Rattle.store.specs.Placing.{tooLarge}
 use Rattle.store.proofs.Decoding.{sound-holds}

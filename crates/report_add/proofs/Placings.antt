@@ -18,7 +18,7 @@ use Rattle.family.proofs.Combine.{within-combine}
 use Rattle.store.specs.declared.record.Store.{Store}
 use Rattle.store.specs.declared.record.Placed.{Placed}
 use Rattle.store.specs.Words.{itemLimit, bookOf, nodesWith, lookupOf}
-use Rattle.store.specs.Cache.{restrict, rule, named}
+use Rattle.store.specs.Operations.{restrict, rule, named}
 use Rattle.store.specs.Sound.{Sound}
 use Rattle.store.specs.Placing.{tooLarge, placeAnswer, placeBook}
 use Rattle.store.specs.Promise.{leaves, placing, PlaceCall}

@@ -19,7 +19,7 @@ use Rattle.store.specs.declared.record.Refusal.{Refusal}
 use Rattle.store.specs.declared.record.PlaceAnswer.the-variants.{Handle, Refused as NoHandle}
 use Rattle.store.specs.declared.record.Placed.{Placed}
 use Rattle.store.specs.Words.{bookOf}
-use Rattle.store.specs.Cache.{rule}
+use Rattle.store.specs.Operations.{rule}
 use Rattle.store.specs.Sound.{Sound}
 use Rattle.store.specs.Scratch.{scratchTests}
 use Rattle.store.specs.Placing.{tooLarge}

@@ -1,15 +1,17 @@
 -- What the reads of a log leave: by the answer of each, and turn by turn.
 -- A read's answer has three cases; the bytes of all reads are one run, since feeding two runs is feeding the one
 -- behind the other.
-use Prim.Native.Nat.{ℕ, zero, suc, _<_, min}
+use Prim.Native.Nat.{ℕ, zero, suc, _+_, _-_, _<_, _≤_, min}
 use mathlib.Core.Path.{_≡_, refl, sym, ap, subst, _∙_}
 use mathlib.Core.Bool.{true, false}
 use mathlib.Core.List.{List, [], _∷_, _++_, foldl-append, append-assoc, append-nil}
 use native.Mathlib.Omega.{arith}
-use lib.ListN.{length, take}
+use lib.ListN.{length, take, length-append}
 use lib.Seq.{take-all, length-take-le}
 use lib.IntN.{ℤ, pos, negsuc}
 use lib.Signed.{ltZ}
+use types.Run.{OneOf, miss}
+use denote.Enum.Declared.{tagOf}
 use mir.Syntax.{w64}
 use mir.Val.{SFits, ofZ, toZ}
 use mir.Facts.{toZ-ofZ}
@@ -23,9 +25,10 @@ use Rattle.report_log.specs.Promise.{Keeps, TakeCall}
 use Rattle.report_run.specs.declared.feeding.Input.{Input}
 use Rattle.report_run.specs.declared.feeding.Input.the-variants.{More, Done, Failed}
 use Rattle.report_run.specs.declared.feeding.Fed.{Fed}
-use Rattle.report_run.specs.Answers.{ReadAnswer, broughtBy, inputOf, behind, inputAfter, Heard, none-heard, next-heard}
+use Rattle.report_run.specs.Answers.{ReadAnswer, mostReads, broughtBy, inputOf, behind, inputAfter, Heard, none-heard, next-heard}
 use Rattle.report_run.specs.Promise.{ReadCall, failed, ended, brought, Reads, none, turn, ReadAllCall}
 use Rattle.report_run.specs.Inner.{OneRead}
+use Rattle.report_run.proofs.feeding.Input.{the-type as the-input}
 
 -- a count past the end takes all
 take-clamped : (k : ℕ) (l : List ℕ) → take (min k (length l)) l ≡ take k l
@@ -80,23 +83,45 @@ module _ {z : ℤ} (fits : SFits w64 z) where
         record { answer = record { got = z; buffer = buffer; moved = subst (λ n. Moved n z) (sym e) moved }; taken = subst (λ y. ReadCall t nodes lookup cache buffer y f nodes′ lookup′ cache′) same C }
 
 -- the loop over the reads
-pub record Onward (t₀ : Tally) (nodes₀ lookup₀ cache₀ nodes lookup cache : List ℕ) (f : Fed) : Type 0 where
+pub record Onward (t₀ : Tally) (nodes₀ lookup₀ cache₀ nodes lookup cache : List ℕ) (f : Fed) (turns : ℕ) : Type 0 where
   pub long : length nodes ≡ length nodes₀
   pub long-lookup : length lookup ≡ length lookup₀
   pub long-cache : length cache ≡ length cache₀
   pub more : f .input ≡ More
-  pub call : ReadAllCall t₀ nodes₀ lookup₀ cache₀ f nodes lookup cache
+  pub answers : List ReadAnswer
+  pub reads : Reads t₀ nodes₀ lookup₀ cache₀ answers f nodes lookup cache
+  pub left : length answers + turns ≡ mostReads
 
-pub onward-start : (t : Tally) (nodes lookup cache : List ℕ) → Onward t nodes lookup cache nodes lookup cache (record { tally = t; input = More })
-onward-start t nodes lookup cache = record { long = refl; long-lookup = refl; long-cache = refl; more = refl; call = record { answers = []; reads = none } }
+pub onward-start : (t : Tally) (nodes lookup cache : List ℕ) → Onward t nodes lookup cache nodes lookup cache (record { tally = t; input = More }) mostReads
+onward-start t nodes lookup cache =
+    record { long = refl; long-lookup = refl; long-cache = refl; more = refl; answers = []; reads = none; left = refl }
 
-module _ {t₀ : Tally} {nodes₀ lookup₀ cache₀ nodes lookup cache : List ℕ} {f : Fed} (I : Onward t₀ nodes₀ lookup₀ cache₀ nodes lookup cache f) where
-  pub one-more : {f′ : Fed} {nodes′ lookup′ cache′ : List ℕ} → OneRead (f .tally) nodes lookup cache f′ nodes′ lookup′ cache′ → ReadAllCall t₀ nodes₀ lookup₀ cache₀ f′ nodes′ lookup′ cache′
-  one-more O = record { answers = I .call .answers ++ (O .answer ∷ []); reads = turn (I .call .reads) (I .more) (O .answer) (O .taken) }
+-- an input that has no more
+pub not-more : (x : Input) → OneOf (1 ∷ 2 ∷ []) (tagOf the-input x) → x ≡ More → ⊥
+not-more x k e = miss (1 ∷ 2 ∷ []) 0 tt (subst (λ y. OneOf (1 ∷ 2 ∷ []) (tagOf the-input y)) e k)
+
+module _ {t₀ : Tally} {nodes₀ lookup₀ cache₀ nodes lookup cache : List ℕ} {f : Fed} {turns : ℕ} (I : Onward t₀ nodes₀ lookup₀ cache₀ nodes lookup cache f turns) where
+  pub one-more : {f′ : Fed} {nodes′ lookup′ cache′ : List ℕ} → OneRead (f .tally) nodes lookup cache f′ nodes′ lookup′ cache′ → (f′ .input ≡ More → ⊥)
+      → ReadAllCall t₀ nodes₀ lookup₀ cache₀ f′ nodes′ lookup′ cache′
+  one-more O n =
+      record { answers = I .answers ++ (O .answer ∷ []); reads = turn (I .reads) (I .more) (O .answer) (O .taken); all-made = λ e. absurd (n e) }
 
   pub onward-again : {f′ : Fed} {nodes′ lookup′ cache′ : List ℕ} → OneRead (f .tally) nodes lookup cache f′ nodes′ lookup′ cache′ → f′ .input ≡ More
-      → length nodes′ ≡ length nodes → length lookup′ ≡ length lookup → length cache′ ≡ length cache → Onward t₀ nodes₀ lookup₀ cache₀ nodes′ lookup′ cache′ f′
-  onward-again O e a b c = record { long = a ∙ I .long; long-lookup = b ∙ I .long-lookup; long-cache = c ∙ I .long-cache; more = e; call = one-more O }
+      → length nodes′ ≡ length nodes → length lookup′ ≡ length lookup → length cache′ ≡ length cache → 0 < turns → Onward t₀ nodes₀ lookup₀ cache₀ nodes′ lookup′ cache′ f′ (turns - 1)
+  onward-again O e a b c l =
+      record {
+        long = a ∙ I .long;
+        long-lookup = b ∙ I .long-lookup;
+        long-cache = c ∙ I .long-cache;
+        more = e;
+        answers = I .answers ++ (O .answer ∷ []);
+        reads = turn (I .reads) (I .more) (O .answer) (O .taken);
+        left = omega (arith, length-append (I .answers) (O .answer ∷ []), I .left);
+      }
+
+  -- no turn is left
+  pub onward-end : turns ≤ 0 → ReadAllCall t₀ nodes₀ lookup₀ cache₀ f nodes lookup cache
+  onward-end l = record { answers = I .answers; reads = I .reads; all-made = λ e. omega (arith, I .left) }
 
 -- what a read leaves keeps the log fed with what it brought, and says how the input stands
 read-keeps : {t : Tally} {nodes lookup cache buffer : List ℕ} {z : ℤ} {f : Fed} {nodes′ lookup′ cache′ : List ℕ} → ReadCall t nodes lookup cache buffer z f nodes′ lookup′ cache′

@@ -34,7 +34,7 @@ module _ {nodes₀ lookup₀ : List ℕ} {t : Tally} {nodes lookup cache : List 
   module _ {f : Fed} {nodes₁ lookup₁ cache₁ : List ℕ} (R : ReadAllCall t nodes lookup cache f nodes₁ lookup₁ cache₁) where
     -- the input did not come to its end
     pub none-reported : (out : List ℕ) → (f .input ≡ Done → ⊥) → ReportOf (record { input = f .input; bytes = 0 }) out
-    none-reported out d = record { answers = R .answers; heard = reads-heard 500 opened (R .reads); inside = omega arith; text-is = λ e. absurd (d e); no-text = λ e. refl }
+    none-reported out d = record { answers = R .answers; heard = reads-heard 500 opened (R .reads); all-made = R .all-made; inside = omega arith; text-is = λ e. absurd (d e); no-text = λ e. refl }
 
     pub all-reported : {sizes : List ℕ} {n : ℕ} {out′ : List ℕ} → f .input ≡ Done → length sizes ≡ 500 → CloseCall (f .tally) nodes₁ lookup₁ cache₁ sizes n out′
         → ReportOf (record { input = Done; bytes = n }) out′
@@ -42,6 +42,7 @@ module _ {nodes₀ lookup₀ : List ℕ} {t : Tally} {nodes lookup cache : List 
         record {
           answers = R .answers;
           heard = rw (← e) (reads-heard 500 opened (R .reads));
+          all-made = λ d. R .all-made (e ∙ d);
           inside = C .inside;
           text-is = λ d. C .written 500 (feed 500 opening (inputOf (R .answers))) (reads-keep 500 opened (R .reads)) (omega arith) ∙ log-report 500 (inputOf (R .answers));
           no-text = λ d. absurd (d refl);

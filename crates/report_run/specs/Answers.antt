@@ -16,6 +16,10 @@ pub record ReadAnswer : Type 0 where
   pub buffer : List ℕ
   pub moved : Moved (length buffer) got
 
+-- how many reads a report makes at most
+abbrev pub mostReads : ℕ
+mostReads = 18446744073709551615
+
 -- the bytes that a read brought
 abbrev pub broughtBy : ℤ → List ℕ → List ℕ
 broughtBy (pos k) buffer = take k buffer

@@ -13,7 +13,7 @@ use Rattle.report_run.specs.declared.feeding.Input.the-variants.{More, D
 use Rattle.report_run.specs.declared.feeding.Fed.{Fed}
 use Rattle.report_run.specs.declared.report.Report.{Report}
 use Rattle.report_run.specs.declared.report.Run.{Run}
-use Rattle.report_run.specs.Answers.{ReadAnswer, inputOf, behind, Heard}
+use Rattle.report_run.specs.Answers.{ReadAnswer, inputOf, behind, Heard, mostReads}
 
 -- `take_read`, by what the system answered: below 0 the read failed and all is as it came; 0 is the end of the input
 -- and all is as it came; else the log is fed with exactly so many bytes of the buffer, and there is more while it
@@ -31,16 +31,18 @@ pub data Reads (t : Tally) (nodes lookup cache : List ℕ) : List ReadAnswer →
       → (a : ReadAnswer) {f′ : Fed} {nodes₂ lookup₂ cache₂ : List ℕ} → ReadCall (f .tally) nodes₁ lookup₁ cache₁ (a .buffer) (a .got) f′ nodes₂ lookup₂ cache₂
       → Reads t nodes lookup cache (qs ++ (a ∷ [])) f′ nodes₂ lookup₂ cache₂
 
--- `read_all`: what it leaves is what the reads of a log leave.
+-- `read_all`: what it leaves is what the reads of a log leave, and it leaves more only where it made all its reads.
 pub record ReadAllCall (t : Tally) (nodes lookup cache : List ℕ) (r : Fed) (nodes′ lookup′ cache′ : List ℕ) : Type 0 where
   pub answers : List ReadAnswer
   pub reads : Reads t nodes lookup cache answers r nodes′ lookup′ cache′
+  pub all-made : r .input ≡ More → length answers ≡ mostReads
 
 -- "`gatecount` (500 nodes, ..)": how the input stands is what the reads say; where it is done the output has the
 -- report on all that they brought, on a store of 500 nodes, and else there is none.
 pub record ReportOf (r : Report) (out′ : List ℕ) : Type 0 where
   pub answers : List ReadAnswer
   pub heard : Heard 500 answers (r .input)
+  pub all-made : r .input ≡ More → length answers ≡ mostReads
   pub inside : r .bytes ≤ length out′
   pub text-is : r .input ≡ Done → take (r .bytes) out′ ≡ reportOf 500 (inputOf answers)
   pub no-text : (r .input ≡ Done → ⊥) → r .bytes ≡ 0

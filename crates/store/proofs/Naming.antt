@@ -15,7 +15,7 @@ use Rattle.family.proofs.Books.{grown-at}
 use Rattle.family.proofs.Combine.{within-combine, combine-step, combine-swap, union-self, intsec-self, diff-self, union-empty, empty-union, intsec-empty, empty-intsec, diff-empty, empty-diff}
 use Rattle.family.proofs.Restrict.{within-subset1, within-subset0, within-change, subset1-low, subset0-low, change-low, subset1-at, subset0-at, change-at, subset1-high, subset0-high, change-high}
 use Rattle.words.proofs.Cases.{by-eq, by-lt}
-use Rattle.store.specs.Cache.{restrict, rule, named}
+use Rattle.store.specs.Operations.{restrict, rule, named}
 
 pub named-families : (op : ℕ) (B : List Family) (p q : ℕ) → 4 ≤ op → named op B p q ≡ combine (rule op) (at B p) (at B q)
 unfolding named

@@ -2,6 +2,7 @@ pub mod Capacity
 pub mod Refusals
 pub mod Words
 pub mod Tests
+pub mod Operations
 pub mod Cache
 pub mod Sound
 pub mod Placing

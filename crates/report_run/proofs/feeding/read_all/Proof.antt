@@ -3,12 +3,12 @@
 use borrow.Author.Needs.{needs}
 use native.Mathlib.Omega.{arith}
 use mathlib.Core.Path.{_∙_}
-use Rattle.report_run.proofs.Feedings.{Onward, onward-start, one-more, onward-again}
+use Rattle.report_run.proofs.Feedings.{Onward, onward-start, one-more, not-more, onward-again, onward-end}
 use Rattle.report_run.proofs.feeding.read_all.Statement.{statement}
 use Rattle.report_run.proofs.feeding.read_all.Tie as tie
 
 abbrev Inv-loop : tie.InvT-loop
-Inv-loop fd most nodes₀ lookup₀ cache₀ fed₀ turns₀ nodes lookup cache fed turns = Onward (fed₀ .tally) nodes₀ lookup₀ cache₀ nodes lookup cache fed
+Inv-loop fd most nodes₀ lookup₀ cache₀ fed₀ turns₀ nodes lookup cache fed turns = Onward (fed₀ .tally) nodes₀ lookup₀ cache₀ nodes lookup cache fed turns
 
 abbrev μ-loop : tie.MeasureT-loop
 μ-loop fd most nodes₀ lookup₀ cache₀ fed₀ turns₀ nodes lookup cache fed turns = turns
@@ -41,7 +41,7 @@ same-length-3 c =
     search (at-read-piece .read-piece) ∙ at-loop .loop .inv .long-cache
 
 returns : tie.Need-returns Inv-loop μ-loop
-returns c = search one-more
+returns c = search (one-more, not-more)
 
 sub-turns : tie.Need-sub-turns Inv-loop μ-loop
 sub-turns c = search needs
@@ -62,7 +62,7 @@ same-length-6 : tie.Need-same-length-6 Inv-loop μ-loop
 same-length-6 c = (c .before) .loop .inv .long-cache
 
 returns-2 : tie.Need-returns-2 Inv-loop μ-loop
-returns-2 c = (c .before) .loop .inv .call
+returns-2 c = search onward-end
 
 pub read-all-spec : {M : Type 1} → statement M
 read-all-spec =
