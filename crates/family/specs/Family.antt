@@ -10,7 +10,7 @@ pub data Family : Type 0 where
   node : ℕ → Family → Family → Family
   deriving Discrete as Family-discrete
 
--- "The top of a family is the largest item in any of its members. {} and {{}} have no item; their top counts as 0."
+-- "The top of a family is the largest item in any of its members. The empty family {} and the base family {{}} have no item; their top counts as 0."
 abbrev pub top : Family → ℕ
 top empty = 0
 top base = 0

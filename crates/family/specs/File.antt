@@ -24,7 +24,7 @@ recordsBytes previousItem previousNumber (t ∷ ts) =
 unfoldable pub fileOfBook : List Family → List ℕ
 fileOfBook B = 1 ∷ (bytesOf 4 (length B - 2) ++ recordsBytes 0 1 (triplesOf B (drop 2 B)))
 
--- "{} is the byte 00 and {{}} is 02. Any other family is 01 .. and one record per part in placing order": the parts as an empty store would number them
+-- "{} is the byte 00 and {{}} is 02. Any other family .. is 01, .. and one record per part in placing order": the parts as an empty store would number them
 abbrev pub fileOf : Family → List ℕ
 fileOf empty = 0 ∷ []
 fileOf base = 2 ∷ []

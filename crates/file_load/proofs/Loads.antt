@@ -1,4 +1,5 @@
--- Each way out of `load` keeps its promise: refused as damaged, for its scratch or for its bytes, or with the file's family placed.
+-- Each way out of `load` keeps its promise: refused as damaged, for its scratch or for its bytes, or with the
+-- file's family placed.
 -- What the bytes hold decides the promise's own tests, and placing ends as for every call.
 use Prim.Native.Nat.{ℕ, _+_, _*_, _-_, _/_, _≤_, _<_}
 use mathlib.Core.Path.{_≡_, refl, _∙_, sym}

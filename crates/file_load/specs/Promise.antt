@@ -14,15 +14,16 @@ use Rattle.store.specs.Capacity.{fitting}
 use Rattle.store.specs.Words.{itemLimit}
 use Rattle.store.specs.Promise.{PlaceCall}
 
--- "9: the bytes are the file of no family"; 0 where they are one's
+-- 9: "the bytes are the file of no family"; 0 where they are one's
 abbrev pub noFile : Option Family → ℕ
 noFile none = 9
 noFile (some F) = 0
 
--- "7: scratch shorter than stated", "six 32-bit words per file byte"; then 9; 0 where neither holds
+-- 7: "scratch shorter than stated", "six 32-bit words per file byte"; then 9; 0 where neither holds
 unfoldable pub loadRefusal : List ℕ → ℕ → ℕ
 loadRefusal file words = cond (ltb words (6 * length file)) 7 (noFile (familyOf itemLimit file))
 
+-- the family, {} where there is none
 abbrev pub foundFamily : Option Family → Family
 foundFamily none = empty
 foundFamily (some F) = F

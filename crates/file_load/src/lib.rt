@@ -3,12 +3,12 @@ ghost use Rattle.file_load.specs.Promise.{LoadCall};
 use file_place::place_parts;
 use file_read::file::Content;
 use file_read::file::read_file;
-use store_undo::finish;
 use store::record::Placed;
 use store::record::Refusal;
 use store::record::Store;
 use store::tests::Test;
 use store::tests::tested;
+use store_undo::finish;
 
 // Reads a file and places its family.
 pub fn load(

@@ -1,4 +1,5 @@
--- Each way out of the functions that place the local parts: after k turns the store holds its book with the first k families of the local book added, and the scratch has their handles.
+-- Each way out of the functions that place the local parts: after k turns the store holds its book with the first k
+-- families of the local book added, and the scratch has their handles.
 -- Adding the families of a family's own book, in its order, is placing that family.
 use Prim.Native.Nat.{ℕ, _+_, _*_, _-_, _≤_, _<_}
 use mathlib.Core.Path.{_≡_, refl, sym, ap, _∙_}
@@ -20,7 +21,7 @@ use Rattle.store.specs.declared.record.PlaceAnswer.the-variants.{Handle, Refuse
 use Rattle.store.specs.declared.record.Placed.{Placed}
 use Rattle.store.specs.Words.{itemLimit}
 use Rattle.store_node.specs.Inner.{NodeIt}
-use Rattle.store.specs.Inner.{Roomy, Holds, Handed, Answer, gave, Kept}
+use Rattle.store.specs.Inner.{Roomy, Holds, Handed, Outcome, gave, Kept}
 use Rattle.store.proofs.Held.{at-0, at-1, within}
 use Rattle.store.proofs.Growing.{kept-self, kept-trans, kept-roomy}
 use Rattle.store.proofs.Answers.{handle-is, handed-of, refused-on, not-both}
@@ -169,7 +170,7 @@ module _ (s : Store) (nodes₀ lookup₀ words₀ : List ℕ) (b n : ℕ) where
           is-within : Within itemLimit (node (getD words (3 * k) 0) (at (upto B C k) (handleIn b words (getD words (3 * k + 1) 0))) (at (upto B C k) (handleIn b words (getD words (3 * k + 2) 0))))
           is-within = rw family-is at (within L (k + 2) (omega arith))
 
-          turn-answer : Answer (add (upto B C k) (at C (k + 2))) (at C (k + 2)) (current .capacity) (r .store .count) nodes₁ lookup₁ (r .answer)
+          turn-answer : Outcome (add (upto B C k) (at C (k + 2))) (at C (k + 2)) (current .capacity) (r .store .count) nodes₁ lookup₁ (r .answer)
           turn-answer =
               let o = is-within .ordered in
               rw family-is

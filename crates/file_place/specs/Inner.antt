@@ -20,7 +20,8 @@ handleIn b words p = cond (ltb p 2) p (getD words (5 * b + (p - 2)) 0)
 pub record Handles (k b count : ℕ) (words : List ℕ) : Type 0 where
   pub each : (p : ℕ) → p < k + 2 → handleIn b words p ≤ count + 1
 
--- what `place_part` is asked with: a store with room for words, the local node number k, and the handles of those before it
+-- what `place_part` is asked with: a store with room for words, the local node number k, and the handles of those
+-- before it
 pub record PartAsks (s : Store) (nodes lookup words : List ℕ) (b k : ℕ) : Type 0 where
   pub roomy : Roomy s nodes lookup
   pub local : LocalNode words k

@@ -4,10 +4,10 @@ ghost use Prim.Native.Nat.{_+_, _*_, _<_, _≤_};
 ghost use lib.ListN.{length, getD};
 ghost use Rattle.store_node.specs.Inner.{NodeIt};
 ghost use Rattle.file_place.specs.Inner.{handleIn, PartAsks, PartsAsks, PlacedOf};
-use store_node::getnode::get_node;
 use store::record::PlaceAnswer;
 use store::record::Placed;
 use store::record::Store;
+use store_node::getnode::get_node;
 
 // The handle in the store of a local number.
 fn handle_at(words: &[u32], bytes: usize, p: u32) -> u32

@@ -1,4 +1,5 @@
--- Each way out of `read_table`: the records are read into an empty local table, and the walk from the last part tells whether they stand in placing order.
+-- Each way out of `read_table`: the records are read into an empty local table, and the walk from the last part
+-- tells whether they stand in placing order.
 -- Then the local book is the last family's own book, by the law of that walk.
 use Prim.Native.Nat.{ℕ, suc, _+_, _*_, _-_, _≤_}
 use mathlib.Core.Path.{_≡_, refl, sym, ap, _∙_}

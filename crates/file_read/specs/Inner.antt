@@ -35,6 +35,7 @@ pub data Table (bytes : List ℕ) (n b : ℕ) (words : List ℕ) : Bool → Type
   no-records : readRecords itemLimit n start 0 1 bytes ≡ none → Table bytes n b words false
   no-order : {C : List Family} → readRecords itemLimit n start 0 1 bytes ≡ some C → lastOf n C ≡ none → Table bytes n b words false
 
+-- what `read_table` does: the words after the scratch of the file stay
 pub record TableOf (bytes : List ℕ) (n : ℕ) (words : List ℕ) (b : ℕ) (r : Bool) (words′ : List ℕ) : Type 0 where
   pub long : length words′ ≡ length words
   pub rest : (j : ℕ) → 6 * b ≤ j → getD words′ j 0 ≡ getD words j 0
@@ -46,6 +47,7 @@ pub data Holding (file : List ℕ) (b : ℕ) (words : List ℕ) : Content → Ty
   holds-parts : {n : ℕ} {C : List Family} → familyOf itemLimit file ≡ some (at C (n + 1)) → n ≤ b → n < 4294967295 → Local C n b words → place start (at C (n + 1)) ≡ C → Holding file b words (Parts n)
   holds-none : familyOf itemLimit file ≡ none → Holding file b words Bad
 
+-- what `read_file` and `read_parts` do: the words after the scratch of the file stay
 pub record ContentOf (file words : List ℕ) (b : ℕ) (r : Content) (words′ : List ℕ) : Type 0 where
   pub long : length words′ ≡ length words
   pub rest : (j : ℕ) → 6 * b ≤ j → getD words′ j 0 ≡ getD words j 0
@@ -56,6 +58,7 @@ pub data Reading (bytes : List ℕ) (n b : ℕ) (words : List ℕ) : Bool → Ty
   whole : {C : List Family} → readRecords itemLimit n start 0 1 bytes ≡ some C → n ≤ length bytes → Local C n b words → Reading bytes n b words true
   none-such : readRecords itemLimit n start 0 1 bytes ≡ none → Reading bytes n b words false
 
+-- what `read_records` does: the words after the scratch of the file stay
 pub record RecordsOf (bytes : List ℕ) (n : ℕ) (words : List ℕ) (b : ℕ) (r : Bool) (words′ : List ℕ) : Type 0 where
   pub long : length words′ ≡ length words
   pub rest : (j : ℕ) → 6 * b ≤ j → getD words′ j 0 ≡ getD words j 0
@@ -66,6 +69,7 @@ pub data Walking (B : List Family) (p last : ℕ) : Order → Type 0 where
   went : {m : ℕ} → order B (at B p) (suc last) ≡ some (suc m) → Walking B p last (Upto m)
   broken : order B (at B p) (suc last) ≡ none → Walking B p last Broken
 
+-- what `in_order` gives, where the words hold a book
 pub record OrderOf (nodes : List ℕ) (n p last : ℕ) (r : Order) : Type 0 where
   pub low : (m : ℕ) → r ≡ Upto m → 1 ≤ m
   pub sound : (B : List Family) (lookup : List ℕ) → Holds B n nodes lookup → Walking B p last r

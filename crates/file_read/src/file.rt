@@ -7,7 +7,7 @@ ghost use Rattle.file_read.specs.Inner.{RecordsRoom, TableOf, ContentOf}
 use crate::order::Order;
 use crate::order::in_order;
 use crate::read::read_records;
-use file_record::read::number;
+use file_record::read::read_number;
 use words::zero;
 
 // What a file holds: {} or {{}} by its handle, so many parts in the local table, or no family.
@@ -42,7 +42,7 @@ fn read_parts(rest: &[u8], words: &mut [u32], bytes: usize) -> Content
     if rest.len() < 4 {
         return Content::Bad;
     }
-    let parts = number(rest, 4);
+    let parts = read_number(rest, 4);
     if parts == 0 {
         return Content::Bad;
     }

@@ -2,10 +2,10 @@
 ghost use Rattle.family.specs.Book.{start};
 ghost use Rattle.file_read.specs.Inner.{RecordsRoom, RecordsOf};
 ghost use Rattle.file_table.specs.Inner.{Local};
-use file_table::take_part;
+use file_record::field::Last;
 use file_record::read::Record;
 use file_record::read::read_record;
-use file_record::field::Last;
+use file_table::take_part;
 
 // Takes so many records, each from the rest of the bytes; false where one is none, or bytes are left over.
 pub fn read_records(records: &[u8], parts: u32, words: &mut [u32], bytes: usize) -> bool
@@ -17,10 +17,7 @@ pub fn read_records(records: &[u8], parts: u32, words: &mut [u32], bytes: usize)
     let mut last = Last { item: 0, number: 1 };
     let mut k: u32 = 0;
     while k < parts {
-        let Record::Taken {
-            part,
-            bytes: taken,
-        } = read_record(rest, last) else {
+        let Record::Taken { part, bytes: taken } = read_record(rest, last) else {
             return false;
         };
         if !take_part(words, bytes, k, part) {

@@ -1,4 +1,5 @@
--- What the writers leave is the definition's bytes at the front: a field where it stands, then the record of three fields behind the bit map byte.
+-- What the writers leave is the definition's bytes at the front: a field where it stands, then the record of three
+-- fields behind the bit map byte.
 -- Runs of bytes laid one after another are one run.
 use Prim.Native.Nat.{ℕ, zero, suc, _+_, _-_, _/_, _%_, _≤_, _<_}
 use mathlib.Core.Path.{_≡_, refl, sym, ap, _∙_}
@@ -7,7 +8,7 @@ use mathlib.Core.List.{List, [], _∷_, _++_}
 use native.Mathlib.Omega.{arith}
 use native.Mathlib.Numerals.{add-one}
 use lib.ListN.{length, set, length-set, length-append}
-use lib.Seq.{sets, length-sets}
+use lib.Seq.{sets}
 use Rattle.family.specs.Record.{bytesOf, stands, field, mapOf, triple, recordBytes}
 use Rattle.file_record.specs.Widths.{widths}
 
@@ -16,23 +17,16 @@ sets-append [] ys l i = ap (λ k. sets l k ys) (omega arith)
 sets-append (x ∷ xs) ys l i = sets-append xs ys (set l i x) (suc i) ∙ ap (λ k. sets (sets (set l i x) (suc i) xs) k ys) (omega arith)
 
 -- the bit map byte
-pub map-is : (item zeroth one : Bool) (a b c : ℕ) → a ≡ cond item 1 0 → b ≡ cond zeroth 2 0 → c ≡ cond one 4 0 → a + b + c ≡ mapOf item zeroth one
+pub map-is : (item zeroth one : Bool) → cond item 1 0 + cond zeroth 2 0 + cond one 4 0 ≡ mapOf item zeroth one
 unfolding mapOf
-map-is item zeroth one a b c ea eb ec = rw (ea, eb, ec) (go item zeroth one)
-  where
-    go : (item zeroth one : Bool) → cond item 1 0 + cond zeroth 2 0 + cond one 4 0 ≡ mapOf item zeroth one
-    go true true true = refl
-    go true true false = refl
-    go true false true = refl
-    go true false false = refl
-    go false true true = refl
-    go false true false = refl
-    go false false true = refl
-    go false false false = refl
-
-pub weight-low : (s : Bool) (a v : ℕ) → a ≡ cond s v 0 → a ≤ v
-weight-low true a v e = omega arith
-weight-low false a v e = omega arith
+map-is true true true = refl
+map-is true true false = refl
+map-is true false true = refl
+map-is true false false = refl
+map-is false true true = refl
+map-is false true false = refl
+map-is false false true = refl
+map-is false false false = refl
 
 -- the bytes of a field that stands
 bytes-length : (n v : ℕ) → length (bytesOf n v) ≡ n
@@ -45,21 +39,23 @@ field-length n false v = refl
 
 -- the first k bytes of a number are laid; those of what is left of it complete the run
 pub record Laid (l₀ : List ℕ) (at width value k left : ℕ) (l : List ℕ) : Type 0 where
+  pub room : at + width ≤ length l₀
   pub low : k ≤ width
   pub long : length l ≡ length l₀
   pub rest : sets l (at + k) (bytesOf (width - k) left) ≡ sets l₀ at (bytesOf width value)
 
-pub laid-start : (l : List ℕ) (at width value : ℕ) → Laid l at width value 0 value l
-laid-start l at width value =
+pub laid-start : (l : List ℕ) (at width value : ℕ) → at + width ≤ length l → Laid l at width value 0 value l
+laid-start l at width value h =
     let z : at + 0 ≡ at = omega arith in
     let w : width - 0 ≡ width = omega arith in
-    record { low = omega arith; long = refl; rest = rw (z, w) refl }
+    record { room = h; low = omega arith; long = refl; rest = rw (z, w) refl }
 
 pub laid-step : {l₀ : List ℕ} {at width value k left : ℕ} {l : List ℕ} → k < width → Laid l₀ at width value k left l → Laid l₀ at width value (k + 1) (left / 256) (set l (at + k) (left % 256))
 laid-step {at = at} {width = width} {k = k} {left = left} {l = l} h L =
     let w : width - k ≡ suc (width - (k + 1)) = omega arith in
     let z : suc (at + k) ≡ at + (k + 1) = omega arith in
     record {
+      room = L .room;
       low = omega arith;
       long = length-set l (at + k) (left % 256) ∙ L .long;
       rest = sym (ap (λ n. sets l (at + k) (bytesOf n left)) w ∙ ap (λ j. sets (set l (at + k) (left % 256)) j (bytesOf (width - (k + 1)) (left / 256))) z) ∙ L .rest;
@@ -78,9 +74,9 @@ pub field-room : {s : Bool} (width at : ℕ) (l : List ℕ) → s ≡ true → a
 field-room width at l e h = rw e at h
 
 -- the length of a record
-pub widths-is : (item zeroth one : Bool) (a b c : ℕ) → a ≡ cond item 2 0 → b ≡ cond zeroth 4 0 → c ≡ cond one 4 0 → (1 + a + b + c ≡ widths item zeroth one) × (1 + a + b + c ≤ 11)
+pub widths-is : (item zeroth one : Bool) {r : ℕ} → r ≡ cond item 2 0 + cond zeroth 4 0 + cond one 4 0 → 1 + r ≡ widths item zeroth one
 unfolding widths
-widths-is item zeroth one a b c ea eb ec = (rw (ea, eb, ec), omega (arith, weight-low item a 2 ea, weight-low zeroth b 4 eb, weight-low one c 4 ec))
+widths-is item zeroth one e = omega arith
 
 -- the record's length, by the fields that stand
 module _ (pi pn i z o : ℕ) where

@@ -1,15 +1,17 @@
 -- What the readers answer is what the definitions of the file read: a field, the three fields of a record, the record.
--- Each way out is one branch of the definition; a part of the bytes lent from a place on is what is left after dropping so many.
+-- Each way out is one branch of the definition; a part of the bytes lent from a place on is what is left after
+-- dropping so many.
 use Prim.Native.Nat.{ℕ, zero, suc, _+_, _*_, _-_, _≤_, _<_}
 use mathlib.Core.Path.{_≡_, refl, sym, ap, _∙_}
-use mathlib.Core.Bool.{Bool, true, false}
+use mathlib.Core.Bool.{Bool, true, false, cond}
 use mathlib.Core.List.{List, [], _∷_}
-use mathlib.Core.Option.{none, some}
+use mathlib.Core.Option.{Option, none, some}
 use native.Mathlib.Omega.{arith}
+use lib.Dec.{ltb}
 use lib.ListN.{length, getD, take, drop, length-drop}
 use lib.Seq.{take-all, drop-drop, drop-cons}
 use borrow.Author.Tests.{eq-eqb, ne-eqb, lt-ltb, le-ltb}
-use Rattle.family.specs.Record.{front, triple, readNumber, readField, bit1, bit2, bit4, readFields, readRecord}
+use Rattle.family.specs.Record.{Front, front, Triple, triple, readNumber, readField, bit1, bit2, bit4, readFields, readRecord}
 use Rattle.file_record.specs.declared.field.Last.{Last}
 use Rattle.file_record.specs.declared.field.Part.{Part}
 use Rattle.file_record.specs.declared.read.Field.{Field}
@@ -157,6 +159,10 @@ fields-none e A = out (rw e at A)
     out : {map : ℕ} {last : Last} {l : List ℕ} → FieldsOf map last l NoRecord → readFields (last .item) (last .number) (bit1 map) (bit2 map) (bit4 map) l ≡ none
     out (FieldsOf.bad is) = is
 
+both : (b : Bool) → _≡_ {A = Option (Front Triple)} (cond b none none) none
+both true = refl
+both false = refl
+
 -- the record
 module _ (last : Last) where
   pub record-end : (l : List ℕ) → length l ≡ 0 → RecordOf last l NoRecord
@@ -169,18 +175,18 @@ module _ (last : Last) where
   record-map [] m e s h = absurd (s refl)
   record-map (x ∷ l) m e s h = RecordOf.bad (rw (le-ltb x 8 (omega arith)))
 
-  module _ {x : Record} (l l₁ : List ℕ) (m : ℕ) (em : m ≡ getD l 0 0) (some′ : length l ≡ 0 → ⊥) (low : m ≤ 7) (e₁ : l₁ ≡ drop 1 l) (A : FieldsOf m last l₁ x) where
+  module _ {x : Record} (l l₁ : List ℕ) (m : ℕ) (em : m ≡ getD l 0 0) (some′ : length l ≡ 0 → ⊥) (e₁ : l₁ ≡ drop 1 l) (A : FieldsOf m last l₁ x) where
     pub record-no : x ≡ NoRecord → RecordOf last l NoRecord
     unfolding readRecord
     record-no e = go l em some′ e₁
       where
         go : (l : List ℕ) → m ≡ getD l 0 0 → (length l ≡ 0 → ⊥) → l₁ ≡ drop 1 l → RecordOf last l NoRecord
         go [] em s e₁ = absurd (s refl)
-        go (y ∷ l) em s e₁ = RecordOf.bad (rw (lt-ltb y 8 (omega arith), ← em, ← e₁, fields-none e A))
+        go (y ∷ l) em s e₁ = RecordOf.bad (rw (← em, ← e₁, fields-none e A) (both (ltb m 8)))
 
-    pub record-taken : (part : Part) (k : ℕ) → x ≡ Taken part k → RecordOf last l (Taken part (1 + k))
+    pub record-taken : m ≤ 7 → (part : Part) (k : ℕ) → x ≡ Taken part k → RecordOf last l (Taken part (1 + k))
     unfolding readRecord
-    record-taken part k e = go l em some′ e₁
+    record-taken low part k e = go l em some′ e₁
       where
         go : (l : List ℕ) → m ≡ getD l 0 0 → (length l ≡ 0 → ⊥) → l₁ ≡ drop 1 l → RecordOf last l (Taken part (1 + k))
         go [] em s e₁ = absurd (s refl)

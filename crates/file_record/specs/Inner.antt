@@ -1,4 +1,5 @@
--- What the readers answer, by the definitions of the file. The bytes that a reader took are left out of those that come after.
+-- What the readers answer, by the definitions of the file. The bytes that a reader took are left out of those that
+-- come after.
 use Prim.Native.Nat.{ℕ, _≤_}
 use mathlib.Core.Path.{_≡_}
 use mathlib.Core.Bool.{Bool}

@@ -16,7 +16,7 @@ fn wide(byte: u8) -> u32
 }
 
 // The number in the first bytes, low byte first.
-pub fn number(bytes: &[u8], width: usize) -> u32
+pub fn read_number(bytes: &[u8], width: usize) -> u32
     requires { ⌜ width ≤ 4 ⌝ }
     requires { ⌜ width ≤ length (now bytes) ⌝ }
     ensures { λ r. ⌜ readNumber width (now (bytes .entry)) ≡ some (front r (drop width (now (bytes .entry)))) ⌝ }
@@ -50,7 +50,7 @@ fn read_field(bytes: &[u8], width: usize, stands: bool, other: u32) -> Field
     if bytes.len() < width {
         return Field::Bad;
     }
-    let value = number(bytes, width);
+    let value = read_number(bytes, width);
     if value == other {
         return Field::Bad;
     }
@@ -68,7 +68,6 @@ pub enum Record {
 
 // The three fields after the bit map byte.
 fn fields(bytes: &[u8], map: u32, last: Last) -> Record
-    requires { ⌜ map < 8 ⌝ }
     requires { ⌜ last .item < 65535 ⌝ }
     ensures { λ r. ⌜ FieldsOf map last (now (bytes .entry)) r ⌝ }
 {

@@ -10,31 +10,32 @@ use crate::field::Last;
 use crate::field::Part;
 
 // A value that counts only where a field stands.
-fn weight(stands: bool, value: u8) -> u8
-    ensures { λ r. ⌜ r ≡ cond stands value 0 ⌝ }
+fn weight(stands: bool, value: usize) -> usize
+    ensures { λ r. ⌜ (r ≡ cond stands value 0) × (r ≤ value) ⌝ }
 {
     if stands { value } else { 0 }
+}
+
+// The sum of three values, each counted where its field stands.
+fn sum(item: bool, a: usize, zero: bool, b: usize, one: bool, c: usize) -> usize
+    requires { ⌜ a + b + c < 256 ⌝ }
+    ensures { λ r. ⌜ (r ≡ cond item a 0 + cond zero b 0 + cond one c 0) × (r ≤ a + b + c) ⌝ }
+{
+    weight(item, a) + weight(zero, b) + weight(one, c)
 }
 
 // The bit map byte.
 fn map_of(item: bool, zero: bool, one: bool) -> u8
     ensures { λ r. ⌜ r ≡ mapOf item zero one ⌝ }
 {
-    weight(item, 1) + weight(zero, 2) + weight(one, 4)
-}
-
-// A width that counts only where a field stands.
-fn width(stands: bool, bytes: usize) -> usize
-    ensures { λ r. ⌜ r ≡ cond stands bytes 0 ⌝ }
-{
-    if stands { bytes } else { 0 }
+    sum(item, 1, zero, 2, one, 4) as u8
 }
 
 // The length of a record, by which of its fields stand.
 pub fn length_of(item: bool, zero: bool, one: bool) -> usize
     ensures { λ r. ⌜ (r ≡ widths item zero one) × (r ≤ 11) ⌝ }
 {
-    1 + width(item, 2) + width(zero, 4) + width(one, 4)
+    1 + sum(item, 2, zero, 4, one, 4)
 }
 
 // Writes a field of so many bytes, low byte first, where it stands; gives the place after it.

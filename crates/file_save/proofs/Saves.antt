@@ -1,4 +1,5 @@
--- Each way out of Save keeps the promise: the trail's parts are those of the family in placing order, its length is the file's, and the file written is the definition's.
+-- Each way out of Save keeps the promise: the trail's parts are those of the family in placing order, its length is
+-- the file's, and the file written is the definition's.
 -- On words that hold a book nothing on the way is broken.
 use Prim.Native.Nat.{ℕ, _+_, _-_, _≤_, _<_}
 use mathlib.Core.Path.{_≡_, refl, sym, ap, _∙_}
@@ -94,7 +95,7 @@ module _ (s : Store) (p : ℕ) (nodes links out : List ℕ) (two : 2 ≤ p) (lp 
         gave = λ B lookup H l. absurd (omega (arith, top-at H p (omega arith), within H p (omega arith) .low));
       }
 
-  module _ (room : s .count ≤ length links) {links₁ : List ℕ} (el : links₁ ≡ zeroed 0 (s .count) links) 
+  module _ (room : s .count ≤ length links) {links₁ : List ℕ} (el : links₁ ≡ zeroed 0 (s .count) links)
       {x : Walked} {links₂ : List ℕ} (W : WalkOf startTrail p nodes (s .count) links₁ x links₂) where
     long₂ : length links₂ ≡ length links
     long₂ = W .long ∙ ap length el ∙ zeroed-length 0 (s .count) links (omega arith) room

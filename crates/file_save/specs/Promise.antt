@@ -19,16 +19,18 @@ use Rattle.file_save.specs.declared.SaveAnswer.{SaveAnswer}
 use Rattle.file_save.specs.declared.SaveAnswer.the-variants.{Length, Refused}
 use Rattle.file_save.specs.declared.Saved.{Saved}
 
--- what Save gives besides the record and the bytes: the refusal's number, 0 where there is none, and the file's length, 0 where it is refused
+-- what Save gives besides the record and the bytes: the refusal's number, 0 where there is none, and the file's
+-- length, 0 where it is refused
 pub record SaveGiven : Type 0 where
   pub refusal : ℕ
   pub fileLength : ℕ
 
+-- the same of an answer
 abbrev pub saveGivenBy : SaveAnswer → SaveGiven
 saveGivenBy (Length n) = record { refusal = 0; fileLength = n }
 saveGivenBy (Refused r) = record { refusal = refusalNumber r; fileLength = 0 }
 
--- 4 and 7, "one 32-bit word per node held", then "8: output shorter than the file"
+-- 4 and 7, "one 32-bit word per node held", then 8: "output shorter than the file"
 unfoldable pub saveRefusal : List Family → ℕ → ℕ → ℕ → ℕ
 saveRefusal B p words room = cond (eqb (scratchTests B p words) 0) (cond (ltb room (length (fileOf (at B p)))) 8 0) (scratchTests B p words)
 
@@ -41,7 +43,8 @@ saveAnswer B p words room =
 unfoldable pub saveOutput : List Family → ℕ → ℕ → List ℕ → List ℕ
 saveOutput B p words out = cond (eqb (saveRefusal B p words (length out)) 0) (fileOf (at B p) ++ drop (length (fileOf (at B p))) out) out
 
--- Save's promise. It changes no store word, and hands the record back as it came. "Needed scratch words are left free, later ones untouched": of the scratch it says which words stay.
+-- Save's promise. It changes no store word, and hands the record back as it came. "Needed scratch words are left
+-- free, later ones untouched": of the scratch it says which words stay.
 pub record SaveCall (s : Store) (nodes lookup : List ℕ) (p : ℕ) (scratch out : List ℕ) (r : Saved) (scratch′ out′ : List ℕ) : Type 0 where
   -- a certain 10
   pub misfit : fitting (s .capacity) (s .count) (length nodes) (length lookup) ≡ false → (r .answer ≡ Refused Damaged) × (scratch′ ≡ scratch) × (out′ ≡ out)

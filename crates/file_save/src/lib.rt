@@ -1,4 +1,5 @@
-// Save: the file of a family. A walk over the diagram links the parts in placing order; then each record is written behind the one before.
+// Save: the file of a family. A walk over the diagram links the parts in placing order; then each record is written
+// behind the one before.
 ghost use mathlib.Core.Path.{_≡_};
 ghost use mathlib.Core.Bool.{cond};
 ghost use mathlib.Core.List.{_∷_};
@@ -12,16 +13,16 @@ ghost use Rattle.file_write.specs.Inner.{HeadRoom};
 ghost use Rattle.file_save.specs.Promise.{SaveCall};
 ghost use Rattle.file_save.specs.Inner.{LeafOf, FileOf, SavePartsAsks, PartsOf};
 use file_record::write::put_field;
+use file_trail::trail::Trail;
+use file_trail::walk::Walked;
+use file_trail::walk::walk;
+use file_write::write_parts;
 use store::node::top_of;
 use store::record::Refusal;
 use store::record::Store;
 use store::tests::Test;
 use store::tests::tested;
-use file_trail::trail::Trail;
-use file_trail::walk::Walked;
-use file_trail::walk::walk;
 use words::zero;
-use file_write::write_parts;
 
 // What Save answers.
 pub enum SaveAnswer {
@@ -46,16 +47,16 @@ fn leaf_byte(p: u32) -> u8
 fn save_leaf(store: Store, p: u32, out: &mut [u8]) -> Saved
     ensures { λ r. ⌜ LeafOf store p (now (out .entry)) r (now (out .exit)) ⌝ }
 {
-    if out.len() == 0 {
+    if 0 < out.len() {
+        out[0] = leaf_byte(p);
         return Saved {
             store: store,
-            answer: SaveAnswer::Refused(Refusal::Output),
+            answer: SaveAnswer::Length(1),
         };
     }
-    out[0] = leaf_byte(p);
     Saved {
         store: store,
-        answer: SaveAnswer::Length(1),
+        answer: SaveAnswer::Refused(Refusal::Output),
     }
 }
 

@@ -1,5 +1,6 @@
 -- Each way out of `is_next` and `take_part`: a part is taken exactly where it fits the local book as its next node.
--- The tests read tops and numbers off the words, which say what the book says; whether the node is held is the table's answer.
+-- The tests read tops and numbers off the words, which say what the book says; whether the node is held is the
+-- table's answer.
 use Prim.Native.Nat.{ℕ, _+_, _≤_, _<_}
 use mathlib.Core.Path.{_≡_, refl}
 use mathlib.Core.Bool.{Bool, true, false}

@@ -1,4 +1,5 @@
--- Each way out of `enter`: where the local table holds a book, the probe's slot tells whether the book holds the node, and a new node's words and slot give the table of the book with that node.
+-- Each way out of `enter`: where the local table holds a book, the probe's slot tells whether the book holds the
+-- node, and a new node's words and slot give the table of the book with that node.
 -- The laws are those of the store's own table, on the two parts of the scratch.
 use Prim.Native.Nat.{ℕ, _+_, _*_, _-_, _≤_, _<_}
 use mathlib.Core.Path.{_≡_, refl, sym, ap, _∙_}

@@ -1,4 +1,5 @@
--- The slots of the local lookup are a part of the scratch: a word stored among them sets one slot, and a word stored elsewhere leaves them.
+-- The slots of the local lookup are a part of the scratch: a word stored among them sets one slot, and a word
+-- stored elsewhere leaves them.
 -- Each law is the one of lists for taking and dropping after a store.
 use Prim.Native.Nat.{ℕ, _+_, _*_, _-_, _≤_, _<_}
 use mathlib.Core.Path.{_≡_, ap, _∙_}

@@ -1,4 +1,5 @@
--- The local table in Load's scratch, and what its functions promise each other. A reader of the promise can pass this page over.
+-- The local table in Load's scratch, and what its functions promise each other. A reader of the promise can pass
+-- this page over.
 use Prim.Native.Nat.{ℕ, _+_, _*_, _≤_, _<_}
 use mathlib.Core.Path.{_≡_}
 use mathlib.Core.Bool.{Bool, true, false, _&&_}
@@ -13,7 +14,8 @@ use Rattle.store.specs.Words.{itemLimit, topAt}
 use Rattle.store.specs.Inner.{Holds}
 use Rattle.file_record.specs.declared.field.Part.{Part}
 
--- The scratch of a file of b bytes: the words of the local nodes, 2b slots of the local lookup from 3b on, b handles from 5b on.
+-- The scratch of a file of b bytes: the words of the local nodes, 2b slots of the local lookup from 3b on, b
+-- handles from 5b on.
 unfoldable pub localSlots : ℕ → List ℕ → List ℕ
 localSlots b words = take (2 * b) (drop (3 * b) words)
 
@@ -42,6 +44,7 @@ pub data Entering (C : List Family) (F : Family) (k b : ℕ) (words : List ℕ) 
   new : length C ≤ number C F → Local (C ++ (F ∷ [])) (k + 1) b words → Entering C F k b words true
   old : Held C F → Entering C F k b words false
 
+-- what `enter` does: the words after the scratch of the file stay
 pub record EnterOf (words : List ℕ) (b k i z o : ℕ) (r : Bool) (words′ : List ℕ) : Type 0 where
   pub long : length words′ ≡ length words
   pub rest : (j : ℕ) → 6 * b ≤ j → getD words′ j 0 ≡ getD words j 0
@@ -52,18 +55,20 @@ pub data PartTaken (C : List Family) (part : Part) (k b : ℕ) (words : List ℕ
   fit : fits itemLimit C (triple (part .item) (part .zero) (part .one)) ≡ true → Local (C ++ (node (part .item) (at C (part .zero)) (at C (part .one)) ∷ [])) (k + 1) b words → PartTaken C part k b words true
   unfit : fits itemLimit C (triple (part .item) (part .zero) (part .one)) ≡ false → PartTaken C part k b words false
 
+-- what `take_part` does: the words after the scratch of the file stay
 pub record TakeOf (words : List ℕ) (b k : ℕ) (part : Part) (r : Bool) (words′ : List ℕ) : Type 0 where
   pub long : length words′ ≡ length words
   pub rest : (j : ℕ) → 6 * b ≤ j → getD words′ j 0 ≡ getD words j 0
   pub low : r ≡ true → part .item ≤ itemLimit
   pub sound : (C : List Family) → Local C k b words → PartTaken C part k b words′ r
 
--- the words of a local node, and of every local node
+-- the words of a local node
 pub record LocalNode (words : List ℕ) (k : ℕ) : Type 0 where
   pub item-some : 1 ≤ getD words (3 * k) 0
   pub item-low : getD words (3 * k) 0 ≤ itemLimit
   pub zero-before : getD words (3 * k + 1) 0 < k + 2
   pub one-before : getD words (3 * k + 2) 0 < k + 2
 
+-- the words of every local node
 pub record LocalNodes (words : List ℕ) (n : ℕ) : Type 0 where
   pub each : (k : ℕ) → k < n → LocalNode words k

@@ -1,4 +1,5 @@
-// The local table in the scratch of a file: three node words, two lookup words and one handle for each byte of the file.
+// The local table in the scratch of a file: three node words, two lookup words and one handle for each byte of the
+// file.
 ghost use mathlib.Core.Path.{_≡_};
 ghost use Prim.Native.Nat.{_*_, _<_, _≤_};
 ghost use lib.ListN.{length};
@@ -7,7 +8,8 @@ use file_record::field::Part;
 use store::node::top_of;
 use table::probe::probe;
 
-// Whether a part can come after k others: an item of the limit, children that stand before it and have smaller tops, one child not 0.
+// Whether a part can come after k others: an item of the limit, children that stand before it and have smaller
+// tops, one child not 0.
 fn is_next(words: &[u32], k: u32, part: Part) -> bool
     requires { ⌜ 3 * k ≤ length (now words) ⌝ }
     requires { ⌜ k < 4294967295 ⌝ }

@@ -1,4 +1,5 @@
--- The trail over a local book: a handle is met exactly when its family stands in the book, and putting a new part behind the last one adds its family.
+-- The trail over a local book: a handle is met exactly when its family stands in the book, and putting a new part
+-- behind the last one adds its family.
 -- The handles of the book's families are their numbers in the store's book, different for different families.
 use Prim.Native.Nat.{ℕ, zero, suc, _+_, _-_, _≤_, _<_}
 use mathlib.Core.Path.{_≡_, refl, sym, ap, _∙_}

@@ -1,4 +1,5 @@
--- The trail of the parts in placing order, and what its functions promise each other. A reader of the promise can pass this page over.
+-- The trail of the parts in placing order, and what its functions promise each other. A reader of the promise can
+-- pass this page over.
 use Prim.Native.Nat.{ℕ, _+_, _*_, _-_, _≤_, _<_}
 use mathlib.Core.Path.{_≡_}
 use mathlib.Core.Bool.{Bool, true, cond, not}
@@ -26,6 +27,7 @@ metIn links p = cond (ltb p 2) true (not (eqb (getD links (p - 2) 0) 0))
 unfoldable pub linked : List ℕ → ℕ → ℕ → List ℕ
 linked links p next = cond (ltb p 2) links (set links (p - 2) next)
 
+-- the first part once p is met
 unfoldable pub firstOf : Trail → ℕ → ℕ
 firstOf t p = cond (eqb (t .parts) 0) p (t .first)
 
@@ -98,6 +100,7 @@ pub record Trailed (B C : List Family) (n : ℕ) (t : Trail) (links : List ℕ) 
 pub data Came (B C : List Family) (n : ℕ) (links : List ℕ) : Walked → Type 0 where
   came : {t : Trail} → Trailed B C n t links → Came B C n links (Went t)
 
+-- what `walk` does: the links of no node stay
 pub record WalkOf (t : Trail) (p : ℕ) (nodes : List ℕ) (n : ℕ) (links : List ℕ) (r : Walked) (links′ : List ℕ) : Type 0 where
   pub long : length links′ ≡ length links
   pub rest : (k : ℕ) → n ≤ k → getD links′ k 0 ≡ getD links k 0

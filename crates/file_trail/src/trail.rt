@@ -1,11 +1,13 @@
-// The parts met so far, in placing order. The link of a part is the handle of the part after it, its own for the last; 0 is no link.
+// The parts met so far, in placing order. The link of a part is the handle of the part after it, its own for the
+// last; 0 is no link.
 ghost use mathlib.Core.Path.{_≡_};
 ghost use Prim.Native.Nat.{_+_, _≤_};
 ghost use lib.ListN.{length};
 ghost use Rattle.file_trail.specs.Inner.{metIn, linked, firstOf, VisitAsks, Visited};
 use file_record::write::length_of;
 
-// The first part and the last one by their handles, the item of the last, how many there are, and the length of the file so far.
+// The first part and the last one by their handles, the item of the last, how many there are, and the length of the
+// file so far.
 pub struct Trail {
     pub first: u32,
     pub last: u32,

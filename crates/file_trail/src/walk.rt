@@ -1,4 +1,5 @@
-// The walk over the parts of a family, without-side first, then with-side, then the part itself; the top item falls at each call.
+// The walk over the parts of a family, without-side first, then with-side, then the part itself; the top item falls
+// at each call.
 ghost use Rattle.file_trail.specs.Inner.{ChildrenAsks, SplitOf, WalkAsks, WalkOf};
 use crate::trail::Trail;
 use crate::trail::is_met;

@@ -1,4 +1,5 @@
--- One turn of the writing: the record of the part at the cursor goes behind the bytes written, the part gets its local number, and its link leads to the next part.
+-- One turn of the writing: the record of the part at the cursor goes behind the bytes written, the part gets its
+-- local number, and its link leads to the next part.
 -- The children of a part stand before it, so their local numbers are there already.
 use Prim.Native.Nat.{ℕ, zero, suc, _+_, _*_, _-_, _≤_, _<_}
 use mathlib.Core.Path.{_≡_, refl, sym, ap, _∙_}

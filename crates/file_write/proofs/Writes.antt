@@ -1,4 +1,5 @@
--- The writing of all parts: turn by turn the family at the cursor is the next one of the local book, and at its end the output has the whole file.
+-- The writing of all parts: turn by turn the family at the cursor is the next one of the local book, and at its end
+-- the output has the whole file.
 -- Each turn writes one of the parts that are left.
 use Prim.Native.Nat.{ℕ, _+_, _*_, _-_, _≤_, _<_}
 use mathlib.Core.Path.{_≡_, refl, ap, _∙_}

@@ -27,7 +27,8 @@ pub record CursorFits (c : Cursor) (out : List ℕ) : Type 0 where
   pub number-low : c .last .number ≤ 1000001
   pub short : c .place ≤ 11 * c .last .number
 
--- The family number k of the local book D is written next: the parts before have their local numbers, those from k on their links, and the output has the bytes of the whole file up to the cursor.
+-- The family number k of the local book D is written next: the parts before have their local numbers, those from k
+-- on their links, and the output has the bytes of the whole file up to the cursor.
 pub record Writing (B D : List Family) (k : ℕ) (c : Cursor) (links whole before out : List ℕ) : Type 0 where
   pub book : Book itemLimit D
   pub inside : (m : ℕ) → m < length D → Held B (at D m)
@@ -52,6 +53,7 @@ pub record NextFits (c c′ : Cursor) (out : List ℕ) : Type 0 where
   pub number-is : c′ .last .number ≡ c .last .number + 1
   pub short : c′ .place ≤ 11 * c′ .last .number
 
+-- what `write_part` does: the links of no node stay
 pub record TurnOf (c : Cursor) (nodes : List ℕ) (n : ℕ) (links out : List ℕ) (r : Turn) (links′ out′ : List ℕ) : Type 0 where
   pub long : length links′ ≡ length links
   pub long-out : length out′ ≡ length out
@@ -69,6 +71,7 @@ pub record HeadRoom (parts : ℕ) (out : List ℕ) : Type 0 where
   pub five : 5 ≤ length out
   pub few : parts ≤ 1000000
 
+-- what `write_parts` does: the links of no node stay
 pub record WritesOf (first parts : ℕ) (nodes : List ℕ) (n : ℕ) (links out : List ℕ) (r : Bool) (links′ out′ : List ℕ) : Type 0 where
   pub long : length links′ ≡ length links
   pub long-out : length out′ ≡ length out

@@ -1,4 +1,5 @@
-// Writing the records in placing order, each behind the one before. A part that is written has its local number in place of its link.
+// Writing the records in placing order, each behind the one before. A part that is written has its local number in
+// place of its link.
 ghost use mathlib.Core.Path.{_≡_};
 ghost use Prim.Native.Nat.{_+_, _≤_};
 ghost use lib.ListN.{length};

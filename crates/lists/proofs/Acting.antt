@@ -14,7 +14,8 @@ use Rattle.family.specs.File.{familyOf}
 use Rattle.family.proofs.Books.{held-at, held-empty}
 use Rattle.store.specs.Words.{itemLimit}
 use Rattle.file_load.specs.Promise.{noFile, foundFamily, loadRefusal, loadFamily}
-use Rattle.lists.specs.Calls.{numberOf, Call, Operate, Size, Has, Save, Load, Audit, Fact}
+use Rattle.op_promise.specs.Promise.{numberOf}
+use Rattle.lists.specs.Calls.{Call, Operate, Size, Has, Save, Load, Audit, Fact}
 use Rattle.lists.specs.Acts.{count, Act, Gives, Saves, Places, actOf}
 use Rattle.lists.proofs.Limits.{named-within, file-within}
 

@@ -23,7 +23,8 @@ use Rattle.lists.specs.Acts.{placeReturns, Places, actOf, Effect, stays,
 use Rattle.lists.specs.Books.{bookAnswer, bookEffect}
 use Rattle.lists.specs.Runs.{State, withPart}
 use Rattle.lists.proofs.Acting.{grounded, places-within}
-use Rattle.lists.proofs.Lending.{lent-true, joined-true, sound-with}
+use Rattle.store.proofs.Sounds.{sound-with}
+use Rattle.lists.proofs.Lending.{lent-true, joined-true}
 use Rattle.lists.proofs.Invariant.{Inv, BookStep, book}
 
 -- the three ways that a placing call has

@@ -28,7 +28,7 @@ use Rattle.store.specs.Promise.{cacheRefused, PlaceCall}
 use Rattle.store.specs.Sound.{Sound}
 use Rattle.store.proofs.Calls.{sound-fits, call-refused, refusal-some}
 use Rattle.store.proofs.Decoding.{sound-holds}
-use Rattle.store.proofs.Sounds.{zeroed-true}
+use Rattle.store.proofs.Sounds.{zeroed-true, sound-with}
 use Rattle.store.proofs.Cached.{true-grown}
 use Rattle.query_size.specs.declared.Measured.{Measured}
 use Rattle.query_size.specs.declared.SizeAnswer.{SizeAnswer}
@@ -43,7 +43,6 @@ use Rattle.file_save.specs.declared.SaveAnswer.{SaveAnswer}
 use Rattle.file_save.specs.declared.SaveAnswer.the-variants.{Length, Refused as SaveRefused}
 use Rattle.file_save.specs.Promise.{saveGivenBy, saveRefusal, saveAnswer, saveOutput, SaveCall}
 use Rattle.store_audit.specs.Promise.{AuditCall}
-use Rattle.lists.proofs.Lending.{sound-with}
 use Rattle.lists.proofs.Placings.{way-full, way-placed}
 use Rattle.lists.proofs.Numbers.{Refusing, nothing, refuses, size-refusing, save-refusing, size-none, size-some, size-long, save-none, save-some, save-long}
 use Rattle.lists.proofs.Laying.{looked-long, laid-long, laid-sound}

@@ -20,8 +20,8 @@ use Rattle.store.specs.Refusals.{givenBy}
 use Rattle.store.specs.Words.{bookOf}
 use Rattle.store.specs.Cache.{True}
 use Rattle.store.specs.Sound.{Sound}
-use Rattle.store.proofs.Sounds.{zeroed-true}
-use Rattle.op_promise.specs.Promise.{OperationCall}
+use Rattle.store.proofs.Sounds.{zeroed-true, sound-with, bare}
+use Rattle.op_promise.specs.Promise.{OperationCall, numberOf}
 use Rattle.query_size.specs.declared.Measured.{Measured}
 use Rattle.query_has.specs.declared.Asked.{Asked}
 use Rattle.query_size.specs.Promise.{sizeGivenBy, sizeAnswer, SizeCall}
@@ -31,11 +31,12 @@ use Rattle.file_save.specs.Promise.{saveGivenBy, saveRefusal, saveAnswer, saveO
 use Rattle.file_load.specs.Promise.{LoadCall}
 use Rattle.store_audit.specs.declared.audit.Audited.{Audited}
 use Rattle.store_audit.specs.Promise.{AuditCall}
-use Rattle.lists.specs.Calls.{Operation, numberOf, Call, Operate, Size, Has, Save, Load, Audit, Answer}
+use Rattle.op_promise.specs.declared.Operation.{Operation}
+use Rattle.lists.specs.Calls.{Call, Operate, Size, Has, Save, Load, Audit, Answer}
 use Rattle.lists.specs.Acts.{placeReturns, sizeReturns, hasReturns, saveReturns, auditReturns, Saves, actAnswer, stays}
 use Rattle.lists.specs.Books.{bookAnswer, bookEffect}
 use Rattle.lists.specs.Runs.{State, sameWords, withPart, Step, operates, sizes, asks, saves, loads, audits}
-use Rattle.lists.proofs.Lending.{lent-true, joined-true, sound-with}
+use Rattle.lists.proofs.Lending.{lent-true, joined-true}
 use Rattle.lists.proofs.Invariant.{Inv, BookStep, count-is}
 use Rattle.lists.proofs.Placings.{place-step}
 
@@ -60,8 +61,8 @@ module _ {capacity slots : ℕ} {B : List Family} {x : State} (I : Inv capacity 
   load-step lent P = place-step (record { act = refl }) I lent (P .places)
 
   -- the store with no cache
-  pub bare : Sound (x .store) (x .nodes) (x .lookup) []
-  bare = sound-with [] (I .sound) (lent-true (x .cache) 0 (I .sound .cached))
+  pub no-cache : Sound (x .store) (x .nodes) (x .lookup) []
+  no-cache = bare (I .sound)
 
   -- a call that writes no store word, and hands the record back as it came
   query-step : (call : Call) (answer : Answer) (s : Store) → bookEffect capacity B call ≡ stays → answer ≡ bookAnswer capacity B call → s ≡ x .store
@@ -73,22 +74,22 @@ module _ {capacity slots : ℕ} {B : List Family} {x : State} (I : Inv capacity 
   unfolding bookAnswer bookEffect
   size-step {p} {scratch} {scratch′} {r} P =
       query-step (Size p (length scratch)) (sizeReturns (sizeGivenBy (r .answer))) (r .store) refl
-      (ap sizeReturns (P .answer-is bare) ∙ ap (λ X. sizeReturns (sizeAnswer X p (length scratch))) (I .book-is)) (P .store-is)
+      (ap sizeReturns (P .answer-is no-cache) ∙ ap (λ X. sizeReturns (sizeAnswer X p (length scratch))) (I .book-is)) (P .store-is)
 
   has-step : {p : ℕ} (w : List ℕ) {r : Asked} → HasCall (x .store) (x .nodes) (x .lookup) p (itemsOf w) r
       → BookStep capacity slots B (Has p w) (hasReturns (hasGivenBy (r .answer))) (sameWords x (r .store))
   unfolding bookAnswer bookEffect
   has-step {p} w {r} P =
       query-step (Has p w) (hasReturns (hasGivenBy (r .answer))) (r .store) refl
-      (ap hasReturns (P .answer-is bare) ∙ ap (λ X. hasReturns (hasAnswer X p (itemsOf w))) (I .book-is)) (P .store-is)
+      (ap hasReturns (P .answer-is no-cache) ∙ ap (λ X. hasReturns (hasAnswer X p (itemsOf w))) (I .book-is)) (P .store-is)
 
   save-step : {p : ℕ} {scratch out scratch′ out′ : List ℕ} {r : Saved} → SaveCall (x .store) (x .nodes) (x .lookup) p scratch out r scratch′ out′
       → BookStep capacity slots B (Save p (length scratch) (length out)) (saveReturns (saveGivenBy (r .answer)) out′) (sameWords x (r .store))
   unfolding bookAnswer bookEffect
   save-step {p} {scratch} {out} {scratch′} {out′} {r} P =
       query-step (Save p (length scratch) (length out)) (saveReturns (saveGivenBy (r .answer)) out′) (r .store) refl
-      (ap (λ g. saveReturns g out′) (P .answer-is bare)
-      ∙ ap (λ l. saveReturns (saveAnswer (bookOf (x .nodes) (x .store .count)) p (length scratch) (length out)) l) (P .out-is bare)
+      (ap (λ g. saveReturns g out′) (P .answer-is no-cache)
+      ∙ ap (λ l. saveReturns (saveAnswer (bookOf (x .nodes) (x .store .count)) p (length scratch) (length out)) l) (P .out-is no-cache)
       ∙ ap (λ X. saveReturns (saveAnswer X p (length scratch) (length out)) (saveOutput X p (length scratch) out)) (I .book-is)
       ∙ save-answers capacity B p (length scratch) out) (P .store-is)
 

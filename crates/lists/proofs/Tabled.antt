@@ -18,13 +18,14 @@ use Rattle.store.specs.Cache.{named}
 use Rattle.store.specs.Placing.{tooLarge, placeAnswer}
 use Rattle.store.specs.Scratch.{scratchTests}
 use Rattle.store.specs.Tests.{isItem, testsOf}
-use Rattle.op_promise.specs.Promise.{operationRefusal}
+use Rattle.op_promise.specs.Promise.{operationRefusal, numberOf}
 use Rattle.query_sizes.specs.NodeSizes.{most}
 use Rattle.query_size.specs.Promise.{sizeRefusal, sizeAnswer}
 use Rattle.query_has.specs.Promise.{hasAnswer, hasRefusal}
 use Rattle.file_save.specs.Promise.{saveRefusal}
 use Rattle.file_load.specs.Promise.{noFile, foundFamily, loadRefusal, loadFamily}
-use Rattle.lists.specs.Calls.{Operation, numberOf, Call, Operate, Size, Has, Save, Load, Audit}
+use Rattle.op_promise.specs.declared.Operation.{Operation}
+use Rattle.lists.specs.Calls.{Call, Operate, Size, Has, Save, Load, Audit}
 use Rattle.lists.specs.Acts.{count}
 use Rattle.lists.specs.Books.{bookAnswer}
 use Rattle.lists.specs.Table.{above, onItem, fileRefusal, refusalOf}

@@ -17,15 +17,17 @@ use Rattle.store.proofs.Decoding.{sound-holds}
 use Rattle.store_fresh.specs.declared.FreshAnswer.the-variants.{Done}
 use Rattle.store_fresh.specs.Promise.{freshLeaves, freshOf}
 use Rattle.file_load.specs.Promise.{loadFamily}
-use Rattle.lists.specs.Calls.{numberOf, Call, Operate, Size, Has, Save, Load, Audit, Answer}
+use Rattle.op_promise.specs.Promise.{numberOf}
+use Rattle.lists.specs.Calls.{Call, Operate, Size, Has, Save, Load, Audit, Answer}
 use Rattle.lists.specs.Books.{bookAnswer, answersOf, bookOfCalls}
 use Rattle.lists.specs.Runs.{State, Step, operates, sizes, asks, saves, loads, audits, Runs, fresh, next}
 use Rattle.lists.specs.Witness.{WitnessClaim}
 use Rattle.lists.proofs.Limits.{named-within, file-within}
 use Rattle.lists.proofs.Acting.{load-finds}
-use Rattle.lists.proofs.Lending.{lent-true, sound-with}
+use Rattle.store.proofs.Sounds.{sound-with}
+use Rattle.lists.proofs.Lending.{lent-true}
 use Rattle.lists.proofs.Invariant.{Inv}
-use Rattle.lists.proofs.Steps.{bare, step}
+use Rattle.lists.proofs.Steps.{no-cache, step}
 use Rattle.lists.proofs.Growth.{answers-snoc}
 use Rattle.lists.proofs.Reaching.{reached}
 use Rattle.lists.proofs.Numbers.{operation-refusing, load-refusing}
@@ -42,10 +44,10 @@ module _ {capacity slots : ℕ} {B : List Family} {x : State} (I : Inv capacity 
 
   -- one call, whatever part of the cache it is lent; scratch and output of the lengths that it says are there
   size-steps : (p : ℕ) (scratch : List ℕ) → Steps x (Size p (length scratch))
-  size-steps p scratch = taken (sizes (size-kept (bare I) p scratch .call))
+  size-steps p scratch = taken (sizes (size-kept (no-cache I) p scratch .call))
 
   save-steps : (p : ℕ) (scratch out : List ℕ) → Steps x (Save p (length scratch) (length out))
-  save-steps p scratch out = taken (saves (save-kept (bare I) p scratch out .call))
+  save-steps p scratch out = taken (saves (save-kept (no-cache I) p scratch out .call))
 
   load-steps : ℕ → (file scratch : List ℕ) → Steps x (Load file (length scratch))
   load-steps lent file scratch =
@@ -59,10 +61,10 @@ module _ {capacity slots : ℕ} {B : List Family} {x : State} (I : Inv capacity 
       taken (operates lent (place-kept (named (numberOf op) (bookOf (x .nodes) n) p q) (lent-sound lent)
       (operation-refusing (numberOf op) n p q) (λ e. named-within (numberOf op) (bookOf (x .nodes) n) book n p q e) .call))
   steps lent (Size p scratch) = rw (zeros-length scratch) at (size-steps p (replicate scratch 0))
-  steps lent (Has p combination) = taken (asks (has-kept (bare I) p (itemsOf combination) .call))
+  steps lent (Has p combination) = taken (asks (has-kept (no-cache I) p (itemsOf combination) .call))
   steps lent (Save p scratch output) = rw (zeros-length scratch, zeros-length output) at (save-steps p (replicate scratch 0) (replicate output 0))
   steps lent (Load file scratch) = rw (zeros-length scratch) at (load-steps lent file (replicate scratch 0))
-  steps lent Audit = taken (audits lent (audit-kept (bare I) (take lent (x .cache))))
+  steps lent Audit = taken (audits lent (audit-kept (no-cache I) (take lent (x .cache))))
 
   -- its answer is the book's
   answered : {call : Call} → Steps x call → (y : State) × Step x call (bookAnswer capacity B call) y

@@ -12,12 +12,12 @@ use Rattle.family.specs.File.{fileOf}
 use Rattle.store.specs.Refusals.{Given}
 use Rattle.store.specs.Cache.{named}
 use Rattle.store.specs.Placing.{tooLarge, placeAnswer}
-use Rattle.op_promise.specs.Promise.{operationRefusal}
+use Rattle.op_promise.specs.Promise.{operationRefusal, numberOf}
 use Rattle.query_size.specs.Promise.{SizeGiven, sizeAnswer}
 use Rattle.query_has.specs.Promise.{HasGiven, hasAnswer}
 use Rattle.file_save.specs.Promise.{SaveGiven, saveRefusal}
 use Rattle.file_load.specs.Promise.{loadRefusal, loadFamily}
-use Rattle.lists.specs.Calls.{numberOf, Call, Operate, Size, Has, Save, Load, Audit, Fact, Number, Says, Handle, Tells, Writes, Answer}
+use Rattle.lists.specs.Calls.{Call, Operate, Size, Has, Save, Load, Audit, Fact, Number, Says, Handle, Tells, Writes, Answer}
 
 -- the answers, by what the calls return
 abbrev pub placeReturns : Given → Answer

@@ -2,20 +2,7 @@
 use Prim.Native.Nat.{ℕ}
 use mathlib.Core.Bool.{Bool}
 use mathlib.Core.List.{List, []}
-
--- the six operations
-pub data Operation : Type 0 where
-  Subset1 Subset0 Change Union Intsec Diff : Operation
-
--- "operation (1 Subset1, 2 Subset0, 3 Change, 4 Union, 5 Intsec, 6 Diff)": what the operation of a number takes and
--- names is said by number, in `operationRefusal` and `named`
-abbrev pub numberOf : Operation → ℕ
-numberOf Subset1 = 1
-numberOf Subset0 = 2
-numberOf Change = 3
-numberOf Union = 4
-numberOf Intsec = 5
-numberOf Diff = 6
+use Rattle.op_promise.specs.declared.Operation.{Operation}
 
 -- A call, with all that it takes besides the record and the store's words: "handles, items, combinations, file bytes
 -- and lengths". p is a handle and q the second operand, a combination is the sixteen words of its record, and scratch

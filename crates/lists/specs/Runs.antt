@@ -10,7 +10,7 @@ use Rattle.store.specs.declared.record.Placed.{Placed}
 use Rattle.store_fresh.specs.declared.Freshened.{Freshened}
 use Rattle.store.specs.Refusals.{givenBy}
 use Rattle.store_fresh.specs.Promise.{freshNumber, FreshCall}
-use Rattle.op_promise.specs.Promise.{OperationCall}
+use Rattle.op_promise.specs.Promise.{OperationCall, numberOf}
 use Rattle.query_size.specs.declared.Measured.{Measured}
 use Rattle.query_has.specs.declared.Asked.{Asked}
 use Rattle.query_size.specs.Promise.{sizeGivenBy, SizeCall}
@@ -20,7 +20,8 @@ use Rattle.file_save.specs.Promise.{saveGivenBy, SaveCall}
 use Rattle.file_load.specs.Promise.{LoadCall}
 use Rattle.store_audit.specs.declared.audit.Audited.{Audited}
 use Rattle.store_audit.specs.Promise.{AuditCall}
-use Rattle.lists.specs.Calls.{Operation, numberOf, Call, Operate, Size, Has, Save, Load, Audit, Answer}
+use Rattle.op_promise.specs.declared.Operation.{Operation}
+use Rattle.lists.specs.Calls.{Call, Operate, Size, Has, Save, Load, Audit, Answer}
 use Rattle.lists.specs.Acts.{placeReturns, sizeReturns, hasReturns, saveReturns, auditReturns}
 
 -- what a call comes to and leaves: the record last given back, and Fresh's words

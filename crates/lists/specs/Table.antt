@@ -14,7 +14,9 @@ use Rattle.store.specs.Cache.{named}
 use Rattle.store.specs.Placing.{tooLarge}
 use Rattle.store.specs.Tests.{isItem}
 use Rattle.query_sizes.specs.NodeSizes.{most}
-use Rattle.lists.specs.Calls.{Operation, numberOf, Call, Operate, Size, Has, Save, Load, Audit}
+use Rattle.op_promise.specs.declared.Operation.{Operation}
+use Rattle.op_promise.specs.Promise.{numberOf}
+use Rattle.lists.specs.Calls.{Call, Operate, Size, Has, Save, Load, Audit}
 use Rattle.lists.specs.Acts.{count}
 
 -- "a handle above count + 1"

@@ -6,7 +6,8 @@ use lib.ListN.{length, take}
 use Rattle.table.specs.Start.{mixOf, startOf}
 use Rattle.store.specs.Capacity.{capacityOf}
 use Rattle.store.specs.Words.{wordsOf, lookupOf}
-use Rattle.lists.specs.Calls.{Subset1, Subset0, Change, Union, Intsec, Diff, Call, Operate, Save, Handle, Writes, Answer}
+use Rattle.op_promise.specs.declared.Operation.the-variants.{Subset1, Subset0, Change, Union, Intsec, Diff}
+use Rattle.lists.specs.Calls.{Call, Operate, Save, Handle, Writes, Answer}
 use Rattle.lists.specs.Books.{answersOf, bookOfCalls}
 use Rattle.lists.specs.Runs.{State, Runs}
 

@@ -52,7 +52,7 @@ pub record Proper (call : Call) : Type 0 where
   pub second : call .q ≡ 0 → ⊥
 
 -- a call that is no terminal case
-pub record ExpandAsks (call : Call) (level : ℕ) (s : Store) (nodes lookup : List ℕ) : Type 0 where
+pub record FamilyStepAsks (call : Call) (level : ℕ) (s : Store) (nodes lookup : List ℕ) : Type 0 where
   pub asks : ApplyAsks call level s nodes lookup
   pub proper : Proper call
 

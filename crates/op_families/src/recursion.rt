@@ -3,7 +3,7 @@ ghost use mathlib.Core.Path.{_≡_};
 ghost use Prim.Native.Nat.{_<_, max};
 ghost use Rattle.store.specs.Cache.{named};
 ghost use Rattle.store.specs.Inner.{Ran};
-ghost use Rattle.op_families.specs.Inner.{ForkAsks, ApplyAsks, ExpandAsks, ForkOf};
+ghost use Rattle.op_families.specs.Inner.{ForkAsks, ApplyAsks, FamilyStepAsks, ForkOf};
 use op_cache::Call;
 use op_cache::Recalled;
 use op_cache::recall;
@@ -102,7 +102,7 @@ fn expand(
     lookup: &mut [u32],
     cache: &mut [u32],
 ) -> Placed
-    requires { ⌜ ExpandAsks call level store (now nodes) (now lookup) ⌝ }
+    requires { ⌜ FamilyStepAsks call level store (now nodes) (now lookup) ⌝ }
     ensures { λ r. ⌜ Ran (λ B. named (call .op) B (call .p) (call .q)) store (now (nodes .entry)) (now (lookup .entry)) (now (cache .entry)) r (now (nodes .exit)) (now (lookup .exit)) (now (cache .exit)) ⌝ }
 {
     match fork_at(nodes, store.count, call, level) {

@@ -36,6 +36,6 @@ pub record RestrictAsks (call : Call) (level : ℕ) (s : Store) (nodes lookup : 
   pub level-low : level ≤ itemLimit
 
 -- and an item below it
-pub record ExpandAsks (call : Call) (level : ℕ) (s : Store) (nodes lookup : List ℕ) : Type 0 where
+pub record ItemStepAsks (call : Call) (level : ℕ) (s : Store) (nodes lookup : List ℕ) : Type 0 where
   pub asks : RestrictAsks call level s nodes lookup
   pub below : call .q < level

@@ -1,5 +1,5 @@
 // Subset1 (1), Subset0 (2) and Change (3): the recursion on the two sides; the top item falls at each call.
-ghost use Rattle.op_items.specs.Inner.{RestrictAsks, ExpandAsks};
+ghost use Rattle.op_items.specs.Inner.{RestrictAsks, ItemStepAsks};
 ghost use Prim.Native.Nat.{_<_};
 ghost use Rattle.store.specs.Cache.{named};
 ghost use Rattle.store.specs.Inner.{Ran};
@@ -49,7 +49,7 @@ fn expand(
     lookup: &mut [u32],
     cache: &mut [u32],
 ) -> Placed
-    requires { ⌜ ExpandAsks call level store (now nodes) (now lookup) ⌝ }
+    requires { ⌜ ItemStepAsks call level store (now nodes) (now lookup) ⌝ }
     ensures { λ r. ⌜ Ran (λ B. named (call .op) B (call .p) (call .q)) store (now (nodes .entry)) (now (lookup .entry)) (now (cache .entry)) r (now (nodes .exit)) (now (lookup .exit)) (now (cache .exit)) ⌝ }
 {
     match sides_at(nodes, store.count, call.p, level) {

@@ -1,2 +1,3 @@
 -- The laws of `op_promise`.
 pub mod Refusing
+pub mod Numbering

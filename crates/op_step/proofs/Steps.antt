@@ -17,12 +17,12 @@ use Rattle.store.specs.declared.record.Placed.{Placed}
 use Rattle.store.specs.Words.{itemLimit}
 use Rattle.store.specs.Cache.{named, Truth, True}
 use Rattle.store_node.specs.Inner.{NodeIt}
-use Rattle.store.specs.Inner.{Holds, Handed, Answer, Kept, Ran}
+use Rattle.store.specs.Inner.{Holds, Handed, Outcome, Kept, Ran, Roomy}
 use Rattle.store.proofs.Held.{inside}
-use Rattle.store.proofs.Growing.{kept-trans}
+use Rattle.store.proofs.Growing.{kept-trans, kept-roomy}
 use Rattle.store.proofs.Answers.{not-both, handed-of, refused-on, by-answer}
 use Rattle.op_cache.specs.declared.Call.{Call}
-use Rattle.op_step.specs.Inner.{RememberedAnswer, Joined}
+use Rattle.op_step.specs.Inner.{RememberedAnswer, Joined, JoinAsks}
 use Rattle.store.proofs.Naming.{named-grown}
 use Rattle.store.proofs.Cached.{true-grown}
 use Rattle.op_cache.proofs.Remembering.{true-remembered}
@@ -84,7 +84,7 @@ module _ (call below above : Call) (level : ℕ) (s : Store) (nodes lookup cache
       same : of above (place B (of below B)) ≡ of above B
       same = of-grown above (K .other) H (place-grown B (of below B))
 
-      second : Answer (place (place B (of below B)) (of above B)) (of above B) (s .capacity) (m₂ .store .count) nodes₂ lookup₂ (m₂ .answer)
+      second : Outcome (place (place B (of below B)) (of above B)) (of above B) (s .capacity) (m₂ .store .count) nodes₂ lookup₂ (m₂ .answer)
       second = rw (same, R .kept .same-capacity) at (S .sound (place B (of below B)) (given .holds) (R .cached B H t z ez))
 
       second-cache : (o : ℕ) → m₂ .answer ≡ Handle o → True (place (place B (of below B)) (of above B)) cache₂
@@ -118,7 +118,7 @@ module _ (call below above : Call) (level : ℕ) (s : Store) (nodes lookup cache
     -- both given: the node
     module _ (o : ℕ) (eo : m₂ .answer ≡ Handle o) {r : Placed} {nodes₃ lookup₃ cache₃ : List ℕ} (N : NodeIt (m₂ .store) nodes₂ lookup₂ level z o r nodes₃ lookup₃)
         (M : RememberedAnswer cache₂ call (r .answer) cache₃) where
-      third : {B : List Family} → Holds B (s .count) nodes lookup → True B cache → Answer (place B (of call B)) (of call B) (s .capacity) (r .store .count) nodes₃ lookup₃ (r .answer)
+      third : {B : List Family} → Holds B (s .count) nodes lookup → True B cache → Outcome (place B (of call B)) (of call B) (s .capacity) (r .store .count) nodes₃ lookup₃ (r .answer)
       third {B} H t =
           let G = handed-of eo (second H t) in
           let ea : at (place (place B (of below B)) (of above B)) z ≡ of below B = still H t in
@@ -148,3 +148,16 @@ module _ (call below above : Call) (level : ℕ) (s : Store) (nodes lookup cache
         by-answer (m₂ .answer)
         (λ o e. step-done o e (J .made o e) (J .remembered o e))
         (λ x e. let q = J .passed x e in rw (q .0, q .1, q .2, q .3) (step-second x e))
+
+-- what `join` asks, after two results: the first gave the zero side
+pub join-asks : {F G : List Family → Family} {s : Store} {nodes lookup cache : List ℕ} {first second : Placed} {nodes₁ lookup₁ cache₁ nodes₂ lookup₂ cache₂ : List ℕ} {level z : ℕ}
+    → Roomy s nodes lookup → Ran F s nodes lookup cache first nodes₁ lookup₁ cache₁ → first .answer ≡ Handle z → Ran G (first .store) nodes₁ lookup₁ cache₁ second nodes₂ lookup₂ cache₂
+    → 1 ≤ level → level ≤ itemLimit → JoinAsks second nodes₂ lookup₂ level z
+join-asks R L e M some low =
+    record {
+      roomy = kept-roomy (kept-trans (L .kept) (M .kept)) R;
+      level-some = some;
+      level-low = low;
+      zero-held = omega (arith, L .handle _ e, M .kept .grows);
+      one-held = M .handle;
+    }

@@ -3,7 +3,7 @@ ghost use mathlib.Core.Path.{_≡_};
 ghost use mathlib.Core.Bool.{false};
 ghost use Prim.Native.Nat.{_+_, _*_, _≤_};
 ghost use lib.ListN.{length};
-ghost use Rattle.store.specs.Inner.{WalkAsks};
+ghost use Rattle.store.specs.Inner.{HandleAsks};
 ghost use Rattle.family.specs.Combination.{isNone, itemsOf};
 ghost use Rattle.query_has.specs.Promise.{HasCall};
 ghost use Rattle.query_has.specs.Inner.{Memberly, Stepped};
@@ -62,7 +62,7 @@ fn ends(at: u32, rest: Combination) -> bool
 
 // Whether the combination is a member of p: one way down, at most 512 nodes.
 fn is_member(nodes: &[u32], count: u32, p: u32, combination: Combination) -> bool
-    requires { ⌜ WalkAsks (now nodes) count p ⌝ }
+    requires { ⌜ HandleAsks (now nodes) count p ⌝ }
     ensures { λ r. ⌜ Memberly (now (nodes .entry)) count p (itemsOf (combination .words)) r ⌝ }
 {
     let mut way = Way {

@@ -28,7 +28,7 @@ abbrev pub sizeGivenBy : SizeAnswer → SizeGiven
 sizeGivenBy (Members n) = record { refusal = 0; size = n }
 sizeGivenBy (Refused r) = record { refusal = refusalNumber r; size = 0 }
 
--- 4 and 7, "one 64-bit word per node held", then "6: size above 18,446,744,073,709,551,615"
+-- 4 and 7, "one 64-bit word per node held", then 6: "size above 18,446,744,073,709,551,615"
 unfoldable pub sizeRefusal : List Family → ℕ → ℕ → ℕ
 sizeRefusal B p words = cond (eqb (scratchTests B p words) 0) (cond (ltb most (size (at B p))) 6 0) (scratchTests B p words)
 

@@ -1,7 +1,7 @@
 // The sizes of the nodes held, each from those of its sides; and whether one is above the largest number.
 ghost use mathlib.Core.Path.{_≡_};
 ghost use Prim.Native.Nat.{_+_, _*_, min};
-ghost use Rattle.store.specs.Inner.{WalkAsks};
+ghost use Rattle.store.specs.Inner.{HandleAsks};
 ghost use Rattle.query_sizes.specs.NodeSizes.{most};
 ghost use Rattle.store.specs.Words.{wordOf};
 ghost use Rattle.query_sizes.specs.Inner.{FillAsks, Filled, Exceeding};
@@ -47,7 +47,7 @@ pub fn fill_sizes(nodes: &[u32], sizes: &mut [u64], count: u32)
 
 // Whether a size whose word is 2^64 - 1 is above that: where the zero side is {}, the one side's size decides.
 pub fn exceeds(nodes: &[u32], sizes: &[u64], count: u32, p: u32) -> bool
-    requires { ⌜ WalkAsks (now nodes) count p ⌝ }
+    requires { ⌜ HandleAsks (now nodes) count p ⌝ }
     ensures { λ r. ⌜ Exceeding (now (nodes .entry)) (now (sizes .entry)) count p r ⌝ }
 {
     let mut at = p;

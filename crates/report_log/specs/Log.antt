@@ -76,7 +76,7 @@ logByte capacity g b = whileGoing (g .ending) (readOn capacity g (step (g .line)
 abbrev pub feed : ℕ → Log → List ℕ → Log
 feed capacity g bytes = foldl (logByte capacity) g bytes
 
--- a number as 64 bits hold it. Of an input of at most 18,446,744,073,709,551,615 lines every number is below that.
+-- a number as 64 bits hold it. Of an input of at most 18,446,744,073,709,551,615 lines every number is at most that, and so exact.
 abbrev pub capped : ℕ → ℕ
 capped n = min n most
 

@@ -13,12 +13,8 @@ use crate::output::text;
 use crate::output::word;
 use crate::sums::cleared;
 use crate::sums::of_words;
-use op_families::calls::diff;
-use op_families::calls::intsec;
-use op_families::calls::union;
-use op_items::calls::change;
-use op_items::calls::subset0;
-use op_items::calls::subset1;
+use op_calls::operate;
+use op_promise::operation_of;
 use store::record::PlaceAnswer;
 use store::record::Placed;
 use store::record::Refusal;
@@ -40,25 +36,6 @@ fn name(op: u32) {
         4 => text(b"Union"),
         5 => text(b"Intsec"),
         _ => text(b"Diff"),
-    }
-}
-
-// Runs an operation.
-fn run(
-    call: Operation,
-    store: Store,
-    nodes: &mut [u32],
-    lookup: &mut [u32],
-    cache: &mut [u32],
-) -> Placed {
-    let op = call.op;
-    match op {
-        1 => subset1(store, nodes, lookup, cache, call.p, call.q),
-        2 => subset0(store, nodes, lookup, cache, call.p, call.q),
-        3 => change(store, nodes, lookup, cache, call.p, call.q),
-        4 => union(store, nodes, lookup, cache, call.p, call.q),
-        5 => intsec(store, nodes, lookup, cache, call.p, call.q),
-        _ => diff(store, nodes, lookup, cache, call.p, call.q),
     }
 }
 
@@ -111,12 +88,14 @@ pub fn line(
     let slots = at_most(lent.slots, lookup.len());
     let part = at_most(lent.cache, cache.len());
     let before = of_words(1, &cache[0..part]);
-    let placed = run(
-        call,
+    let placed = operate(
+        operation_of(call.op),
         lent.record,
         nodes,
         &mut lookup[0..slots],
         &mut cache[0..part],
+        call.p,
+        call.q,
     );
     call_text(call, slots, part);
     given(placed, &cache[0..part], before);

@@ -3,10 +3,11 @@ use crate::line::lines;
 use crate::operation::Operation;
 use crate::operation::handle_of;
 use crate::operation::of;
-use crate::operation::run;
 use crate::output::text;
 use crate::output::word;
 use crate::questions::size_given;
+use op_calls::operate;
+use op_promise::operation_of;
 use store_fresh::fresh;
 use store::record::Store;
 
@@ -55,7 +56,16 @@ fn stepped(
     lookup: &mut [u32],
     cache: &mut [u32],
 ) -> Built {
-    let placed = run(operation(step, built), built.store, nodes, lookup, cache);
+    let call = operation(step, built);
+    let placed = operate(
+        operation_of(call.op),
+        built.store,
+        nodes,
+        lookup,
+        cache,
+        call.p,
+        call.q,
+    );
     let answer = placed.answer;
     after(step, built, placed.store, handle_of(answer))
 }

@@ -2,10 +2,11 @@
 use crate::operation::Operation;
 use crate::operation::name;
 use crate::operation::of;
-use crate::operation::run;
 use crate::output::refusal;
 use crate::output::text;
 use crate::output::word;
+use op_calls::operate;
+use op_promise::operation_of;
 use store::record::PlaceAnswer;
 use store::record::Placed;
 use store::record::Refusal;
@@ -95,7 +96,15 @@ pub fn lines(
     let mut k = from;
     while k < to {
         let call = numbered(k);
-        let placed = run(call, last, nodes, lookup, cache);
+        let placed = operate(
+            operation_of(call.op),
+            last,
+            nodes,
+            lookup,
+            cache,
+            call.p,
+            call.q,
+        );
         call_text(call);
         given(placed, nodes);
         last = placed.store;

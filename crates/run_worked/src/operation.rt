@@ -1,14 +1,6 @@
 // The six operations by their numbers.
 use crate::output::text;
-use op_families::calls::diff;
-use op_families::calls::intsec;
-use op_families::calls::union;
-use op_items::calls::change;
-use op_items::calls::subset0;
-use op_items::calls::subset1;
 use store::record::PlaceAnswer;
-use store::record::Placed;
-use store::record::Store;
 
 // An operation by its number, 1 to 6, and its two operands.
 pub struct Operation {
@@ -31,25 +23,6 @@ pub fn name(op: u32) {
         4 => text(b"Union"),
         5 => text(b"Intsec"),
         _ => text(b"Diff"),
-    }
-}
-
-// Runs an operation.
-pub fn run(
-    call: Operation,
-    store: Store,
-    nodes: &mut [u32],
-    lookup: &mut [u32],
-    cache: &mut [u32],
-) -> Placed {
-    let op = call.op;
-    match op {
-        1 => subset1(store, nodes, lookup, cache, call.p, call.q),
-        2 => subset0(store, nodes, lookup, cache, call.p, call.q),
-        3 => change(store, nodes, lookup, cache, call.p, call.q),
-        4 => union(store, nodes, lookup, cache, call.p, call.q),
-        5 => intsec(store, nodes, lookup, cache, call.p, call.q),
-        _ => diff(store, nodes, lookup, cache, call.p, call.q),
     }
 }
 

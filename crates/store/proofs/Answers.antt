@@ -9,7 +9,7 @@ use Rattle.family.specs.Family.{Family}
 use Rattle.store.specs.declared.record.Refusal.{Refusal}
 use Rattle.store.specs.declared.record.PlaceAnswer.{PlaceAnswer}
 use Rattle.store.specs.declared.record.PlaceAnswer.the-variants.{Handle, Refused}
-use Rattle.store.specs.Inner.{Handed, Answer, gave, full}
+use Rattle.store.specs.Inner.{Handed, Outcome, gave, full}
 use Rattle.family.specs.Book.{at}
 use Rattle.store.specs.declared.record.Refusal.the-variants.{Full, Damaged}
 
@@ -20,14 +20,14 @@ pub refused-same : {a : PlaceAnswer} (x y : Refusal) → a ≡ Refused x → a �
 refused-same x y e d = cc
 
 -- a handle answered is a family handed over; a refusal for lack of room stays one where more is to be placed
-pub handed-of : {C : List Family} {F : Family} {capacity n h : ℕ} {nodes lookup : List ℕ} {a : PlaceAnswer} → a ≡ Handle h → Answer C F capacity n nodes lookup a → Handed C F h n nodes lookup
+pub handed-of : {C : List Family} {F : Family} {capacity n h : ℕ} {nodes lookup : List ℕ} {a : PlaceAnswer} → a ≡ Handle h → Outcome C F capacity n nodes lookup a → Handed C F h n nodes lookup
 handed-of e A = out (rw e at A)
   where
-    out : {C : List Family} {F : Family} {capacity n h : ℕ} {nodes lookup : List ℕ} → Answer C F capacity n nodes lookup (Handle h) → Handed C F h n nodes lookup
+    out : {C : List Family} {F : Family} {capacity n h : ℕ} {nodes lookup : List ℕ} → Outcome C F capacity n nodes lookup (Handle h) → Handed C F h n nodes lookup
     out (gave G) = G
 
 pub refused-on : {C C′ : List Family} {F F′ : Family} {capacity n : ℕ} {nodes lookup : List ℕ} {a : PlaceAnswer} (x : Refusal) → a ≡ Refused x → length C ≤ length C′
-    → Answer C F capacity n nodes lookup a → Answer C′ F′ capacity n nodes lookup a
+    → Outcome C F capacity n nodes lookup a → Outcome C′ F′ capacity n nodes lookup a
 refused-on x e l (gave {h = h} G) = not-both h x refl e
 refused-on x e l (full D H m) = full D H (omega arith)
 

@@ -2,7 +2,7 @@
 -- Each rule of a sound store is read off the book's laws; a lookup and a cache of zeros are those of no node.
 use Prim.Native.Nat.{ℕ, _+_, _*_, _-_, _/_, _≤_, _<_}
 use mathlib.Core.Path.{_≡_, refl, sym, ap, _∙_}
-use mathlib.Core.List.{List}
+use mathlib.Core.List.{List, []}
 use mathlib.Core.Logic.{inl}
 use native.Mathlib.Omega.{arith}
 use lib.ListN.{length, getD, replicate}
@@ -15,7 +15,7 @@ use Rattle.words.proofs.Zeroed.{zeroed-length, zeroed-inside, zeros-length, zer
 use Rattle.table.specs.Entered.{entered}
 use Rattle.store.specs.declared.record.Store.{Store}
 use Rattle.store.specs.Capacity.{capacityOf}
-use Rattle.store.specs.Words.{itemLimit}
+use Rattle.store.specs.Words.{itemLimit, bookOf}
 use Rattle.store.specs.Cache.{Group, True}
 use Rattle.store.specs.Sound.{Node, Sound}
 use Rattle.store.specs.Inner.{Holds}
@@ -72,6 +72,24 @@ zeroed-true B cache = record { each = λ g op p q h G. inl (blank g (G .within))
         let e = long in
         let f : 4 * g + 3 < length cache / 4 * 4 = omega arith in
         record { within = l; op-is = word (4 * g) (omega arith); first-is = word (4 * g + 1) (omega arith); second-is = word (4 * g + 2) (omega arith); result-is = word (4 * g + 3) (omega arith) }
+
+-- the same store with another true cache
+pub sound-with : {s : Store} {nodes lookup cache : List ℕ} (other : List ℕ) → Sound s nodes lookup cache → True (bookOf nodes (s .count)) other → Sound s nodes lookup other
+sound-with other S t =
+    record {
+      capacity-is = S .capacity-is;
+      longer = S .longer;
+      within = S .within;
+      each = S .each;
+      apart = S .apart;
+      blank = S .blank;
+      lookup-is = S .lookup-is;
+      cached = t;
+    }
+
+-- a sound store is sound with no cache lent
+pub bare : {s : Store} {nodes lookup cache : List ℕ} → Sound s nodes lookup cache → Sound s nodes lookup []
+bare S = sound-with [] S (record { each = λ g op p q h G. absurd (omega (arith, G .within)) })
 
 pub all-zero : (l : List ℕ) → zeroed 0 (length l) l ≡ replicate (length l) 0
 all-zero l =

@@ -44,9 +44,9 @@ pub record Handed (B : List Family) (F : Family) (h n : ℕ) (nodes lookup : Lis
   pub means : at B h ≡ F
 
 -- the answer where the book becomes C, which has F: a handle, or full where C has no room; never damaged
-pub data Answer (C : List Family) (F : Family) (capacity n : ℕ) (nodes lookup : List ℕ) : PlaceAnswer → Type 0 where
-  gave : {h : ℕ} → Handed C F h n nodes lookup → Answer C F capacity n nodes lookup (Handle h)
-  full : (D : List Family) → Holds D n nodes lookup → capacity + 2 < length C → Answer C F capacity n nodes lookup (Refused Full)
+pub data Outcome (C : List Family) (F : Family) (capacity n : ℕ) (nodes lookup : List ℕ) : PlaceAnswer → Type 0 where
+  gave : {h : ℕ} → Handed C F h n nodes lookup → Outcome C F capacity n nodes lookup (Handle h)
+  full : (D : List Family) → Holds D n nodes lookup → capacity + 2 < length C → Outcome C F capacity n nodes lookup (Refused Full)
 
 -- what any words keep: the capacity, the words of the nodes held before, and all words past those of the nodes held after
 pub record Kept (s : Store) (nodes lookup : List ℕ) (s′ : Store) (nodes′ lookup′ : List ℕ) : Type 0 where
@@ -64,7 +64,7 @@ pub record TopAsks (nodes : List ℕ) (n p : ℕ) : Type 0 where
   pub words : 3 * n ≤ length nodes
 
 -- the same for a walk down from the handle
-pub record WalkAsks (nodes : List ℕ) (n p : ℕ) : Type 0 where
+pub record HandleAsks (nodes : List ℕ) (n p : ℕ) : Type 0 where
   pub held : p ≤ n + 1
   pub words : 3 * n ≤ length nodes
   pub small : n ≤ 1000000
@@ -102,11 +102,11 @@ pub record Ran (F : List Family → Family) (s : Store) (nodes lookup cache : Li
   pub handle : (h : ℕ) → r .answer ≡ Handle h → h ≤ r .store .count + 1
   pub long-cache : length cache′ ≡ length cache
   pub rest : (k : ℕ) → length cache / 4 * 4 ≤ k → getD cache′ k 0 ≡ getD cache k 0
-  pub sound : (B : List Family) → Holds B (s .count) nodes lookup → True B cache → Answer (place B (F B)) (F B) (s .capacity) (r .store .count) nodes′ lookup′ (r .answer)
+  pub sound : (B : List Family) → Holds B (s .count) nodes lookup → True B cache → Outcome (place B (F B)) (F B) (s .capacity) (r .store .count) nodes′ lookup′ (r .answer)
   pub cached : (B : List Family) → Holds B (s .count) nodes lookup → True B cache → (h : ℕ) → r .answer ≡ Handle h → True (place B (F B)) cache′
 
 -- a call that places the family F B with no use of the cache
 pub record RanPlain (F : List Family → Family) (s : Store) (nodes lookup : List ℕ) (r : Placed) (nodes′ lookup′ : List ℕ) : Type 0 where
   pub kept : Kept s nodes lookup (r .store) nodes′ lookup′
   pub handle : (h : ℕ) → r .answer ≡ Handle h → h ≤ r .store .count + 1
-  pub sound : (B : List Family) → Holds B (s .count) nodes lookup → Answer (place B (F B)) (F B) (s .capacity) (r .store .count) nodes′ lookup′ (r .answer)
+  pub sound : (B : List Family) → Holds B (s .count) nodes lookup → Outcome (place B (F B)) (F B) (s .capacity) (r .store .count) nodes′ lookup′ (r .answer)

@@ -12,7 +12,7 @@ use Rattle.store.specs.Refusals.{Given}
 unfoldable pub costOf : List Family → Family → ℕ
 costOf B F = length (distinct (absent B (parts F)))
 
--- "5: the result's parts not yet held outnumber capacity − count", where "the count is the book's length less 2"
+-- 5: "the result's parts not yet held outnumber capacity − count", where "the count is the book's length less 2"
 unfoldable pub tooLarge : ℕ → List Family → Family → Bool
 tooLarge capacity B F = ltb (capacity - (length B - 2)) (costOf B F)
 

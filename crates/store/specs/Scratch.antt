@@ -1,4 +1,4 @@
--- The tests of Size and Save, whose scratch is "one word per node held": document 01, 'Calls'.
+-- The tests of Size and Save, whose scratch is one word per node held: document 01, 'Calls'.
 use Prim.Native.Nat.{ℕ, _-_}
 use mathlib.Core.List.{List}
 use lib.ListN.{length}

@@ -11,7 +11,7 @@ use lib.ListN.{length, getD, List·getD-eq-default}
 use borrow.Author.Tests.{eq-eqb, eqb-true}
 use Rattle.words.proofs.Cases.{by-lt}
 use Rattle.table.specs.Probe.{scan, stopOn, probeOf}
-use Rattle.table.specs.Entered.{empty, firstFree, entered, used, startAt}
+use Rattle.table.specs.Entered.{emptySlot, firstFree, entered, used, startAt}
 use Rattle.table.specs.Own.{ownOf}
 use Rattle.table.proofs.Scan.{scan-refine}
 use Rattle.table.proofs.Stops.{Has, stop-low, stop-high}
@@ -67,8 +67,8 @@ module _ (nodes l : List ℕ) (n : ℕ) (fits : n < length l) (own : (k : ℕ) �
   unfolding firstFree
   first-own m h =
       let t = rows (ownOf nodes l) len m in
-      ap (λ k. scan (empty t) k k (startAt nodes len m)) (rows-length (ownOf nodes l) len m)
-      ∙ scan-refine (stop m) (empty t) len len (startAt nodes len m) (starts-in nodes len (omega arith) m)
+      ap (λ k. scan (emptySlot t) k k (startAt nodes len m)) (rows-length (ownOf nodes l) len m)
+      ∙ scan-refine (stop m) (emptySlot t) len len (startAt nodes len m) (starts-in nodes len (omega arith) m)
       (λ x g e. stops m x h (eqb-true (getD t x 0) 0 e))
       (subst (λ y. eqb (getD t y 0) 0 ≡ true) (own-scan m h) (eq-eqb (getD t (ownOf nodes l m) 0) 0 (row-free (ownOf nodes l) l n own m h)))
       ∙ sym (own-scan m h)

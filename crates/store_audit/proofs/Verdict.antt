@@ -19,11 +19,11 @@ use Rattle.store.proofs.Fitting.{fits-true, true-fits}
 use Rattle.store.proofs.Sounds.{zeroed-true}
 use Rattle.store_audit.specs.Promise.{AuditCall}
 use Rattle.store_audit.specs.Inner.{Decides, NodesTo, Blank}
-use Rattle.store_audit.specs.Inner.{Tells}
+use Rattle.store_audit.specs.Inner.{TellsSound}
 use Rattle.store_audit.proofs.Entering.{is-entered, are-distinct, entered-used, entered-own}
 
 module _ (s : Store) (nodes lookup : List ℕ) where
-  pub tells-no : ((cache : List ℕ) → Sound s nodes lookup cache → ⊥) → Tells s nodes lookup false
+  pub tells-no : ((cache : List ℕ) → Sound s nodes lookup cache → ⊥) → TellsSound s nodes lookup false
   tells-no d = record { says-yes = λ e. clash e refl; says-no = λ e. d }
 
   -- a sound store passes each test
@@ -51,7 +51,7 @@ module _ (s : Store) (nodes lookup : List ℕ) where
 
   -- a store that passes each test is sound
   pub tells-last : (r : Bool) → fitting (s .capacity) (s .count) (length nodes) (length lookup) ≡ true → used lookup ≡ s .count → Blank nodes (3 * s .count) (3 * s .capacity)
-      → Decides (NodesTo nodes lookup (s .count)) r → Tells s nodes lookup r
+      → Decides (NodesTo nodes lookup (s .count)) r → TellsSound s nodes lookup r
   tells-last r e many blank d = record { says-yes = λ p. sound (d .says-yes p); says-no = λ p cache S. d .says-no p (sound-nodes S) }
     where
       sound : NodesTo nodes lookup (s .count) → (cache : List ℕ) → True (bookOf nodes (s .count)) cache → Sound s nodes lookup cache
@@ -69,7 +69,7 @@ module _ (s : Store) (nodes lookup : List ℕ) where
             cached = T;
           }
 
-  pub audit-call : (cache cache′ : List ℕ) (r : Bool) → cache′ ≡ zeroed 0 (length cache / 4 * 4) cache → Tells s nodes lookup r → AuditCall s nodes lookup cache (record { store = s; sound = r }) cache′
+  pub audit-call : (cache cache′ : List ℕ) (r : Bool) → cache′ ≡ zeroed 0 (length cache / 4 * 4) cache → TellsSound s nodes lookup r → AuditCall s nodes lookup cache (record { store = s; sound = r }) cache′
   audit-call cache cache′ r e t =
       record {
         cache-is = e;

@@ -22,7 +22,7 @@ pub record RowsAsks (nodes lookup : List ℕ) (count : ℕ) : Type 0 where
   pub slots : 0 < length lookup
 
 -- an answer is yes exactly when the store is sound with each cache that is true of its book
-pub record Tells (s : Store) (nodes lookup : List ℕ) (r : Bool) : Type 0 where
+pub record TellsSound (s : Store) (nodes lookup : List ℕ) (r : Bool) : Type 0 where
   pub says-yes : r ≡ true → (cache : List ℕ) → True (bookOf nodes (s .count)) cache → Sound s nodes lookup cache
   pub says-no : r ≡ false → (cache : List ℕ) → Sound s nodes lookup cache → ⊥
 

@@ -1,5 +1,5 @@
 // Audit: whether a store is sound.
-ghost use Rattle.store_audit.specs.Inner.{Tells};
+ghost use Rattle.store_audit.specs.Inner.{TellsSound};
 ghost use Rattle.store_audit.specs.Promise.{AuditCall};
 use crate::blank::are_zero;
 use crate::nodes::all_obey;
@@ -15,7 +15,7 @@ pub struct Audited {
 
 // Whether the record, the node words and the lookup are those of a sound store.
 fn is_sound(store: Store, nodes: &[u32], lookup: &[u32]) -> bool
-    ensures { λ r. ⌜ Tells store (now (nodes .entry)) (now (lookup .entry)) r ⌝ }
+    ensures { λ r. ⌜ TellsSound store (now (nodes .entry)) (now (lookup .entry)) r ⌝ }
 {
     if !store.fits(nodes.len(), lookup.len()) {
         return false;

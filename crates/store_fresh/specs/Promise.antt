@@ -33,21 +33,23 @@ freshLeaves r nodes lookup cache = record { refusal = freshNumber (r .answer); s
 abbrev pub freshRefused : ℕ → List ℕ → List ℕ → List ℕ → FreshLeft
 freshRefused n nodes lookup cache = record { refusal = n; store = record { capacity = 0; count = 0 }; nodes = nodes; lookup = lookup; cache = cache }
 
--- "Fresh zeroes the node words of the capacity, the lookup and the whole cache groups, and touches nothing else"; 1: "fewer than 3 node words"; 2: "lookup length at most the capacity"
-unfoldable pub freshOf : List ℕ → List ℕ → List ℕ → FreshLeft
-freshOf nodes lookup cache =
-    let capacity = capacityOf (length nodes) in
-    cond (ltb (length nodes) 3)
-    (freshRefused 1 nodes lookup cache)
-    (cond (leb (length lookup) capacity)
-    (freshRefused 2 nodes lookup cache)
-    (record {
+-- "Fresh zeroes the node words of the capacity, the lookup and the whole cache groups, and touches nothing else"
+abbrev pub freshDone : List ℕ → List ℕ → List ℕ → FreshLeft
+freshDone nodes lookup cache =
+    record {
       refusal = 0;
-      store = record { capacity = capacity; count = 0 };
-      nodes = zeroed 0 (3 * capacity) nodes;
+      store = record { capacity = capacityOf (length nodes); count = 0 };
+      nodes = zeroed 0 (3 * capacityOf (length nodes)) nodes;
       lookup = zeroed 0 (length lookup) lookup;
       cache = zeroed 0 (length cache / 4 * 4) cache;
-    }))
+    }
+
+-- 1: "fewer than 3 node words"; 2: "lookup length at most the capacity"
+unfoldable pub freshOf : List ℕ → List ℕ → List ℕ → FreshLeft
+freshOf nodes lookup cache =
+    cond (ltb (length nodes) 3)
+    (freshRefused 1 nodes lookup cache)
+    (cond (leb (length lookup) (capacityOf (length nodes))) (freshRefused 2 nodes lookup cache) (freshDone nodes lookup cache))
 
 -- Fresh's promise: one equation for every input.
 pub record FreshCall (nodes lookup cache : List ℕ) (r : Freshened) (nodes′ lookup′ cache′ : List ℕ) : Type 0 where

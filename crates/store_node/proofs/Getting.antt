@@ -19,7 +19,7 @@ use Rattle.store_node.specs.declared.unique.Made.{Made}
 use Rattle.store_node.specs.declared.unique.Made.the-variants.{Found, New, Full as NoRoom, Damaged as Bad}
 use Rattle.store_node.specs.declared.unique.Making.{Making}
 use Rattle.store.specs.Words.{itemLimit}
-use Rattle.store.specs.Inner.{Roomy, Holds, Handed, Answer, gave, full, Kept}
+use Rattle.store.specs.Inner.{Roomy, Holds, Handed, Outcome, gave, full, Kept}
 use Rattle.store_node.specs.Inner.{MadeOf, found, new, MadeIt, NodeIt}
 use Rattle.store.proofs.Held.{at-0, within, positive-one, held}
 use Rattle.store.proofs.Growing.{kept-self}
@@ -78,8 +78,8 @@ module _ (s : Store) (nodes lookup : List ℕ) (i z o : ℕ) (small : i ≤ item
 
     -- the family and the book of an inhabited one side
     as-node : {B : List Family} → Holds B (s .count) nodes lookup → (C : List Family) {a : PlaceAnswer} → add B (node i (at B z) (at B o)) ≡ C
-        → Answer C (node i (at B z) (at B o)) (s .capacity) (m .store .count) nodes′ lookup′ a
-        → Answer (made B i (at B z) (at B o)) (mk i (at B z) (at B o)) (s .capacity) (r .store .count) nodes′ lookup′ a
+        → Outcome C (node i (at B z) (at B o)) (s .capacity) (m .store .count) nodes′ lookup′ a
+        → Outcome (made B i (at B z) (at B o)) (mk i (at B z) (at B o)) (s .capacity) (r .store .count) nodes′ lookup′ a
     as-node {B} H C e A = rw (es, mk-node i (at B z) (at B o) (full-one H), made-inhabited B i (at B z) (at B o) (full-one H), e) A
 
     pub node-found : (h : ℕ) → m .made ≡ Found h → r .answer ≡ Handle h → NodeIt s nodes lookup i z o r nodes′ lookup′

@@ -4,7 +4,7 @@ use Rattle.store.specs.declared.record.Placed.{Placed}
 use Prim.Native.Nat.{ℕ, _+_, _≤_, _-_, _<_, _*_}
 use mathlib.Core.Path.{_≡_}
 use mathlib.Core.List.{List, [], _∷_, _++_}
-use lib.ListN.{length}
+use lib.ListN.{length, set}
 use Rattle.family.specs.Family.{Family, node, Within, top, mk}
 use Rattle.family.specs.Book.{at, number, made}
 use Rattle.store.specs.declared.record.Store.{Store}
@@ -12,13 +12,18 @@ use Rattle.store_node.specs.declared.unique.Made.{Made}
 use Rattle.store_node.specs.declared.unique.Made.the-variants.{Found, New, Full as NoRoom}
 use Rattle.store_node.specs.declared.unique.Making.{Making}
 use Rattle.store.specs.Words.{itemLimit}
-use Rattle.store.specs.Inner.{Holds, Handed, Kept, Answer, Roomy}
+use Rattle.store.specs.Inner.{putNode, Holds, Handed, Kept, Outcome, Roomy}
 
 -- room for the words of the node after `count` others, and a slot
-pub record EnterAsks (nodes lookup : List ℕ) (count slot : ℕ) : Type 0 where
+pub record SlotAsks (nodes lookup : List ℕ) (count slot : ℕ) : Type 0 where
   pub words : 3 * count + 3 ≤ length nodes
   pub few : count < 1000000
   pub within : slot < length lookup
+
+-- the words of the node, and its number in the slot
+pub record EnteredIt (nodes lookup : List ℕ) (count slot item z o : ℕ) (nodes′ lookup′ : List ℕ) : Type 0 where
+  pub nodes-are : nodes′ ≡ putNode nodes count item z o
+  pub lookup-is : lookup′ ≡ set lookup slot (count + 2)
 
 -- the words of a node whose children are held
 pub record NodeAsks (s : Store) (nodes lookup : List ℕ) (item z o : ℕ) : Type 0 where
@@ -46,4 +51,4 @@ pub record NodeIt (s : Store) (nodes lookup : List ℕ) (i z o : ℕ) (r : Place
   pub kept : Kept s nodes lookup (r .store) nodes′ lookup′
   pub handle : (h : ℕ) → r .answer ≡ Handle h → h ≤ r .store .count + 1
   pub sound : (B : List Family) → Holds B (s .count) nodes lookup → top (at B z) < i → top (at B o) < i
-      → Answer (made B i (at B z) (at B o)) (mk i (at B z) (at B o)) (s .capacity) (r .store .count) nodes′ lookup′ (r .answer)
+      → Outcome (made B i (at B z) (at B o)) (mk i (at B z) (at B o)) (s .capacity) (r .store .count) nodes′ lookup′ (r .answer)

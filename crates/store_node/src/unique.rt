@@ -1,9 +1,6 @@
 // A node found in the unique table, or added to it.
-ghost use mathlib.Core.Path.{_≡_};
 ghost use Prim.Native.Nat.{_+_, _*_, _<_};
-ghost use lib.ListN.{set};
-ghost use Rattle.store.specs.Inner.{putNode};
-ghost use Rattle.store_node.specs.Inner.{EnterAsks, NodeAsks, MadeIt};
+ghost use Rattle.store_node.specs.Inner.{SlotAsks, EnteredIt, NodeAsks, MadeIt};
 use store::record::Store;
 use table::probe::probe;
 
@@ -30,9 +27,8 @@ fn enter(
     zero: u32,
     one: u32,
 )
-    requires { ⌜ EnterAsks (now nodes) (now lookup) count slot ⌝ }
-    ensures { λ _. ⌜ now (nodes .exit) ≡ putNode (now (nodes .entry)) count item zero one ⌝ }
-    ensures { λ _. ⌜ now (lookup .exit) ≡ set (now (lookup .entry)) slot (count + 2) ⌝ }
+    requires { ⌜ SlotAsks (now nodes) (now lookup) count slot ⌝ }
+    ensures { λ _. ⌜ EnteredIt (now (nodes .entry)) (now (lookup .entry)) count slot item zero one (now (nodes .exit)) (now (lookup .exit)) ⌝ }
 {
     let base = 3 * count as usize;
     nodes[base] = item;

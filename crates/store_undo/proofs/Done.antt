@@ -26,12 +26,12 @@ use Rattle.store.specs.Sound.{Sound}
 use Rattle.store.specs.Placing.{tooLarge, placeAnswer, placeBook}
 use Rattle.store.specs.Promise.{leaves, placing, cacheRefused, PlaceCall}
 use Rattle.store_undo.specs.Inner.{RolledBack, Finished}
-use Rattle.store.specs.Inner.{Roomy, Holds, Handed, Answer, gave, full, Kept, Ran}
+use Rattle.store.specs.Inner.{Roomy, Holds, Handed, Outcome, gave, full, Kept, Ran}
 use Rattle.store.proofs.Fitting.{store-is}
 use Rattle.store.proofs.Held.{handle-of}
 use Rattle.store.proofs.Decoding.{sound-holds}
 use Rattle.store.proofs.Encoding.{looked-up, laid-out}
-use Rattle.store.proofs.Sounds.{holds-sound, zeroed-true}
+use Rattle.store.proofs.Sounds.{holds-sound, zeroed-true, sound-with}
 use Rattle.store.proofs.Answers.{handed-of, by-answer}
 use Rattle.store_undo.proofs.Undoing.{undone-nodes, undone-lookup}
 use Rattle.store.proofs.Calls.{fits-roomy, not-large, left-is, large}
@@ -127,7 +127,7 @@ module _ (s : Store) (nodes lookup cache : List ℕ) where
         over = out (m .answer) ex (R .sound (bookOf nodes (s .count)) (sound-holds S) (S .cached))
           where
             out : (a : PlaceAnswer) → a ≡ Refused x
-                → Answer (place (bookOf nodes (s .count)) (F (bookOf nodes (s .count)))) (F (bookOf nodes (s .count))) (s .capacity) (m .store .count) nodes₁ lookup₁ a → Over
+                → Outcome (place (bookOf nodes (s .count)) (F (bookOf nodes (s .count)))) (F (bookOf nodes (s .count))) (s .capacity) (m .store .count) nodes₁ lookup₁ a → Over
             out a q (gave G) = absurd (let z : _≡_ {A = ℕ} 0 1 = cc in omega arith)
             out a q (full D H l) = record { is = cc; D = D; holds = H; big = l }
 
@@ -149,16 +149,7 @@ module _ (s : Store) (nodes lookup cache : List ℕ) where
 
         full-sound : Sound (r .store) nodes₂ lookup₂ cache₂
         full-sound =
-            rw (as-came, same-nodes, same-lookup, zero-cache) record {
-              capacity-is = S .capacity-is;
-              longer = S .longer;
-              within = S .within;
-              each = S .each;
-              apart = S .apart;
-              blank = S .blank;
-              lookup-is = S .lookup-is;
-              cached = zeroed-true (bookOf nodes (s .count)) cache;
-            }
+            rw (as-came, same-nodes, same-lookup, zero-cache) (sound-with (zeroed 0 (length cache / 4 * 4) cache) S (zeroed-true (bookOf nodes (s .count)) cache))
 
       full-call : PlaceCall 0 (F (bookOf nodes (s .count))) s nodes lookup cache r nodes₂ lookup₂ cache₂
       unfolding cacheRefused

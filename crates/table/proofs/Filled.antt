@@ -12,7 +12,7 @@ use borrow.Author.Tests.{eq-eqb, eqb-true}
 use Rattle.words.proofs.Cases.{by-eq}
 use Rattle.words.proofs.Zeroed.{zeros-length, zero-getD}
 use Rattle.table.specs.Probe.{scan}
-use Rattle.table.specs.Entered.{empty, firstFree, entered, used}
+use Rattle.table.specs.Entered.{emptySlot, firstFree, entered, used}
 use Rattle.table.proofs.Scan.{scan-sound, scan-found, scan-refine}
 use Rattle.table.proofs.Used.{used-none, used-set, used-room}
 
@@ -25,8 +25,8 @@ pub first-free : (l : List ℕ) (start : ℕ) → start < length l → used l < 
 unfolding firstFree
 first-free l start h u =
     let r = used-room l u in
-    let s = scan-found (empty l) (length l) start (r .slot) h (r .inside) (eq-eqb (getD l (r .slot) 0) 0 (r .free)) in
-    (s, eqb-true (getD l (scan (empty l) (length l) (length l) start) 0) 0 (scan-sound (empty l) (length l) (length l) start s))
+    let s = scan-found (emptySlot l) (length l) start (r .slot) h (r .inside) (eq-eqb (getD l (r .slot) 0) 0 (r .free)) in
+    (s, eqb-true (getD l (scan (emptySlot l) (length l) (length l) start) 0) 0 (scan-sound (emptySlot l) (length l) (length l) start s))
 
 pub length-entered : (starts : ℕ → ℕ) (len n : ℕ) → length (entered starts len n) ≡ len
 unfolding entered
@@ -106,15 +106,15 @@ module _ (starts : ℕ → ℕ) (len : ℕ) (inside : (k : ℕ) → starts k < l
       (λ r. absurd (omega (arith, holds n (r .k) (omega (arith, r .below)) g, ap (λ y. getD (entered starts len n) y 0) (r .slot))))
       (only m x (omega arith))
 
-  slot-scan : (k : ℕ) → slotAt starts len k ≡ scan (empty (entered starts len k)) len len (starts k)
+  slot-scan : (k : ℕ) → slotAt starts len k ≡ scan (emptySlot (entered starts len k)) len len (starts k)
   unfolding firstFree
-  slot-scan k = ap (λ m. scan (empty (entered starts len k)) m m (starts k)) (length-entered starts len k)
+  slot-scan k = ap (λ m. scan (emptySlot (entered starts len k)) m m (starts k)) (length-entered starts len k)
 
   -- a search that stops at number k's slot, and else only where the lookup was empty when k was entered, finds it
   pub finds : (stop : ℕ → Bool) (k : ℕ) → stop (slotAt starts len k) ≡ true
       → ((x : ℕ) → x < len → stop x ≡ true → getD (entered starts len k) x 0 ≡ 0) → scan stop len len (starts k) ≡ slotAt starts len k
   finds stop k e f =
-      scan-refine (empty (entered starts len k)) stop len len (starts k) (inside k)
+      scan-refine (emptySlot (entered starts len k)) stop len len (starts k) (inside k)
       (λ x g s. eq-eqb (getD (entered starts len k) x 0) 0 (f x g s))
       (subst (λ y. stop y ≡ true) (slot-scan k) e)
       ∙ sym (slot-scan k)

@@ -12,7 +12,7 @@ use borrow.Author.Tests.{ne-eqb}
 use Rattle.words.proofs.Cases.{by-test, by-lt}
 use Rattle.table.specs.Start.{startOf}
 use Rattle.table.specs.Probe.{scan, hasWords, stopOn, probeOf}
-use Rattle.table.specs.Entered.{empty, firstFree, entered, startAt}
+use Rattle.table.specs.Entered.{emptySlot, firstFree, entered, startAt}
 use Rattle.table.proofs.Starts.{start-lt}
 use Rattle.table.proofs.Scan.{scan-ext}
 use Rattle.table.proofs.Stops.{Has, has-words, words-has, stop-low, stops-past, stops-in}
@@ -60,7 +60,7 @@ module _ (nodes : List ℕ) (len : ℕ) (some : 0 < len) where
     unfolding probeOf firstFree
     missing item z o none =
         rw (length-entered (startAt nodes len) len n)
-        (scan-ext (λ x. stopOn nodes n item z o (getD (entered (startAt nodes len) len n) x 0)) (empty (entered (startAt nodes len) len n)) len len
+        (scan-ext (λ x. stopOn nodes n item z o (getD (entered (startAt nodes len) len n) x 0)) (emptySlot (entered (startAt nodes len) len n)) len len
         (startOf item z o len) (start-lt item z o len some) (λ x l. ⊎-elim (λ e. at-empty x e) (λ r. at-number x r) (only (startAt nodes len) len starts-in n x fits)))
       where
         at-empty : (x : ℕ) → getD (entered (startAt nodes len) len n) x 0 ≡ 0

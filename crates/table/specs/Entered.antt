@@ -8,12 +8,12 @@ use Rattle.table.specs.Start.{startOf}
 use Rattle.table.specs.Probe.{scan}
 
 -- "An empty slot is 0."
-abbrev pub empty : List ℕ → ℕ → Bool
-empty lookup x = eqb (getD lookup x 0) 0
+abbrev pub emptySlot : List ℕ → ℕ → Bool
+emptySlot lookup x = eqb (getD lookup x 0) 0
 
 -- the first empty slot from a start slot on and around the end
 unfoldable pub firstFree : List ℕ → ℕ → ℕ
-firstFree lookup start = scan (empty lookup) (length lookup) (length lookup) start
+firstFree lookup start = scan (emptySlot lookup) (length lookup) (length lookup) start
 
 -- a lookup of len slots with the numbers 2 to n + 1 entered in rising order; `starts` gives the start slot of number k + 2
 unfoldable pub entered : (ℕ → ℕ) → ℕ → ℕ → List ℕ

@@ -53,7 +53,15 @@ same-length-2 : tie.Need-same-length-2
 same-length-2 c = search needs
 
 returns-3 : tie.Need-returns-3
-returns-3 c = search parts-short
+returns-3 c =
+    let at-trail : tie.After-trail = search in
+    let at-walk : tie.After-walk = search in
+    let at-zero : tie.After-zero = search in
+    let at-start : tie.Start = search in
+    let a = at-start .args in
+    let F = at-walk .walk .ensures .trail-fits _ (at-trail .trail .given .1) in
+    parts-short (a .store) (a .p) (a .nodes .now) (a .links .now) (a .out .now) (at-start .pre .two) (at-start .pre .inside) (at-start .pre .lent .linkable)
+    (at-zero .zero .ensures) (at-walk .walk .ensures) _ (at-trail .trail .given .1) _ refl (omega (arith, F .some, c .if2 .taken)) refl
 
 write-file-requires : tie.Need-write-file-requires
 write-file-requires c κs =
@@ -62,8 +70,7 @@ write-file-requires c κs =
     let at-zero : tie.After-zero = search in
     let at-start : tie.Start = search in
     let p = at-start .pre in
-    let F = at-walk .walk .ensures .trail-fits _ (at-trail .trail .given .1) in
-    (
+    let F = at-walk .walk .ensures .trail-fits _ (at-trail .trail .given .1) in (
       record { words = p .lent .words; few = p .lent .few; linkable = omega (arith, p .lent .linkable, at-walk .walk .ensures .long, at-zero .zero .kept .0) },
       record { five = omega (arith, F .some, (c .before .before) .if2 .left); few = F .few },
     )

@@ -14,7 +14,7 @@ write-parts-requires : tie.Need-write-parts-requires
 write-parts-requires c κs =
     let at-put-header : tie.After-put-header = search in
     let at-start : tie.Start = search in
-    (at-start .pre .0, record { five = omega (arith, at-start .pre .1 .five, at-put-header .put-header .kept .0); few = at-start .pre .1 .few })
+    (at-start .pre .0, record { five = omega (arith, at-start .pre .1 .five, at-put-header .put-header .kept .0); few = omega (arith, at-start .pre .1 .few) })
 
 same-length : tie.Need-same-length
 same-length c = search needs

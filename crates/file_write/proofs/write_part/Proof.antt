@@ -66,9 +66,7 @@ sub-put-record c =
     at-start .pre .1 .within
 
 part-put-record-start : tie.Need-part-put-record-start
-part-put-record-start c =
-    let at-start : tie.Start = search in
-    at-start .pre .1 .within
+part-put-record-start c = sub-put-record c
 
 part-put-record-end : tie.Need-part-put-record-end
 part-put-record-end c = search needs

@@ -3,6 +3,7 @@
 use borrow.Author.Needs.{needs}
 use Prim.Native.Nat.{_-_}
 use mathlib.Core.Path.{_∙_}
+use Prim.Native.Nat.{_<_}
 use native.Mathlib.Omega.{arith}
 use Rattle.file_write.proofs.Writes.{PartsLeft, left-start, left-fits, left-broken, left-step, left-done}
 use Rattle.file_write.proofs.write_parts.Statement.{statement}
@@ -46,7 +47,11 @@ same-length-2 c =
     at-write-part .write-part .ensures .long-out ∙ at-loop .loop .inv .long-out
 
 returns : tie.Need-returns Inv-loop μ-loop
-returns c = search left-broken
+returns c =
+    let at-loop-test : tie.In-loop Inv-loop μ-loop = search in
+    let at-loop : tie.At-loop Inv-loop μ-loop = search in
+    let some : 0 < at-loop .loop .left = omega (arith, at-loop-test .loop-test .taken) in
+    search left-broken
 
 sub-left : tie.Need-sub-left Inv-loop μ-loop
 sub-left c =
@@ -59,7 +64,11 @@ loop-less c =
     omega (arith, at-loop-test .loop-test .taken)
 
 loop-again : tie.Need-loop-again Inv-loop μ-loop
-loop-again c = search left-step
+loop-again c =
+    let at-loop-test : tie.In-loop Inv-loop μ-loop = search in
+    let at-loop : tie.At-loop Inv-loop μ-loop = search in
+    let some : 0 < at-loop .loop .left = omega (arith, at-loop-test .loop-test .taken) in
+    search left-step
 
 same-length-3 : tie.Need-same-length-3 Inv-loop μ-loop
 same-length-3 c = (c .before) .loop .inv .long

@@ -32,7 +32,8 @@ array-read-if1 c = search needs
 
 returns : tie.Need-returns Inv-loop μ-loop
 returns c =
-    sym (some-item (c .before .before .before .before .args .self .words) (c .before .before .loop .k) (words-of (c .before .before .before .before)) (c .if1 .taken))
+    let at-start : tie.Start Inv-loop μ-loop = search in
+    sym (some-item (at-start .args .self .words) (c .before .before .loop .k) (words-of at-start) (c .if1 .taken))
 
 add-k : tie.Need-add-k Inv-loop μ-loop
 add-k c = search needs

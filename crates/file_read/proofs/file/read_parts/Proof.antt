@@ -11,8 +11,8 @@ use borrow.Author.Needs.{needs}
 use Rattle.file_read.proofs.file.read_parts.Statement.{statement}
 use Rattle.file_read.proofs.file.read_parts.Tie as tie
 
-number-requires : tie.Need-number-requires
-number-requires c κs = search needs
+read-number-requires : tie.Need-read-number-requires
+read-number-requires c κs = search needs
 
 sub-read-table : tie.Need-sub-read-table
 sub-read-table c = search needs
@@ -45,28 +45,28 @@ returns-4 : tie.Need-returns-4
 returns-4 c =
     let at-if3 : tie.Else3 = search in
     let at-if2 : tie.Else2 = search in
-    let at-number : tie.After-number = search in
+    let at-read-number : tie.After-read-number = search in
     let at-if1 : tie.Else1 = search in
     let at-start : tie.Start = search in
     let a = at-start .args in
-    file-unread (a .rest .now) (a .words .now) (a .bytes) _ (at-if1 .if1 .left) (at-number .number .ensures) (at-if2 .if2 .left) (omega (arith, at-number .number .ok, at-if3 .if3 .left)) (table-part (drop 4 (a .rest .now)) (part-from (a .rest .now) 4) ((c .before .before .before) .read-table .ensures)) (not-true _ (c .if4 .taken))
+    file-unread (a .rest .now) (a .words .now) (a .bytes) _ (at-if1 .if1 .left) (at-read-number .read-number .ensures) (at-if2 .if2 .left) (omega (arith, at-read-number .read-number .ok, at-if3 .if3 .left)) (table-part (drop 4 (a .rest .now)) (part-from (a .rest .now) 4) ((c .before .before .before) .read-table .ensures)) (not-true _ (c .if4 .taken))
 
 returns-5 : tie.Need-returns-5
 returns-5 c =
     let at-if3 : tie.Else3 = search in
     let at-if2 : tie.Else2 = search in
-    let at-number : tie.After-number = search in
+    let at-read-number : tie.After-read-number = search in
     let at-if1 : tie.Else1 = search in
     let at-start : tie.Start = search in
     let a = at-start .args in
-    file-parts (a .rest .now) (a .words .now) (a .bytes) _ (at-if1 .if1 .left) (at-number .number .ensures) (at-if2 .if2 .left) (omega (arith, at-number .number .ok, at-if3 .if3 .left)) (table-part (drop 4 (a .rest .now)) (part-from (a .rest .now) 4) ((c .before .before .before) .read-table .ensures)) (at-start .pre .1) (not-false _ (c .if4 .left))
+    file-parts (a .rest .now) (a .words .now) (a .bytes) _ (at-if1 .if1 .left) (at-read-number .read-number .ensures) (at-if2 .if2 .left) (omega (arith, at-read-number .read-number .ok, at-if3 .if3 .left)) (table-part (drop 4 (a .rest .now)) (part-from (a .rest .now) 4) ((c .before .before .before) .read-table .ensures)) (at-start .pre .1) (not-false _ (c .if4 .left))
 
 pub read-parts-spec : {M : Type 1} → statement M
 read-parts-spec =
     tie.close
     (tie.spec
     returns
-    number-requires
+    read-number-requires
     returns-2
     returns-3
     sub-read-table

@@ -128,7 +128,16 @@ in-order-sub-if2 t c = search needs
 in-order-returns-4 :
     (t : ℕ) →
     in-order-lts.Need-returns-4 (in-order-claims t) (in-order-at t) in-order.Post
-in-order-returns-4 t c = search walk-other
+in-order-returns-4 t c =
+    let at-in-order2 : in-order-lts.After-in-order2 (in-order-claims t) (in-order-at t) in-order.Post = search in
+    let at-first : in-order-lts.After-first (in-order-claims t) (in-order-at t) in-order.Post = search in
+    let at-in-order : in-order-lts.After-in-order (in-order-claims t) (in-order-at t) in-order.Post = search in
+    let at-if1 : in-order-lts.Else1 (in-order-claims t) (in-order-at t) in-order.Post = search in
+    let at-start : in-order-lts.Start (in-order-claims t) (in-order-at t) in-order.Post = search in
+    let a = at-start .args in
+    let q = at-start .pre .1 in
+    walk-other (a .nodes .now) (a .count) (a .p) (a .last) (q .inside) (q .some-placed) (at-if1 .if1 .left) (at-in-order .in-order .ensures) _ (at-first .first .given .1)
+    (at-in-order2 .in-order2 .ensures) _ ((c .before .before) .second .given .1) (λ e. omega (arith, e, c .if2 .taken))
 
 in-order-returns-5 :
     (t : ℕ) →

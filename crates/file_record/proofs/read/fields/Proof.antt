@@ -8,7 +8,7 @@ use Rattle.file_record.proofs.read.fields.Statement.{statement}
 use Rattle.file_record.proofs.read.fields.Tie as tie
 
 add-read-field : tie.Need-add-read-field
-add-read-field c = omega (arith, (c .before .before) .pre .1)
+add-read-field c = omega (arith, (c .before .before) .pre)
 
 read-field-requires : tie.Need-read-field-requires
 read-field-requires c κs = search needs
@@ -26,7 +26,7 @@ sub-read-field : tie.Need-sub-read-field
 sub-read-field c = field-read _ _ ((c .before) .item .given .1) ((c .before .before .before) .read-field .ensures) .fits
 
 part-read-field-start : tie.Need-part-read-field-start
-part-read-field-start c = field-read _ _ ((c .before) .item .given .1) ((c .before .before .before) .read-field .ensures) .fits
+part-read-field-start c = sub-read-field c
 
 part-read-field-end : tie.Need-part-read-field-end
 part-read-field-end c = search needs
@@ -61,13 +61,7 @@ sub-read-field-2 c =
     (part-from (a .bytes .now) _) ((c .before .before .before) .read-field2 .ensures) _ _ ((c .before) .zero .given .1)
 
 part-read-field-start-2 : tie.Need-part-read-field-start-2
-part-read-field-start-2 c =
-    let at-item : tie.After-item = search in
-    let at-read-field : tie.After-read-field = search in
-    let at-start : tie.Start = search in
-    let a = at-start .args in
-    fields-reach (a .map) (a .last) (a .bytes .now) (add-one (a .last .item)) (at-read-field .read-field .ensures) _ _ (at-item .item .given .1)
-    (part-from (a .bytes .now) _) ((c .before .before .before) .read-field2 .ensures) _ _ ((c .before) .zero .given .1)
+part-read-field-start-2 c = sub-read-field-2 c
 
 part-read-field-end-2 : tie.Need-part-read-field-end-2
 part-read-field-end-2 c = search needs

@@ -13,14 +13,19 @@ returns c = search (field-off, not-true)
 returns-2 : tie.Need-returns-2
 returns-2 c = search (field-short, not-false)
 
-number-requires : tie.Need-number-requires
-number-requires c κs = search needs
+read-number-requires : tie.Need-read-number-requires
+read-number-requires c κs = search needs
 
 returns-3 : tie.Need-returns-3
-returns-3 c = search (field-same, not-false)
+returns-3 c =
+    let at-read-number : tie.After-read-number = search in
+    let at-if1 : tie.Else1 = search in
+    let at-start : tie.Start = search in
+    let a = at-start .args in
+    field-same (a .width) (a .other) (a .bytes .now) (not-false (a .stands) (at-if1 .if1 .left)) _ (at-read-number .read-number .ensures) (omega (arith, c .if3 .taken))
 
 returns-4 : tie.Need-returns-4
 returns-4 c = search (field-value, not-false)
 
 pub read-field-spec : {M : Type 1} → statement M
-read-field-spec = tie.close (tie.spec returns returns-2 number-requires returns-3 returns-4)
+read-field-spec = tie.close (tie.spec returns returns-2 read-number-requires returns-3 returns-4)

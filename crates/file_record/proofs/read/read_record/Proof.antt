@@ -16,7 +16,10 @@ wide-requires : tie.Need-wide-requires
 wide-requires c κs = search needs
 
 returns-2 : tie.Need-returns-2
-returns-2 c = search record-map
+returns-2 c =
+    let at-if1 : tie.Else1 = search in
+    let at-start : tie.Start = search in
+    record-map (at-start .args .last) (at-start .args .rest .now) _ ((c .before) .wide .ensures .0) (at-if1 .if1 .left) (omega (arith, c .if2 .taken))
 
 sub-fields : tie.Need-sub-fields
 sub-fields c = search needs

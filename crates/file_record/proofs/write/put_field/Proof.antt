@@ -19,26 +19,24 @@ returns c =
     let a = (c .before) .args in field-off (a .value) (a .out .now) (a .at) (a .width) (not-true (a .stands) (c .if1 .taken))
 
 loop-holds : tie.Need-loop-holds Inv-loop μ-loop
-loop-holds c = search laid-start
+loop-holds c =
+    let a = (c .before) .args in
+    laid-start (a .out .now) (a .at) (a .width) (a .value) (field-room (a .width) (a .at) (a .out .now) (not-false (a .stands) (c .if1 .left)) ((c .before) .pre))
 
 cast-out : tie.Need-cast-out Inv-loop μ-loop
 cast-out c = search needs
 
 add-out : tie.Need-add-out Inv-loop μ-loop
 add-out c =
-    let at-if1 : tie.Else1 Inv-loop μ-loop = search in
-    let at-start : tie.Start Inv-loop μ-loop = search in
-    let a = at-start .args in
-    let room = field-room (a .width) (a .at) (a .out .now) (not-false (a .stands) (at-if1 .if1 .left)) (at-start .pre) in
-    search needs
+    let at-loop : tie.At-loop Inv-loop μ-loop = search in
+    let L = at-loop .loop .inv in
+    omega (arith, L .room, L .long, c .loop-test .taken)
 
 slice-write-out : tie.Need-slice-write-out Inv-loop μ-loop
 slice-write-out c =
-    let at-if1 : tie.Else1 Inv-loop μ-loop = search in
-    let at-start : tie.Start Inv-loop μ-loop = search in
-    let a = at-start .args in
-    let room = field-room (a .width) (a .at) (a .out .now) (not-false (a .stands) (at-if1 .if1 .left)) (at-start .pre) in
-    search needs
+    let at-loop : tie.At-loop Inv-loop μ-loop = search in
+    let L = at-loop .loop .inv in
+    omega (arith, L .room, L .long, c .loop-test .taken)
 
 add-k : tie.Need-add-k Inv-loop μ-loop
 add-k c = search needs
@@ -50,12 +48,7 @@ loop-again : tie.Need-loop-again Inv-loop μ-loop
 loop-again c = search laid-step
 
 add-result : tie.Need-add-result Inv-loop μ-loop
-add-result c =
-    let at-if1 : tie.Else1 Inv-loop μ-loop = search in
-    let at-start : tie.Start Inv-loop μ-loop = search in
-    let a = at-start .args in
-    let room = field-room (a .width) (a .at) (a .out .now) (not-false (a .stands) (at-if1 .if1 .left)) (at-start .pre) in
-    search needs
+add-result c = omega (arith, (c .before) .loop .inv .room)
 
 same-length : tie.Need-same-length Inv-loop μ-loop
 same-length c = search

@@ -3,7 +3,7 @@
 use borrow.Author.Needs.{needs}
 use Prim.Native.Nat.{ℕ, _<_}
 use native.Mathlib.Omega.{arith}
-use Rattle.file_trail.proofs.Walking.{split-two, walk-met, walk-no-children, walk-first-broken, walk-second-broken, walk-many, walk-done}
+use Rattle.file_trail.proofs.Walking.{split-two, zero-child, one-child, child-side, walked-lent, zero-asks, one-asks, walk-met, walk-no-children, walk-first-broken, walk-second-broken, walk-many, walk-done}
 use borrow.Fn.Kinds.{In}
 use borrow.Fn.PlainCycle.{Measures, is, falls, and}
 use Rattle.file_trail.proofs.walk.walk.Reads as walk
@@ -28,7 +28,7 @@ abbrev walk-claims : ℕ → walk-lts.Claims
 walk-claims t = (is-met-reads.Asked, is-met-reads.Learnt, children-reads.Asked, children-reads.Learnt, walk-below t, walk.Post, visit-reads.Asked, visit-reads.Learnt)
 
 walk-is-met-requires : (t : ℕ) → walk-lts.Need-is-met-requires (walk-claims t) (walk-at t) walk.Post
-walk-is-met-requires t c κs = 
+walk-is-met-requires t c κs =
     let at-start : walk-lts.Start (walk-claims t) (walk-at t) walk.Post = search in
     omega (arith, at-start .pre .1 .inside, at-start .pre .1 .lent .linkable)
 
@@ -61,7 +61,7 @@ walk-walk-requires t c κs =
     let at-start : walk-lts.Start (walk-claims t) (walk-at t) walk.Post = search in
     let q = at-start .pre .1 in
     let K = split-two _ _ _ _ ((c .before .before) .zero .given .1) (at-children .children .ensures) .sides in
-    (omega (arith, at-start .pre .0, K .zero-below), record { inside = K .zero-within; lent = q .lent; level-is = K .ztop; level-low = omega (arith, K .zero-below, q .level-low); trail-fits = q .trail-fits })
+    (omega (arith, at-start .pre .0, K .zero-below, K .one-below), search (zero-asks K (q .level-low) (q .lent) (q .trail-fits), one-asks K (q .level-low) (q .lent) (q .trail-fits)))
 
 walk-enum-known-first : (t : ℕ) → walk-lts.Need-enum-known-first (walk-claims t) (walk-at t) walk.Post
 walk-enum-known-first t c = search needs
@@ -83,16 +83,10 @@ walk-walk-requires-2 t c κs =
     let at-start : walk-lts.Start (walk-claims t) (walk-at t) walk.Post = search in
     let q = at-start .pre .1 in
     let K = split-two _ _ _ _ (at-zero .zero .given .1) (at-children .children .ensures) .sides in
-    let R = at-walk .walk .ensures in (
-      omega (arith, at-start .pre .0, K .one-below),
-      record {
-        inside = K .one-within;
-        lent = record { words = q .lent .words; few = q .lent .few; linkable = omega (arith, q .lent .linkable, R .long) };
-        level-is = K .otop;
-        level-low = omega (arith, K .one-below, q .level-low);
-        trail-fits = R .trail-fits _ ((c .before .before) .first .given .1);
-      },
-    )
+    let R = at-walk .walk .ensures in
+    let F = R .trail-fits _ ((c .before .before) .first .given .1) in
+    let L = walked-lent (q .lent) R in
+    (omega (arith, at-start .pre .0, K .zero-below, K .one-below), search (zero-asks K (q .level-low) L F, one-asks K (q .level-low) L F))
 
 walk-enum-known-second : (t : ℕ) → walk-lts.Need-enum-known-second (walk-claims t) (walk-at t) walk.Post
 walk-enum-known-second t c = search needs
@@ -104,20 +98,7 @@ walk-same-length-4 : (t : ℕ) → walk-lts.Need-same-length-4 (walk-claims t) (
 walk-same-length-4 t c = search needs
 
 walk-returns-4 : (t : ℕ) → walk-lts.Need-returns-4 (walk-claims t) (walk-at t) walk.Post
-walk-returns-4 t c =
-    let at-walk2 : walk-lts.After-walk2 (walk-claims t) (walk-at t) walk.Post = search in
-    let at-first : walk-lts.After-first (walk-claims t) (walk-at t) walk.Post = search in
-    let at-walk : walk-lts.After-walk (walk-claims t) (walk-at t) walk.Post = search in
-    let at-zero : walk-lts.After-zero (walk-claims t) (walk-at t) walk.Post = search in
-    let at-children : walk-lts.After-children (walk-claims t) (walk-at t) walk.Post = search in
-    let at-if1 : walk-lts.Else1 (walk-claims t) (walk-at t) walk.Post = search in
-    let at-is-met : walk-lts.After-is-met (walk-claims t) (walk-at t) walk.Post = search in
-    let at-start : walk-lts.Start (walk-claims t) (walk-at t) walk.Post = search in
-    let a = at-start .args in
-    let q = at-start .pre .1 in
-    walk-second-broken (a .trail) (a .p) (a .nodes .now) (a .count) (a .links .now) (q .inside) (at-is-met .is-met .ensures) (at-if1 .if1 .left)
-    (a .top) (q .level-is) (at-children .children .ensures) _ _ _ _ (at-zero .zero .given .1) (at-walk .walk .ensures) _
-    (at-first .first .given .1) (at-walk2 .walk2 .ensures) (c .enum-told3 .given .1)
+walk-returns-4 t c = search walk-second-broken
 
 walk-same-length-5 : (t : ℕ) → walk-lts.Need-same-length-5 (walk-claims t) (walk-at t) walk.Post
 walk-same-length-5 t c = search needs
@@ -134,9 +115,10 @@ walk-returns-5 t c =
     let at-start : walk-lts.Start (walk-claims t) (walk-at t) walk.Post = search (at-is-met) in
     let a = at-start .args in
     let q = at-start .pre .1 in
-    walk-many (a .trail) (a .p) (a .nodes .now) (a .count) (a .links .now) (q .inside) (at-is-met .is-met .ensures) (at-if1 .if1 .left) (a .top) (q .level-is)
-    (at-children .children .ensures) _ _ _ _ (at-zero .zero .given .1) (at-walk .walk .ensures) _ (at-first .first .given .1)
-    (at-walk2 .walk2 .ensures) _ ((c .before .before .before) .second .given .1) (q .lent .few) (c .if2 .taken)
+    let K = split-two _ _ _ _ (at-zero .zero .given .1) (at-children .children .ensures) .sides in
+    walk-many (a .trail) (a .p) (a .nodes .now) (a .count) (a .links .now) (at-walk .walk .ensures) _ (at-first .first .given .1)
+    (at-walk2 .walk2 .ensures) _ ((c .before .before .before) .second .given .1) (at-is-met .is-met .ensures) (at-if1 .if1 .left) (q .inside) (q .level-is)
+    (child-side K (search (zero-child, one-child))) (child-side K (search (zero-child, one-child))) (q .lent .few) (c .if2 .taken)
 
 walk-visit-requires : (t : ℕ) → walk-lts.Need-visit-requires (walk-claims t) (walk-at t) walk.Post
 walk-visit-requires t c κs =
@@ -176,7 +158,7 @@ walk-returns-6 t c =
     let a = at-start .args in
     let q = at-start .pre .1 in
     let S = at-walk2 .walk2 .ensures in
-    walk-done (a .trail) (a .p) (a .nodes .now) (a .count) (a .links .now) (q .inside) (at-is-met .is-met .ensures) (at-if1 .if1 .left) (a .top)
+    walk-done (a .trail) (a .p) (a .nodes .now) (a .count) (a .links .now) (at-is-met .is-met .ensures) (at-if1 .if1 .left) (q .inside) (a .top)
     (q .level-is) (at-children .children .ensures) _ _ _ _ (at-zero .zero .given .1) (at-walk .walk .ensures) _
     (at-first .first .given .1) (at-walk2 .walk2 .ensures) _ (at-second .second .given .1)
     (S .trail-fits _ (at-second .second .given .1)) (q .level-low) (omega (arith, at-if2 .if2 .left)) (q .lent .linkable) ((c .before .before) .visit .ensures)

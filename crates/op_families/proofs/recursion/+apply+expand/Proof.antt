@@ -2,9 +2,9 @@
 -- Every way out is a terminal case, a recalled result, or one step over the two results below.
 use Prim.Native.Nat.{ℕ, _+_, _*_, _<_}
 use native.Mathlib.Omega.{arith}
-use Rattle.store.proofs.Growing.{kept-top, kept-roomy, kept-trans}
+use Rattle.store.proofs.Growing.{kept-top, kept-roomy}
 use Rattle.op_families.proofs.Forks.{fork-two, fork-broken}
-use Rattle.op_step.proofs.Steps.{step-first, step-joined}
+use Rattle.op_step.proofs.Steps.{join-asks, step-first, step-joined}
 use Rattle.op_families.proofs.Splits.{split-families}
 use Rattle.op_families.proofs.Shortcuts.{shortcut-proper, ran-shortcut, ordered-op, ordered-first, ordered-second, ordered-level, ran-ordered}
 use Rattle.op_step.proofs.Outcomes.{ran-broken, ran-recalled}
@@ -259,13 +259,7 @@ expand-join-requires t c κs =
     let K = fork-two (at-p0 .p0 .given .1) (at-fork-at .fork-at .ensures) in
     let L = at-apply .apply .ensures in
     let M = at-apply2 .apply2 .ensures in
-    record {
-      roomy = kept-roomy (kept-trans (L .kept) (M .kept)) (p .1 .asks .taken .roomy);
-      level-some = omega (arith, K .some);
-      level-low = p .1 .asks .level-low;
-      zero-held = omega (arith, L .handle _ (at-answer .answer .given .1), M .kept .grows);
-      one-held = M .handle;
-    }
+    join-asks (p .1 .asks .taken .roomy) L (at-answer .answer .given .1) M (omega (arith, K .some)) (p .1 .asks .level-low)
 
 expand-same-length-4 : (t : ℕ) → expand-lts.Need-same-length-4 (expand-claims t) (expand-at t) expand.Post
 expand-same-length-4 t c = search needs

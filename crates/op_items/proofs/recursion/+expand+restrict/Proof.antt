@@ -2,10 +2,10 @@
 -- Every way out is one at or above the top, a recalled result, or one step over the two results below.
 use Prim.Native.Nat.{ℕ, _+_, _*_, _<_}
 use native.Mathlib.Omega.{arith}
-use Rattle.store.proofs.Growing.{kept-top, kept-roomy, kept-trans}
+use Rattle.store.proofs.Growing.{kept-top, kept-roomy}
 use Rattle.store.proofs.Sides.{sides-two, sides-broken}
 use Rattle.store.proofs.Plain.{plain-ran}
-use Rattle.op_step.proofs.Steps.{of, step-first, step-joined}
+use Rattle.op_step.proofs.Steps.{join-asks, of, step-first, step-joined}
 use Rattle.op_items.proofs.Splits.{split-item}
 use Rattle.op_step.proofs.Outcomes.{ran-broken, ran-recalled}
 use borrow.Author.Needs.{needs}
@@ -153,13 +153,7 @@ expand-join-requires t c κs =
     let K = sides-two (at-p0 .p0 .given .1) (at-sides-at .sides-at .ensures) in
     let L = at-restrict .restrict .ensures in
     let M = at-restrict2 .restrict2 .ensures in
-    record {
-      roomy = kept-roomy (kept-trans (L .kept) (M .kept)) (p .1 .asks .taken .roomy);
-      level-some = omega (arith, p .1 .below);
-      level-low = p .1 .asks .level-low;
-      zero-held = omega (arith, L .handle _ (at-answer .answer .given .1), M .kept .grows);
-      one-held = M .handle;
-    }
+    join-asks (p .1 .asks .taken .roomy) L (at-answer .answer .given .1) M (omega (arith, p .1 .below)) (p .1 .asks .level-low)
 
 expand-same-length-4 : (t : ℕ) → expand-lts.Need-same-length-4 (expand-claims t) (expand-at t) expand.Post
 expand-same-length-4 t c = search needs

@@ -19,8 +19,11 @@ loop-holds c = search needs
 numbered-requires : tie.Need-numbered-requires Inv-loop μ-loop
 numbered-requires c κs = search needs
 
-run-requires : tie.Need-run-requires Inv-loop μ-loop
-run-requires c κs = search needs
+operation-of-requires : tie.Need-operation-of-requires Inv-loop μ-loop
+operation-of-requires c κs = search needs
+
+operate-requires : tie.Need-operate-requires Inv-loop μ-loop
+operate-requires c κs = search needs
 
 call-text-requires : tie.Need-call-text-requires Inv-loop μ-loop
 call-text-requires c κs = search needs
@@ -57,7 +60,8 @@ lines-spec =
     μ-loop
     loop-holds
     numbered-requires
-    run-requires
+    operation-of-requires
+    operate-requires
     call-text-requires
     given-requires
     add-k

@@ -52,7 +52,7 @@ same-length-2 c = search needs
 
 returns : tie.Need-returns
 unfolding putNode
-returns c = (refl, refl)
+returns c = record { nodes-are = refl; lookup-is = refl }
 
 pub enter-spec : {M : Type 1} → statement M
 enter-spec =

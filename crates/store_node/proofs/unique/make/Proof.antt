@@ -54,12 +54,12 @@ add-t28 c = search needs
 same-length-5 : tie.Need-same-length-5
 same-length-5 c =
     let at-enter : tie.After-enter = search in
-    at-enter .enter .kept .0
+    cc
 
 same-length-6 : tie.Need-same-length-6
 same-length-6 c =
     let at-enter : tie.After-enter = search in
-    at-enter .enter .kept .1 .0
+    cc
 
 returns-3 : tie.Need-returns-3
 returns-3 c =
@@ -71,7 +71,7 @@ returns-3 c =
     let a = at-start .args in
     let p = at-start .pre in
     made-new (a .store) (a .nodes .now) (a .lookup .now) (a .item) (a .zero) (a .one) _ (p .roomy) (p .zero-held) (p .one-held) (at-probe .probe .ensures)
-    (c .appended .result) (at-enter .enter .last .0) (at-enter .enter .last .1 .0) (c .appended .ensures .0) (c .appended .ensures .1) (at-enter .enter .ensures .0) (at-enter .enter .ensures .1) (at-if2 .if2 .taken) (at-if3 .if3 .left)
+    (c .appended .result) _ _ (c .appended .ensures .0) (c .appended .ensures .1) (at-enter .enter .ensures .nodes-are) (at-enter .enter .ensures .lookup-is) (at-if2 .if2 .taken) (at-if3 .if3 .left)
 
 same-length-7 : tie.Need-same-length-7
 same-length-7 c = search needs

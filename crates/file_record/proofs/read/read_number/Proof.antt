@@ -1,10 +1,10 @@
--- `number` gives the number of the first bytes, low byte first.
+-- `read_number` gives the number of the first bytes, low byte first.
 -- Each turn puts one more byte before those read, and the number of so many bytes stays within 32 bits.
 use borrow.Author.Needs.{needs}
 use native.Mathlib.Omega.{arith}
 use Rattle.file_record.proofs.Taking.{BytesRead, number-start, number-room, number-step, number-done}
-use Rattle.file_record.proofs.read.number.Statement.{statement}
-use Rattle.file_record.proofs.read.number.Tie as tie
+use Rattle.file_record.proofs.read.read_number.Statement.{statement}
+use Rattle.file_record.proofs.read.read_number.Tie as tie
 
 abbrev Inv-loop : tie.InvT-loop
 Inv-loop bytes width value₀ left₀ value left = BytesRead bytes width left value
@@ -56,8 +56,8 @@ loop-again c =
 returns : tie.Need-returns Inv-loop μ-loop
 returns c = number-done (omega (arith, c .loop-test .left)) ((c .before) .loop .inv)
 
-pub number-spec : {M : Type 1} → statement M
-number-spec =
+pub read-number-spec : {M : Type 1} → statement M
+read-number-spec =
     tie.close
     (tie.spec
     Inv-loop
