@@ -6,6 +6,7 @@ use mathlib.Core.Logic.{_⊎_}
 use lib.ListN.{length, getD}
 use Rattle.family.specs.Family.{Family}
 use Rattle.family.specs.Book.{at}
+use Rattle.store.specs.Operations.{Takes, named}
 
 -- the words of group g
 pub record Group (cache : List ℕ) (g op p q h : ℕ) : Type 0 where
