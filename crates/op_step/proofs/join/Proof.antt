@@ -22,13 +22,8 @@ get-node-requires c κs =
     let at-answer : tie.After-answer = search in
     let at-start : tie.Start = search in
     let p = at-start .pre in
-    record {
-      roomy = p .roomy;
-      item-some = p .level-some;
-      item-low = p .level-low;
-      zero-held = p .zero-held;
-      one-held = p .one-held _ (at-answer .answer .given .1);
-    }
+    let held = p .one-held _ (at-answer .answer .given .1) in
+    search needs
 
 remember-answer-requires : tie.Need-remember-answer-requires
 remember-answer-requires c κs = search needs

@@ -188,14 +188,8 @@ expand-apply-requires t c κs =
     let at-start : expand-lts.Start (expand-claims t) (expand-at t) expand.Post = search in
     let p = at-start .pre in
     let K = fork-two (at-p0 .p0 .given .1) (at-fork-at .fork-at .ensures) in
-    let I = p .1 .asks .taken in (
-      omega (arith, p .0, K .first .zero-below, K .second .zero-below, K .top₀-is),
-      record {
-        taken = record { roomy = I .roomy; operation = I .operation; first = K .first .zero-within; second = K .second .zero-within };
-        level-is = omega (arith, K .top₀-is, K .first .ztop, K .second .ztop);
-        level-low = omega (arith, K .top₀-is, K .first .zero-below, K .second .zero-below, p .1 .asks .level-low);
-      },
-    )
+    let I = p .1 .asks .taken in
+    (omega (arith, K .first .zero-below, K .second .zero-below), search needs)
 
 expand-enum-known-answer : (t : ℕ) → expand-lts.Need-enum-known-answer (expand-claims t) (expand-at t) expand.Post
 expand-enum-known-answer t c = search needs

@@ -82,14 +82,8 @@ expand-restrict-requires t c κs =
     let at-start : expand-lts.Start (expand-claims t) (expand-at t) expand.Post = search in
     let p = at-start .pre in
     let K = sides-two (at-p0 .p0 .given .1) (at-sides-at .sides-at .ensures) in
-    let I = p .1 .asks .taken in (
-      omega (arith, p .0, K .zero-below),
-      record {
-        taken = record { roomy = I .roomy; operation = I .operation; held = K .zero-within; item-some = I .item-some; item-low = I .item-low };
-        level-is = K .ztop;
-        level-low = omega (arith, K .zero-below, p .1 .asks .level-low);
-      },
-    )
+    let I = p .1 .asks .taken in
+    (omega arith, search needs)
 
 expand-enum-known-answer : (t : ℕ) → expand-lts.Need-enum-known-answer (expand-claims t) (expand-at t) expand.Post
 expand-enum-known-answer t c = search needs

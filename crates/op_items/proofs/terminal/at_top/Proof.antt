@@ -58,13 +58,7 @@ get-node-requires c κs =
     let at-start : tie.Start = search in
     let p = at-start .pre in
     let T = sides-two (at-zero .zero .given .1) (at-sides-at .sides-at .ensures) in
-    record {
-      roomy = p .taken .roomy;
-      item-some = p .taken .item-some;
-      item-low = p .taken .item-low;
-      zero-held = T .one-within;
-      one-held = T .zero-within;
-    }
+    search needs
 
 same-length-3 : tie.Need-same-length-3
 same-length-3 c = search needs
