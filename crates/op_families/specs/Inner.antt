@@ -1,17 +1,17 @@
 -- What the functions below Union, Intsec and Diff ask and promise. A reader of the promises can pass this page over.
+use Prim.Native.Nat.{ℕ, _+_, _*_, _≤_, _<_, max}
 use mathlib.Core.Path.{_≡_}
 use mathlib.Core.Logic.{_⊎_}
+use mathlib.Core.List.{List}
+use lib.ListN.{length}
 use Rattle.family.specs.Book.{at}
+use Rattle.family.specs.Family.{Family, empty, Ordered}
+use Rattle.store.specs.declared.record.Store.{Store}
 use Rattle.store.specs.Operations.{named}
+use Rattle.store.specs.Words.{itemLimit, topAt}
+use Rattle.store.specs.Inner.{Roomy, Holds, TwoSides}
 use Rattle.op_cache.specs.declared.Recalled.{Recalled}
 use Rattle.op_cache.specs.declared.Recalled.the-variants.{Hit, Miss}
-use Prim.Native.Nat.{ℕ, _+_, _*_, _≤_, _<_, max}
-use lib.ListN.{length}
-use Rattle.store.specs.declared.record.Store.{Store}
-use Rattle.store.specs.Words.{itemLimit, topAt}
-use mathlib.Core.List.{List}
-use Rattle.family.specs.Family.{Family, empty, Ordered}
-use Rattle.store.specs.Inner.{Roomy, Holds, TwoSides}
 use Rattle.op_cache.specs.declared.Call.{Call}
 use Rattle.op_families.specs.declared.recursion.Fork.{Fork}
 use Rattle.op_families.specs.declared.recursion.Fork.the-variants.{Two, Broken}

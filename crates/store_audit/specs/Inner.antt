@@ -3,12 +3,12 @@ use Prim.Native.Nat.{ℕ, _+_, _*_, _≤_, _<_}
 use mathlib.Core.Path.{_≡_}
 use mathlib.Core.Bool.{Bool, true, false}
 use mathlib.Core.List.{List}
+use lib.ListN.{getD, length}
+use Rattle.table.specs.Own.{ownOf}
 use Rattle.store.specs.declared.record.Store.{Store}
 use Rattle.store.specs.Words.{bookOf}
 use Rattle.store.specs.Cache.{True}
 use Rattle.store.specs.Sound.{Sound, Node}
-use lib.ListN.{getD, length}
-use Rattle.table.specs.Own.{ownOf}
 
 -- the words of node number k + 2
 pub record RowAsks (nodes : List ℕ) (k : ℕ) : Type 0 where

@@ -1,19 +1,19 @@
 -- What making a node promises: on any words that fit, and where the words hold a book. A reader of the promises can
 -- pass this page over.
-use Rattle.store.specs.declared.record.PlaceAnswer.the-variants.{Handle}
-use Rattle.store.specs.declared.record.Placed.{Placed}
 use Prim.Native.Nat.{ℕ, _+_, _≤_, _-_, _<_, _*_}
 use mathlib.Core.Path.{_≡_}
 use mathlib.Core.List.{List, [], _∷_, _++_}
 use lib.ListN.{length, set}
 use Rattle.family.specs.Family.{Family, node, Within, top, mk}
 use Rattle.family.specs.Book.{at, number, made}
+use Rattle.store.specs.declared.record.PlaceAnswer.the-variants.{Handle}
+use Rattle.store.specs.declared.record.Placed.{Placed}
 use Rattle.store.specs.declared.record.Store.{Store}
+use Rattle.store.specs.Words.{itemLimit}
+use Rattle.store.specs.Inner.{putNode, Holds, Handed, Kept, Outcome, Roomy}
 use Rattle.store_node.specs.declared.unique.Made.{Made}
 use Rattle.store_node.specs.declared.unique.Made.the-variants.{Found, New, Full as NoRoom}
 use Rattle.store_node.specs.declared.unique.Making.{Making}
-use Rattle.store.specs.Words.{itemLimit}
-use Rattle.store.specs.Inner.{putNode, Holds, Handed, Kept, Outcome, Roomy}
 
 -- room for the words of the node after `count` others, and a slot
 pub record SlotAsks (nodes lookup : List ℕ) (count slot : ℕ) : Type 0 where
