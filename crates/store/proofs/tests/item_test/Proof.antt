@@ -6,10 +6,10 @@ use Rattle.store.proofs.tests.item_test.Statement.{statement}
 use Rattle.store.proofs.tests.item_test.Tie as tie
 
 returns : tie.Need-returns
-returns c = no-item _ (item-low _ (c .if1 .taken))
+returns c = no-item _ (item-low _ (omega (arith, c .if1 .taken)))
 
 returns-2 : tie.Need-returns-2
-returns-2 c = no-item _ (item-high _ (c .if2 .taken))
+returns-2 c = no-item _ (item-high _ (omega (arith, c .if2 .taken)))
 
 returns-3 : tie.Need-returns-3
 returns-3 c = an-item _ (item-taken _ (omega (arith, (c .before) .if1 .left)) (omega (arith, c .if2 .left)))
