@@ -26,17 +26,8 @@ spell-below t = and 1 spell-kinds.ps (falls 1 spell-kinds.ps _<_ μ-spell t) spe
 abbrev spell-claims : ℕ → spell-lts.Claims
 spell-claims t = (put-byte-reads.Asked, put-byte-reads.Learnt, spell-below t, spell.Post)
 
-spell-cast-put-byte : (t : ℕ) → spell-lts.Need-cast-put-byte (spell-claims t) (spell-at t) spell.Post
-spell-cast-put-byte t c = search needs
-
-spell-add-put-byte : (t : ℕ) → spell-lts.Need-add-put-byte (spell-claims t) (spell-at t) spell.Post
-spell-add-put-byte t c = search needs
-
 spell-put-byte-requires : (t : ℕ) → spell-lts.Need-put-byte-requires (spell-claims t) (spell-at t) spell.Post
 spell-put-byte-requires t c κs = omega (arith, (c .before .before .before) .pre .1, one-digit ((c .before .before .before) .args .n) ((c .before) .if1 .taken))
-
-spell-same-length : (t : ℕ) → spell-lts.Need-same-length (spell-claims t) (spell-at t) spell.Post
-spell-same-length t c = search needs
 
 spell-returns : (t : ℕ) → spell-lts.Need-returns (spell-claims t) (spell-at t) spell.Post
 spell-returns t c =
@@ -46,12 +37,6 @@ spell-returns t c =
 
 spell-spell-requires : (t : ℕ) → spell-lts.Need-spell-requires (spell-claims t) (spell-at t) spell.Post
 spell-spell-requires t c κs = (omega (arith, (c .before .before .before) .pre .0, (c .before) .if1 .left), omega (arith, (c .before .before .before) .pre .1, one-more ((c .before .before .before) .args .n) ((c .before) .if1 .left)))
-
-spell-cast-put-byte-2 : (t : ℕ) → spell-lts.Need-cast-put-byte-2 (spell-claims t) (spell-at t) spell.Post
-spell-cast-put-byte-2 t c = search needs
-
-spell-add-put-byte-2 : (t : ℕ) → spell-lts.Need-add-put-byte-2 (spell-claims t) (spell-at t) spell.Post
-spell-add-put-byte-2 t c = search needs
 
 spell-put-byte-requires-2 : (t : ℕ) → spell-lts.Need-put-byte-requires-2 (spell-claims t) (spell-at t) spell.Post
 spell-put-byte-requires-2 t c κs =
@@ -75,14 +60,14 @@ pub +spell-spec : {M : Type 1} → statement M
 +spell-spec = close μ-spell λ t. spell-lts.spec (spell-claims t)
     (spell-at t)
     spell.Post
-    (spell-cast-put-byte t)
-    (spell-add-put-byte t)
+    (λ c. search needs)
+    (λ c. search needs)
     (spell-put-byte-requires t)
-    (spell-same-length t)
+    (λ c. search needs)
     (spell-returns t)
     (spell-spell-requires t)
-    (spell-cast-put-byte-2 t)
-    (spell-add-put-byte-2 t)
+    (λ c. search needs)
+    (λ c. search needs)
     (spell-put-byte-requires-2 t)
     (spell-same-length-2 t)
     (spell-returns-2 t)

@@ -56,9 +56,6 @@ in-order-mul-in-order :
     in-order-lts.Need-mul-in-order (in-order-claims t) (in-order-at t) in-order.Post
 in-order-mul-in-order t c = search needs
 
-in-order-shared-slice-read-in-order : (t : ℕ) → in-order-lts.Need-shared-slice-read-in-order (in-order-claims t) (in-order-at t) in-order.Post
-in-order-shared-slice-read-in-order t c = search needs
-
 in-order-in-order-requires : (t : ℕ) → in-order-lts.Need-in-order-requires (in-order-claims t) (in-order-at t) in-order.Post
 in-order-in-order-requires t c κs =
     let a = (c .before .before .before) .args in
@@ -67,9 +64,6 @@ in-order-in-order-requires t c κs =
       omega (arith, (c .before .before .before) .pre .0, E .zero-before, q .some-placed, (c .before) .if1 .left),
       record { room = q .room; inside = omega (arith, E .zero-before, q .inside, q .some-placed, (c .before) .if1 .left); some-placed = q .some-placed; local = q .local },
     )
-
-in-order-enum-known-first : (t : ℕ) → in-order-lts.Need-enum-known-first (in-order-claims t) (in-order-at t) in-order.Post
-in-order-enum-known-first t c = search needs
 
 in-order-enum-told :
     (t : ℕ) →
@@ -80,15 +74,6 @@ in-order-returns-2 :
     (t : ℕ) →
     in-order-lts.Need-returns-2 (in-order-claims t) (in-order-at t) in-order.Post
 in-order-returns-2 t c = search walk-first
-
-in-order-add-in-order-2 : (t : ℕ) → in-order-lts.Need-add-in-order-2 (in-order-claims t) (in-order-at t) in-order.Post
-in-order-add-in-order-2 t c = search needs
-
-in-order-mul-in-order-2 : (t : ℕ) → in-order-lts.Need-mul-in-order-2 (in-order-claims t) (in-order-at t) in-order.Post
-in-order-mul-in-order-2 t c = search needs
-
-in-order-shared-slice-read-in-order-2 : (t : ℕ) → in-order-lts.Need-shared-slice-read-in-order-2 (in-order-claims t) (in-order-at t) in-order.Post
-in-order-shared-slice-read-in-order-2 t c = search needs
 
 in-order-in-order-requires-2 : (t : ℕ) → in-order-lts.Need-in-order-requires-2 (in-order-claims t) (in-order-at t) in-order.Post
 in-order-in-order-requires-2 t c κs =
@@ -106,9 +91,6 @@ in-order-in-order-requires-2 t c κs =
         local = q .local;
       },
     )
-
-in-order-enum-known-second : (t : ℕ) → in-order-lts.Need-enum-known-second (in-order-claims t) (in-order-at t) in-order.Post
-in-order-enum-known-second t c = search needs
 
 in-order-enum-told-2 :
     (t : ℕ) →
@@ -158,16 +140,16 @@ pub +in-order-spec : {M : Type 1} → statement M
     (in-order-mul-base t)
     (in-order-add-in-order t)
     (in-order-mul-in-order t)
-    (in-order-shared-slice-read-in-order t)
+    (λ c. search needs)
     (in-order-in-order-requires t)
-    (in-order-enum-known-first t)
+    (λ c. search needs)
     (in-order-enum-told t)
     (in-order-returns-2 t)
-    (in-order-add-in-order-2 t)
-    (in-order-mul-in-order-2 t)
-    (in-order-shared-slice-read-in-order-2 t)
+    (λ c. search needs)
+    (λ c. search needs)
+    (λ c. search needs)
     (in-order-in-order-requires-2 t)
-    (in-order-enum-known-second t)
+    (λ c. search needs)
     (in-order-enum-told-2 t)
     (in-order-returns-3 t)
     (in-order-sub-if2 t)

@@ -32,9 +32,6 @@ walk-is-met-requires t c κs =
     let at-start : walk-lts.Start (walk-claims t) (walk-at t) walk.Post = search in
     omega (arith, at-start .pre .1 .inside, at-start .pre .1 .lent .linkable)
 
-walk-same-length : (t : ℕ) → walk-lts.Need-same-length (walk-claims t) (walk-at t) walk.Post
-walk-same-length t c = search needs
-
 walk-returns : (t : ℕ) → walk-lts.Need-returns (walk-claims t) (walk-at t) walk.Post
 walk-returns t c = search walk-met
 
@@ -42,15 +39,6 @@ walk-children-requires : (t : ℕ) → walk-lts.Need-children-requires (walk-cla
 walk-children-requires t c κs =
     let at-start : walk-lts.Start (walk-claims t) (walk-at t) walk.Post = search in
     let q = at-start .pre .1 in record { inside = q .inside; words = q .lent .words; few = q .lent .few; level-is = q .level-is }
-
-walk-enum-known-zero : (t : ℕ) → walk-lts.Need-enum-known-zero (walk-claims t) (walk-at t) walk.Post
-walk-enum-known-zero t c = search needs
-
-walk-enum-told : (t : ℕ) → walk-lts.Need-enum-told (walk-claims t) (walk-at t) walk.Post
-walk-enum-told t c = search needs
-
-walk-same-length-2 : (t : ℕ) → walk-lts.Need-same-length-2 (walk-claims t) (walk-at t) walk.Post
-walk-same-length-2 t c = search needs
 
 walk-returns-2 : (t : ℕ) → walk-lts.Need-returns-2 (walk-claims t) (walk-at t) walk.Post
 walk-returns-2 t c = search walk-no-children
@@ -62,15 +50,6 @@ walk-walk-requires t c κs =
     let q = at-start .pre .1 in
     let K = split-two _ _ _ _ ((c .before .before) .zero .given .1) (at-children .children .ensures) .sides in
     (omega (arith, at-start .pre .0, K .zero-below, K .one-below), search (zero-asks K (q .level-low) (q .lent) (q .trail-fits), one-asks K (q .level-low) (q .lent) (q .trail-fits)))
-
-walk-enum-known-first : (t : ℕ) → walk-lts.Need-enum-known-first (walk-claims t) (walk-at t) walk.Post
-walk-enum-known-first t c = search needs
-
-walk-enum-told-2 : (t : ℕ) → walk-lts.Need-enum-told-2 (walk-claims t) (walk-at t) walk.Post
-walk-enum-told-2 t c = search needs
-
-walk-same-length-3 : (t : ℕ) → walk-lts.Need-same-length-3 (walk-claims t) (walk-at t) walk.Post
-walk-same-length-3 t c = search needs
 
 walk-returns-3 : (t : ℕ) → walk-lts.Need-returns-3 (walk-claims t) (walk-at t) walk.Post
 walk-returns-3 t c = search walk-first-broken
@@ -88,20 +67,8 @@ walk-walk-requires-2 t c κs =
     let L = walked-lent (q .lent) R in
     (omega (arith, at-start .pre .0, K .zero-below, K .one-below), search (zero-asks K (q .level-low) L F, one-asks K (q .level-low) L F))
 
-walk-enum-known-second : (t : ℕ) → walk-lts.Need-enum-known-second (walk-claims t) (walk-at t) walk.Post
-walk-enum-known-second t c = search needs
-
-walk-enum-told-3 : (t : ℕ) → walk-lts.Need-enum-told-3 (walk-claims t) (walk-at t) walk.Post
-walk-enum-told-3 t c = search needs
-
-walk-same-length-4 : (t : ℕ) → walk-lts.Need-same-length-4 (walk-claims t) (walk-at t) walk.Post
-walk-same-length-4 t c = search needs
-
 walk-returns-4 : (t : ℕ) → walk-lts.Need-returns-4 (walk-claims t) (walk-at t) walk.Post
 walk-returns-4 t c = search walk-second-broken
-
-walk-same-length-5 : (t : ℕ) → walk-lts.Need-same-length-5 (walk-claims t) (walk-at t) walk.Post
-walk-same-length-5 t c = search needs
 
 walk-returns-5 : (t : ℕ) → walk-lts.Need-returns-5 (walk-claims t) (walk-at t) walk.Post
 walk-returns-5 t c =
@@ -140,9 +107,6 @@ walk-visit-requires t c κs =
       short = F .short;
     }
 
-walk-same-length-6 : (t : ℕ) → walk-lts.Need-same-length-6 (walk-claims t) (walk-at t) walk.Post
-walk-same-length-6 t c = search needs
-
 walk-returns-6 : (t : ℕ) → walk-lts.Need-returns-6 (walk-claims t) (walk-at t) walk.Post
 walk-returns-6 t c =
     let at-if2 : walk-lts.Else2 (walk-claims t) (walk-at t) walk.Post = search in
@@ -168,25 +132,25 @@ pub +walk-spec : {M : Type 1} → statement M
     (walk-at t)
     walk.Post
     (walk-is-met-requires t)
-    (walk-same-length t)
+    (λ c. search needs)
     (walk-returns t)
     (walk-children-requires t)
-    (walk-enum-known-zero t)
-    (walk-enum-told t)
-    (walk-same-length-2 t)
+    (λ c. search needs)
+    (λ c. search needs)
+    (λ c. search needs)
     (walk-returns-2 t)
     (walk-walk-requires t)
-    (walk-enum-known-first t)
-    (walk-enum-told-2 t)
-    (walk-same-length-3 t)
+    (λ c. search needs)
+    (λ c. search needs)
+    (λ c. search needs)
     (walk-returns-3 t)
     (walk-walk-requires-2 t)
-    (walk-enum-known-second t)
-    (walk-enum-told-3 t)
-    (walk-same-length-4 t)
+    (λ c. search needs)
+    (λ c. search needs)
+    (λ c. search needs)
     (walk-returns-4 t)
-    (walk-same-length-5 t)
+    (λ c. search needs)
     (walk-returns-5 t)
     (walk-visit-requires t)
-    (walk-same-length-6 t)
+    (λ c. search needs)
     (walk-returns-6 t)

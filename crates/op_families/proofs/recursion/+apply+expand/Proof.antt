@@ -52,21 +52,12 @@ apply-claims t = (ordered-reads.Asked, ordered-reads.Learnt, shortcut-reads.Aske
 abbrev expand-claims : ℕ → expand-lts.Claims
 expand-claims t = (fork-at-reads.Asked, fork-at-reads.Learnt, refused-reads.Asked, refused-reads.Learnt, apply-below t, apply.Post, join-reads.Asked, join-reads.Learnt)
 
-apply-ordered-requires : (t : ℕ) → apply-lts.Need-ordered-requires (apply-claims t) (apply-at t) apply.Post
-apply-ordered-requires t c κs = search needs
-
 apply-shortcut-requires : (t : ℕ) → apply-lts.Need-shortcut-requires (apply-claims t) (apply-at t) apply.Post
 apply-shortcut-requires t c κs =
     let at-start : apply-lts.Start (apply-claims t) (apply-at t) apply.Post = search in
     let p = at-start .pre in
     let e = ordered-op (c .ordered .ensures) in
     record { some = omega (arith, p .1 .taken .operation .some); low = omega (arith, p .1 .taken .operation .low) }
-
-apply-enum-known-handle : (t : ℕ) → apply-lts.Need-enum-known-handle (apply-claims t) (apply-at t) apply.Post
-apply-enum-known-handle t c = search needs
-
-apply-placed-requires : (t : ℕ) → apply-lts.Need-placed-requires (apply-claims t) (apply-at t) apply.Post
-apply-placed-requires t c κs = search needs
 
 apply-returns : (t : ℕ) → apply-lts.Need-returns (apply-claims t) (apply-at t) apply.Post
 apply-returns t c =
@@ -80,23 +71,11 @@ apply-returns t c =
     (ran-shortcut (a .store) (a .nodes .now) (a .lookup .now) (a .cache .now) (p .1 .taken .roomy) (at-ordered .ordered .result) (c .placed .result) (c .placed .ensures .0) _ (c .placed .ensures .1)
     (ordered-first O (a .store .count) (p .1 .taken .first) (p .1 .taken .second)) (ordered-second O (a .store .count) (p .1 .taken .first) (p .1 .taken .second)) ((c .before .before) .handle .given .1) (at-shortcut .shortcut .ensures))
 
-apply-enum-told : (t : ℕ) → apply-lts.Need-enum-told (apply-claims t) (apply-at t) apply.Post
-apply-enum-told t c = search needs
-
 apply-recall-requires : (t : ℕ) → apply-lts.Need-recall-requires (apply-claims t) (apply-at t) apply.Post
 apply-recall-requires t c κs =
     let at-start : apply-lts.Start (apply-claims t) (apply-at t) apply.Post = search in
     let p = at-start .pre in
     omega (arith, p .1 .taken .roomy .within, p .1 .taken .roomy .small)
-
-apply-enum-known-handle-2 : (t : ℕ) → apply-lts.Need-enum-known-handle-2 (apply-claims t) (apply-at t) apply.Post
-apply-enum-known-handle-2 t c = search needs
-
-apply-placed-requires-2 : (t : ℕ) → apply-lts.Need-placed-requires-2 (apply-claims t) (apply-at t) apply.Post
-apply-placed-requires-2 t c κs = search needs
-
-apply-same-length : (t : ℕ) → apply-lts.Need-same-length (apply-claims t) (apply-at t) apply.Post
-apply-same-length t c = search needs
 
 apply-returns-2 : (t : ℕ) → apply-lts.Need-returns-2 (apply-claims t) (apply-at t) apply.Post
 apply-returns-2 t c =
@@ -109,9 +88,6 @@ apply-returns-2 t c =
     ran-ordered O (a .store) (a .nodes .now) (a .lookup .now) (a .cache .now) (p .1 .taken .first) (p .1 .taken .second)
     (ran-recalled (a .store) (a .nodes .now) (a .lookup .now) (a .cache .now) (p .1 .taken .roomy) (at-ordered .ordered .result) (c .placed2 .result) (c .placed2 .ensures .0) _ (c .placed2 .ensures .1)
     (omega (arith, ordered-op O, p .1 .taken .operation .some)) ((c .before .before) .handle2 .given .1) (at-recall .recall .ensures))
-
-apply-enum-told-2 : (t : ℕ) → apply-lts.Need-enum-told-2 (apply-claims t) (apply-at t) apply.Post
-apply-enum-told-2 t c = search needs
 
 apply-expand-requires : (t : ℕ) → apply-lts.Need-expand-requires (apply-claims t) (apply-at t) apply.Post
 apply-expand-requires t c κs =
@@ -140,15 +116,6 @@ apply-expand-requires t c κs =
       },
     )
 
-apply-same-length-2 : (t : ℕ) → apply-lts.Need-same-length-2 (apply-claims t) (apply-at t) apply.Post
-apply-same-length-2 t c = search needs
-
-apply-same-length-3 : (t : ℕ) → apply-lts.Need-same-length-3 (apply-claims t) (apply-at t) apply.Post
-apply-same-length-3 t c = search needs
-
-apply-same-length-4 : (t : ℕ) → apply-lts.Need-same-length-4 (apply-claims t) (apply-at t) apply.Post
-apply-same-length-4 t c = search needs
-
 apply-returns-3 : (t : ℕ) → apply-lts.Need-returns-3 (apply-claims t) (apply-at t) apply.Post
 apply-returns-3 t c =
     let at-expand : apply-lts.After-expand (apply-claims t) (apply-at t) apply.Post = search in
@@ -172,15 +139,6 @@ expand-fork-at-requires t c κs =
       proper = p .1 .proper;
     }
 
-expand-enum-told : (t : ℕ) → expand-lts.Need-enum-told (expand-claims t) (expand-at t) expand.Post
-expand-enum-told t c = search needs
-
-expand-refused-requires : (t : ℕ) → expand-lts.Need-refused-requires (expand-claims t) (expand-at t) expand.Post
-expand-refused-requires t c κs = search needs
-
-expand-enum-known-p0 : (t : ℕ) → expand-lts.Need-enum-known-p0 (expand-claims t) (expand-at t) expand.Post
-expand-enum-known-p0 t c = search needs
-
 expand-apply-requires : (t : ℕ) → expand-lts.Need-apply-requires (expand-claims t) (expand-at t) expand.Post
 expand-apply-requires t c κs =
     let at-p0 : expand-lts.After-p0 (expand-claims t) (expand-at t) expand.Post = search in
@@ -190,21 +148,6 @@ expand-apply-requires t c κs =
     let K = fork-two (at-p0 .p0 .given .1) (at-fork-at .fork-at .ensures) in
     let I = p .1 .asks .taken in
     (omega (arith, K .first .zero-below, K .second .zero-below), search needs)
-
-expand-enum-known-answer : (t : ℕ) → expand-lts.Need-enum-known-answer (expand-claims t) (expand-at t) expand.Post
-expand-enum-known-answer t c = search needs
-
-expand-enum-told-2 : (t : ℕ) → expand-lts.Need-enum-told-2 (expand-claims t) (expand-at t) expand.Post
-expand-enum-told-2 t c = search needs
-
-expand-same-length : (t : ℕ) → expand-lts.Need-same-length (expand-claims t) (expand-at t) expand.Post
-expand-same-length t c = search needs
-
-expand-same-length-2 : (t : ℕ) → expand-lts.Need-same-length-2 (expand-claims t) (expand-at t) expand.Post
-expand-same-length-2 t c = search needs
-
-expand-same-length-3 : (t : ℕ) → expand-lts.Need-same-length-3 (expand-claims t) (expand-at t) expand.Post
-expand-same-length-3 t c = search needs
 
 expand-returns : (t : ℕ) → expand-lts.Need-returns (expand-claims t) (expand-at t) expand.Post
 expand-returns t c =
@@ -255,9 +198,6 @@ expand-join-requires t c κs =
     let L = at-apply .apply .ensures in
     let M = at-apply2 .apply2 .ensures in
     join-asks (p .1 .asks .taken .roomy) L (at-answer .answer .given .1) M (omega (arith, K .some)) (p .1 .asks .level-low)
-
-expand-same-length-4 : (t : ℕ) → expand-lts.Need-same-length-4 (expand-claims t) (expand-at t) expand.Post
-expand-same-length-4 t c = search needs
 
 expand-returns-2 : (t : ℕ) → expand-lts.Need-returns-2 (expand-claims t) (expand-at t) expand.Post
 expand-returns-2 t c =
@@ -311,40 +251,40 @@ pub +apply+expand-spec : {M : Type 1} → statement M
 +apply+expand-spec = close μ-apply μ-expand (λ t. apply-lts.spec (apply-claims t)
     (apply-at t)
     apply.Post
-    (apply-ordered-requires t)
+    (λ c κs. search needs)
     (apply-shortcut-requires t)
-    (apply-enum-known-handle t)
-    (apply-placed-requires t)
+    (λ c. search needs)
+    (λ c κs. search needs)
     (apply-returns t)
-    (apply-enum-told t)
+    (λ c. search needs)
     (apply-recall-requires t)
-    (apply-enum-known-handle-2 t)
-    (apply-placed-requires-2 t)
-    (apply-same-length t)
+    (λ c. search needs)
+    (λ c κs. search needs)
+    (λ c. search needs)
     (apply-returns-2 t)
-    (apply-enum-told-2 t)
+    (λ c. search needs)
     (apply-expand-requires t)
-    (apply-same-length-2 t)
-    (apply-same-length-3 t)
-    (apply-same-length-4 t)
+    (λ c. search needs)
+    (λ c. search needs)
+    (λ c. search needs)
     (apply-returns-3 t))
     λ t. expand-lts.spec (expand-claims t)
     (expand-at t)
     expand.Post
     (expand-fork-at-requires t)
-    (expand-enum-told t)
-    (expand-refused-requires t)
-    (expand-enum-known-p0 t)
+    (λ c. search needs)
+    (λ c κs. search needs)
+    (λ c. search needs)
     (expand-apply-requires t)
-    (expand-enum-known-answer t)
-    (expand-enum-told-2 t)
-    (expand-same-length t)
-    (expand-same-length-2 t)
-    (expand-same-length-3 t)
+    (λ c. search needs)
+    (λ c. search needs)
+    (λ c. search needs)
+    (λ c. search needs)
+    (λ c. search needs)
     (expand-returns t)
     (expand-apply-requires-2 t)
     (expand-join-requires t)
-    (expand-same-length-4 t)
+    (λ c. search needs)
     (expand-returns-2 t)
     (expand-same-length-5 t)
     (expand-same-length-6 t)

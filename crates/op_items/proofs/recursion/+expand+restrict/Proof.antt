@@ -66,15 +66,6 @@ expand-sides-at-requires t c κs =
       some = omega (arith, p .1 .below);
     }
 
-expand-enum-told : (t : ℕ) → expand-lts.Need-enum-told (expand-claims t) (expand-at t) expand.Post
-expand-enum-told t c = search needs
-
-expand-refused-requires : (t : ℕ) → expand-lts.Need-refused-requires (expand-claims t) (expand-at t) expand.Post
-expand-refused-requires t c κs = search needs
-
-expand-enum-known-p0 : (t : ℕ) → expand-lts.Need-enum-known-p0 (expand-claims t) (expand-at t) expand.Post
-expand-enum-known-p0 t c = search needs
-
 expand-restrict-requires : (t : ℕ) → expand-lts.Need-restrict-requires (expand-claims t) (expand-at t) expand.Post
 expand-restrict-requires t c κs =
     let at-p0 : expand-lts.After-p0 (expand-claims t) (expand-at t) expand.Post = search in
@@ -84,21 +75,6 @@ expand-restrict-requires t c κs =
     let K = sides-two (at-p0 .p0 .given .1) (at-sides-at .sides-at .ensures) in
     let I = p .1 .asks .taken in
     (omega arith, search needs)
-
-expand-enum-known-answer : (t : ℕ) → expand-lts.Need-enum-known-answer (expand-claims t) (expand-at t) expand.Post
-expand-enum-known-answer t c = search needs
-
-expand-enum-told-2 : (t : ℕ) → expand-lts.Need-enum-told-2 (expand-claims t) (expand-at t) expand.Post
-expand-enum-told-2 t c = search needs
-
-expand-same-length : (t : ℕ) → expand-lts.Need-same-length (expand-claims t) (expand-at t) expand.Post
-expand-same-length t c = search needs
-
-expand-same-length-2 : (t : ℕ) → expand-lts.Need-same-length-2 (expand-claims t) (expand-at t) expand.Post
-expand-same-length-2 t c = search needs
-
-expand-same-length-3 : (t : ℕ) → expand-lts.Need-same-length-3 (expand-claims t) (expand-at t) expand.Post
-expand-same-length-3 t c = search needs
 
 expand-returns : (t : ℕ) → expand-lts.Need-returns (expand-claims t) (expand-at t) expand.Post
 expand-returns t c =
@@ -149,9 +125,6 @@ expand-join-requires t c κs =
     let L = at-restrict .restrict .ensures in
     let M = at-restrict2 .restrict2 .ensures in
     join-asks (p .1 .asks .taken .roomy) L (at-answer .answer .given .1) M (omega (arith, p .1 .below)) (p .1 .asks .level-low)
-
-expand-same-length-4 : (t : ℕ) → expand-lts.Need-same-length-4 (expand-claims t) (expand-at t) expand.Post
-expand-same-length-4 t c = search needs
 
 expand-returns-2 : (t : ℕ) → expand-lts.Need-returns-2 (expand-claims t) (expand-at t) expand.Post
 expand-returns-2 t c =
@@ -206,12 +179,6 @@ restrict-above-top-requires t c κs =
     let p = at-start .pre in
     record { taken = p .1 .taken; above = omega (arith, p .1 .level-is, (c .before .before) .if1 .taken) }
 
-restrict-same-length : (t : ℕ) → restrict-lts.Need-same-length (restrict-claims t) (restrict-at t) restrict.Post
-restrict-same-length t c = search needs
-
-restrict-same-length-2 : (t : ℕ) → restrict-lts.Need-same-length-2 (restrict-claims t) (restrict-at t) restrict.Post
-restrict-same-length-2 t c = search needs
-
 restrict-returns : (t : ℕ) → restrict-lts.Need-returns (restrict-claims t) (restrict-at t) restrict.Post
 restrict-returns t c =
     let at-above-top : restrict-lts.After-above-top (restrict-claims t) (restrict-at t) restrict.Post = search in
@@ -224,12 +191,6 @@ restrict-at-top-requires t c κs =
     let at-start : restrict-lts.Start (restrict-claims t) (restrict-at t) restrict.Post = search in
     let p = at-start .pre in
     record { taken = p .1 .taken; here = omega (arith, p .1 .level-is, (c .before .before) .if2 .taken) }
-
-restrict-same-length-3 : (t : ℕ) → restrict-lts.Need-same-length-3 (restrict-claims t) (restrict-at t) restrict.Post
-restrict-same-length-3 t c = search needs
-
-restrict-same-length-4 : (t : ℕ) → restrict-lts.Need-same-length-4 (restrict-claims t) (restrict-at t) restrict.Post
-restrict-same-length-4 t c = search needs
 
 restrict-returns-2 : (t : ℕ) → restrict-lts.Need-returns-2 (restrict-claims t) (restrict-at t) restrict.Post
 restrict-returns-2 t c =
@@ -244,15 +205,6 @@ restrict-recall-requires t c κs =
     let p = at-start .pre in
     omega (arith, p .1 .taken .roomy .within, p .1 .taken .roomy .small)
 
-restrict-enum-known-handle : (t : ℕ) → restrict-lts.Need-enum-known-handle (restrict-claims t) (restrict-at t) restrict.Post
-restrict-enum-known-handle t c = search needs
-
-restrict-placed-requires : (t : ℕ) → restrict-lts.Need-placed-requires (restrict-claims t) (restrict-at t) restrict.Post
-restrict-placed-requires t c κs = search needs
-
-restrict-same-length-5 : (t : ℕ) → restrict-lts.Need-same-length-5 (restrict-claims t) (restrict-at t) restrict.Post
-restrict-same-length-5 t c = search needs
-
 restrict-returns-3 : (t : ℕ) → restrict-lts.Need-returns-3 (restrict-claims t) (restrict-at t) restrict.Post
 restrict-returns-3 t c =
     let at-recall : restrict-lts.After-recall (restrict-claims t) (restrict-at t) restrict.Post = search in
@@ -262,9 +214,6 @@ restrict-returns-3 t c =
     ran-recalled (a .store) (a .nodes .now) (a .lookup .now) (a .cache .now) (p .1 .taken .roomy) (a .call) (c .placed .result) (c .placed .ensures .0) _ (c .placed .ensures .1)
     (p .1 .taken .operation .some) ((c .before .before) .handle .given .1) (at-recall .recall .ensures)
 
-restrict-enum-told : (t : ℕ) → restrict-lts.Need-enum-told (restrict-claims t) (restrict-at t) restrict.Post
-restrict-enum-told t c = search needs
-
 restrict-expand-requires : (t : ℕ) → restrict-lts.Need-expand-requires (restrict-claims t) (restrict-at t) restrict.Post
 restrict-expand-requires t c κs =
     let at-if2 : restrict-lts.Else2 (restrict-claims t) (restrict-at t) restrict.Post = search in
@@ -272,15 +221,6 @@ restrict-expand-requires t c κs =
     let at-start : restrict-lts.Start (restrict-claims t) (restrict-at t) restrict.Post = search in
     let p = at-start .pre in
     (omega (arith, p .0), record { asks = p .1; below = omega (arith, at-if1 .if1 .left, at-if2 .if2 .left) })
-
-restrict-same-length-6 : (t : ℕ) → restrict-lts.Need-same-length-6 (restrict-claims t) (restrict-at t) restrict.Post
-restrict-same-length-6 t c = search needs
-
-restrict-same-length-7 : (t : ℕ) → restrict-lts.Need-same-length-7 (restrict-claims t) (restrict-at t) restrict.Post
-restrict-same-length-7 t c = search needs
-
-restrict-same-length-8 : (t : ℕ) → restrict-lts.Need-same-length-8 (restrict-claims t) (restrict-at t) restrict.Post
-restrict-same-length-8 t c = search needs
 
 restrict-returns-4 : (t : ℕ) → restrict-lts.Need-returns-4 (restrict-claims t) (restrict-at t) restrict.Post
 restrict-returns-4 t c =
@@ -292,19 +232,19 @@ pub +expand+restrict-spec : {M : Type 1} → statement M
     (expand-at t)
     expand.Post
     (expand-sides-at-requires t)
-    (expand-enum-told t)
-    (expand-refused-requires t)
-    (expand-enum-known-p0 t)
+    (λ c. search needs)
+    (λ c κs. search needs)
+    (λ c. search needs)
     (expand-restrict-requires t)
-    (expand-enum-known-answer t)
-    (expand-enum-told-2 t)
-    (expand-same-length t)
-    (expand-same-length-2 t)
-    (expand-same-length-3 t)
+    (λ c. search needs)
+    (λ c. search needs)
+    (λ c. search needs)
+    (λ c. search needs)
+    (λ c. search needs)
     (expand-returns t)
     (expand-restrict-requires-2 t)
     (expand-join-requires t)
-    (expand-same-length-4 t)
+    (λ c. search needs)
     (expand-returns-2 t)
     (expand-same-length-5 t)
     (expand-same-length-6 t)
@@ -314,21 +254,21 @@ pub +expand+restrict-spec : {M : Type 1} → statement M
     (restrict-at t)
     restrict.Post
     (restrict-above-top-requires t)
-    (restrict-same-length t)
-    (restrict-same-length-2 t)
+    (λ c. search needs)
+    (λ c. search needs)
     (restrict-returns t)
     (restrict-at-top-requires t)
-    (restrict-same-length-3 t)
-    (restrict-same-length-4 t)
+    (λ c. search needs)
+    (λ c. search needs)
     (restrict-returns-2 t)
     (restrict-recall-requires t)
-    (restrict-enum-known-handle t)
-    (restrict-placed-requires t)
-    (restrict-same-length-5 t)
+    (λ c. search needs)
+    (λ c κs. search needs)
+    (λ c. search needs)
     (restrict-returns-3 t)
-    (restrict-enum-told t)
+    (λ c. search needs)
     (restrict-expand-requires t)
-    (restrict-same-length-6 t)
-    (restrict-same-length-7 t)
-    (restrict-same-length-8 t)
+    (λ c. search needs)
+    (λ c. search needs)
+    (λ c. search needs)
     (restrict-returns-4 t)

@@ -9,11 +9,7 @@ placed-requires : tie.Need-placed-requires
 placed-requires c κs = search needs
 
 returns : tie.Need-returns
-returns c =
-    let at-start : tie.Start = search in
-    let a = at-start .args in
-    let p = at-start .pre in
-    node-zero (a .store) (a .nodes .now) (a .lookup .now) (a .item) (a .zero) (a .one) (p .item-low) (p .zero-held) (p .one-held) (p .roomy) (c .placed .result) (c .placed .ensures .0) (c .placed .ensures .1) ((c .before) .if1 .taken)
+returns c = search node-zero
 
 make-requires : tie.Need-make-requires
 make-requires c κs = search needs
@@ -49,13 +45,7 @@ same-length-2 : tie.Need-same-length-2
 same-length-2 c = search needs
 
 returns-2 : tie.Need-returns-2
-returns-2 c =
-    let at-make : tie.After-make = search in
-    let at-if1 : tie.Else1 = search in
-    let at-start : tie.Start = search in
-    let a = at-start .args in
-    let p = at-start .pre in
-    node-found (a .store) (a .nodes .now) (a .lookup .now) (a .item) (a .zero) (a .one) (p .item-low) (p .zero-held) (p .one-held) (at-if1 .if1 .left) (at-make .make .ensures) (c .placed2 .result) (c .placed2 .ensures .0) _ ((c .before .before) .made .given .1) (c .placed2 .ensures .1)
+returns-2 c = search node-found
 
 same-length-3 : tie.Need-same-length-3
 same-length-3 c = search needs
@@ -64,13 +54,7 @@ same-length-4 : tie.Need-same-length-4
 same-length-4 c = search needs
 
 returns-3 : tie.Need-returns-3
-returns-3 c =
-    let at-make : tie.After-make = search in
-    let at-if1 : tie.Else1 = search in
-    let at-start : tie.Start = search in
-    let a = at-start .args in
-    let p = at-start .pre in
-    node-new (a .store) (a .nodes .now) (a .lookup .now) (a .item) (a .zero) (a .one) (p .item-low) (p .zero-held) (p .one-held) (at-if1 .if1 .left) (at-make .make .ensures) (c .placed3 .result) (c .placed3 .ensures .0) _ ((c .before .before) .made2 .given .1) (c .placed3 .ensures .1)
+returns-3 c = search node-new
 
 same-length-5 : tie.Need-same-length-5
 same-length-5 c = search needs
@@ -79,13 +63,7 @@ same-length-6 : tie.Need-same-length-6
 same-length-6 c = search needs
 
 returns-4 : tie.Need-returns-4
-returns-4 c =
-    let at-make : tie.After-make = search in
-    let at-if1 : tie.Else1 = search in
-    let at-start : tie.Start = search in
-    let a = at-start .args in
-    let p = at-start .pre in
-    node-full (a .store) (a .nodes .now) (a .lookup .now) (a .item) (a .zero) (a .one) (p .item-low) (p .zero-held) (p .one-held) (at-if1 .if1 .left) (at-make .make .ensures) (c .refused .result) (c .refused .ensures .0) ((c .before) .enum-told .given .1) (c .refused .ensures .1)
+returns-4 c = search node-full
 
 same-length-7 : tie.Need-same-length-7
 same-length-7 c = search needs
@@ -94,13 +72,7 @@ same-length-8 : tie.Need-same-length-8
 same-length-8 c = search needs
 
 returns-5 : tie.Need-returns-5
-returns-5 c =
-    let at-make : tie.After-make = search in
-    let at-if1 : tie.Else1 = search in
-    let at-start : tie.Start = search in
-    let a = at-start .args in
-    let p = at-start .pre in
-    node-damaged (a .store) (a .nodes .now) (a .lookup .now) (a .item) (a .zero) (a .one) (p .item-low) (p .zero-held) (p .one-held) (at-if1 .if1 .left) (at-make .make .ensures) (c .refused2 .result) (c .refused2 .ensures .0) ((c .before) .enum-told2 .given .1) (c .refused2 .ensures .1)
+returns-5 c = search node-damaged
 
 pub get-node-spec : {M : Type 1} → statement M
 get-node-spec =

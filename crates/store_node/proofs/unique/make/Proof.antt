@@ -35,12 +35,7 @@ same-length-4 : tie.Need-same-length-4
 same-length-4 c = search needs
 
 returns-2 : tie.Need-returns-2
-returns-2 c =
-    let at-probe : tie.After-probe = search in
-    let at-start : tie.Start = search in
-    let a = at-start .args in
-    let p = at-start .pre in
-    made-full (a .store) (a .nodes .now) (a .lookup .now) (a .item) (a .zero) (a .one) _ (p .roomy) (p .zero-held) (p .one-held) (at-probe .probe .ensures) ((c .before) .if2 .taken) (c .if3 .taken)
+returns-2 c = search made-full
 
 enter-requires : tie.Need-enter-requires
 enter-requires c κs = search needs
@@ -62,16 +57,7 @@ same-length-6 c =
     cc
 
 returns-3 : tie.Need-returns-3
-returns-3 c =
-    let at-enter : tie.After-enter = search in
-    let at-if3 : tie.Else3 = search in
-    let at-if2 : tie.Then2 = search in
-    let at-probe : tie.After-probe = search in
-    let at-start : tie.Start = search in
-    let a = at-start .args in
-    let p = at-start .pre in
-    made-new (a .store) (a .nodes .now) (a .lookup .now) (a .item) (a .zero) (a .one) _ (p .roomy) (p .zero-held) (p .one-held) (at-probe .probe .ensures)
-    (c .appended .result) _ _ (c .appended .ensures .0) (c .appended .ensures .1) (at-enter .enter .ensures .nodes-are) (at-enter .enter .ensures .lookup-is) (at-if2 .if2 .taken) (at-if3 .if3 .left)
+returns-3 c = search made-new
 
 same-length-7 : tie.Need-same-length-7
 same-length-7 c = search needs
@@ -113,12 +99,7 @@ same-length-12 : tie.Need-same-length-12
 same-length-12 c = search needs
 
 returns-6 : tie.Need-returns-6
-returns-6 c =
-    let at-probe : tie.After-probe = search in
-    let at-start : tie.Start = search in
-    let a = at-start .args in
-    let p = at-start .pre in
-    made-found (a .store) (a .nodes .now) (a .lookup .now) (a .item) (a .zero) (a .one) _ (p .roomy) (p .zero-held) (p .one-held) (at-probe .probe .ensures) ((c .before .before) .if2 .left) (c .if5 .left)
+returns-6 c = search made-found
 
 pub make-spec : {M : Type 1} → statement M
 make-spec =
