@@ -72,7 +72,7 @@ finish-requires c κs =
     let W = at-place-parts .place-parts .ensures in
     record {
       roomy = load-roomy (a .store) (a .nodes .now) (a .lookup .now) (a .cache .now) (a .file .now) (a .words .now) (at-place-parts .place-parts .result) P (at-read-file .read-file .ensures) _ (at-content2 .content2 .given .1) W;
-      fewer = W .kept .grows;
+      fewer = omega (arith, W .kept .grows);
     }
 
 enum-told-2 : tie.Need-enum-told-2
