@@ -35,8 +35,7 @@ fn handle_of(answer: PlaceAnswer) -> u32 {
 }
 
 // The record and the answer last given; the next combination of at most two items, the lower one first and 0 where
-// there is one; the
-// handle of a family of single items, and the item that is next for it.
+// there is one; the handle of a family of single items, and the item that is next for it.
 pub struct Progress {
     pub store: Store,
     pub answer: PlaceAnswer,
@@ -73,8 +72,7 @@ pub fn at_first_pair(at: Progress) -> Progress {
 }
 
 // The next call: the union with the next single item, with as many nodes more as the family has items; or the change
-// that makes the
-// next combination from its lower item's, or from the empty one, with one node more.
+// that makes the next combination from its lower item's, or from the empty one, with one node more.
 fn next(unions: bool, at: Progress) -> Call {
     if unions {
         return Call {

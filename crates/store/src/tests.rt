@@ -24,9 +24,8 @@ pub fn item_test(item: u32) -> Test
 }
 
 // What refuses a call over words of these lengths: a record that does not fit, a handle that is not held, what the
-// call
-// found by its own test, scratch that is short. A call with one handle or none tests the handle 0, which is always
-// held.
+// call found by its own test, scratch that is short. A call with one handle or none tests the handle 0, which is
+// always held.
 pub fn tested(
     store: Store,
     nodes: usize,
