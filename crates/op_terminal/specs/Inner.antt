@@ -61,4 +61,3 @@ pub record Proper (call : Call) : Type 0 where
 pub data ShortcutOf (call : Call) : Recalled → Type 0 where
   known : {h : ℕ} → Shortcut call h → ShortcutOf call (Hit h)
   unknown : Proper call → ShortcutOf call Miss
-
