@@ -1,5 +1,4 @@
--- The laws of the terminal cases, of the two sides of both operands, and of the step.
-pub mod Orders
+-- The laws of what comes before the recursion, of the two sides of both operands, and of the step.
 pub mod Shortcuts
 pub mod Forks
 pub mod Splits

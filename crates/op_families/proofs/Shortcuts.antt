@@ -15,7 +15,7 @@ use Rattle.store.proofs.Held.{at-0, within}
 use Rattle.op_cache.specs.declared.Call.{Call}
 use Rattle.op_cache.specs.declared.Recalled.{Recalled}
 use Rattle.op_cache.specs.declared.Recalled.the-variants.{Hit, Miss}
-use Rattle.op_families.specs.Inner.{OrderedAs, Shortcut, Proper, ShortcutOf, known, unknown}
+use Rattle.op_terminal.specs.Inner.{OrderedAs, Shortcut, Proper, ShortcutOf, known, unknown}
 use Rattle.store.proofs.Plain.{plain-handle, plain-ran}
 use Rattle.op_step.proofs.Steps.{of}
 use Rattle.op_step.proofs.Outcomes.{ran-same}

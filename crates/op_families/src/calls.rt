@@ -1,5 +1,5 @@
 // Union, Intsec and Diff: what refuses them, the recursion, and the end of the call.
-ghost use Rattle.op_families.specs.Inner.{FamilyOperation};
+ghost use Rattle.op_terminal.specs.Inner.{FamilyOperation};
 ghost use Rattle.op_promise.specs.Promise.{OperationCall};
 use crate::recursion::apply;
 use crate::recursion::larger;

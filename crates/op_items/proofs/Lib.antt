@@ -1,3 +1,2 @@
--- The laws of the terminal cases and of the step.
-pub mod Restricting
+-- The law of the step.
 pub mod Splits

@@ -11,7 +11,8 @@ use Rattle.store.proofs.Held.{top-at, low-at}
 use Rattle.op_cache.specs.declared.Call.{Call}
 use Rattle.store.proofs.Naming.{named-item, restrict-step, restrict-within}
 use Rattle.store.specs.declared.record.Store.{Store}
-use Rattle.op_items.specs.Inner.{ItemCall, ItemStepAsks}
+use Rattle.op_terminal.specs.Inner.{ItemCall}
+use Rattle.op_items.specs.Inner.{ItemStepAsks}
 use Rattle.op_step.proofs.Steps.{of, Taken, Split}
 
 module _ {call : Call} {level : ℕ} {s : Store} {nodes lookup : List ℕ} (E : ItemStepAsks call level s nodes lookup) where

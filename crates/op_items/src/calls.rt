@@ -1,5 +1,5 @@
 // Subset1, Subset0 and Change: what refuses them, the recursion, and the end of the call.
-ghost use Rattle.op_items.specs.Inner.{ItemOperation};
+ghost use Rattle.op_terminal.specs.Inner.{ItemOperation};
 ghost use Rattle.op_promise.specs.Promise.{OperationCall};
 use crate::recursion::restrict;
 use op_cache::Call;

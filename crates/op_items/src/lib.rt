@@ -1,4 +1,3 @@
-// Subset1, Subset0 and Change: the terminal cases, the recursion, the calls.
+// Subset1, Subset0 and Change: the recursion, the calls.
 pub mod calls;
 pub mod recursion;
-pub mod terminal;

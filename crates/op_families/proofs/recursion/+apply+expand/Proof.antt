@@ -20,8 +20,8 @@ use Rattle.op_families.proofs.recursion.expand.Kinds as expand-kinds
 use Rattle.op_families.proofs.recursion.+apply+expand.Lts-expand as expand-lts
 use Rattle.op_cache.proofs.recall.Reads as recall-reads
 use Rattle.op_families.proofs.recursion.fork_at.Reads as fork-at-reads
-use Rattle.op_families.proofs.terminal.ordered.Reads as ordered-reads
-use Rattle.op_families.proofs.terminal.shortcut.Reads as shortcut-reads
+use Rattle.op_terminal.proofs.families.ordered.Reads as ordered-reads
+use Rattle.op_terminal.proofs.families.shortcut.Reads as shortcut-reads
 use Rattle.op_step.proofs.join.Reads as join-reads
 use Rattle.store.proofs.record.Store.placed.Reads as placed-reads
 use Rattle.store.proofs.record.Store.refused.Reads as refused-reads

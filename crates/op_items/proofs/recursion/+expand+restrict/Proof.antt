@@ -19,8 +19,8 @@ use Rattle.op_items.proofs.recursion.restrict.Reads as restrict
 use Rattle.op_items.proofs.recursion.restrict.Kinds as restrict-kinds
 use Rattle.op_items.proofs.recursion.+expand+restrict.Lts-restrict as restrict-lts
 use Rattle.op_cache.proofs.recall.Reads as recall-reads
-use Rattle.op_items.proofs.terminal.above_top.Reads as above-top-reads
-use Rattle.op_items.proofs.terminal.at_top.Reads as at-top-reads
+use Rattle.op_terminal.proofs.items.above_top.Reads as above-top-reads
+use Rattle.op_terminal.proofs.items.at_top.Reads as at-top-reads
 use Rattle.op_step.proofs.join.Reads as join-reads
 use Rattle.store.proofs.node.sides_at.Reads as sides-at-reads
 use Rattle.store.proofs.record.Store.placed.Reads as placed-reads

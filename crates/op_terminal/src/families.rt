@@ -1,5 +1,5 @@
 // Union (4), Intsec (5) and Diff (6): the order of the operands, and the cases that need no recursion.
-ghost use Rattle.op_families.specs.Inner.{FamilyOperation, OrderedAs, ShortcutOf};
+ghost use Rattle.op_terminal.specs.Inner.{FamilyOperation, OrderedAs, ShortcutOf};
 use op_cache::Call;
 use op_cache::Recalled;
 

@@ -1,5 +1,5 @@
 // Subset1 (1), Subset0 (2) and Change (3): an item above the top, and the top itself.
-ghost use Rattle.op_items.specs.Inner.{AboveAsks, AtAsks};
+ghost use Rattle.op_terminal.specs.Inner.{AboveAsks, AtAsks};
 ghost use Rattle.store.specs.Operations.{named};
 ghost use Rattle.store.specs.Inner.{RanPlain};
 use op_cache::Call;

@@ -1,8 +1,8 @@
 -- `ordered` keeps the operands or swaps them; Union and Intsec name the same family either way.
 -- Diff is left as it is.
-use Rattle.op_families.proofs.Orders.{as-asked, as-swapped}
-use Rattle.op_families.proofs.terminal.ordered.Statement.{statement}
-use Rattle.op_families.proofs.terminal.ordered.Tie as tie
+use Rattle.op_terminal.proofs.Orders.{as-asked, as-swapped}
+use Rattle.op_terminal.proofs.families.ordered.Statement.{statement}
+use Rattle.op_terminal.proofs.families.ordered.Tie as tie
 
 returns : tie.Need-returns
 returns c = as-asked ((c .before .before) .args .call) ((c .before .before) .pre)

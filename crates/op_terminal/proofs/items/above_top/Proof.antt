@@ -1,9 +1,9 @@
 -- `above_top` gives what the operation is where no member holds the item.
 -- Each way out is one law of restricting.
-use Rattle.op_items.proofs.Restricting.{above-none, above-same, above-node}
+use Rattle.op_terminal.proofs.Restricting.{above-none, above-same, above-node}
 use borrow.Author.Needs.{needs}
-use Rattle.op_items.proofs.terminal.above_top.Statement.{statement}
-use Rattle.op_items.proofs.terminal.above_top.Tie as tie
+use Rattle.op_terminal.proofs.items.above_top.Statement.{statement}
+use Rattle.op_terminal.proofs.items.above_top.Tie as tie
 
 placed-requires : tie.Need-placed-requires
 placed-requires c κs = search needs

@@ -8,7 +8,7 @@ use Rattle.family.specs.Operation.{combine}
 use Rattle.family.specs.Book.{at}
 use Rattle.store.specs.Operations.{rule}
 use Rattle.op_cache.specs.declared.Call.{Call}
-use Rattle.op_families.specs.Inner.{FamilyOperation, OrderedAs, Shortcut}
+use Rattle.op_terminal.specs.Inner.{FamilyOperation, OrderedAs, Shortcut}
 use Rattle.store.proofs.Naming.{named-families, families-swap, both-same, both-none, first-union, first-none, second-none, second-same}
 
 module _ (call : Call) (O : FamilyOperation (call .op)) where

@@ -2,10 +2,10 @@
 -- Each way out is one law of restricting; where a split fails, the words hold no book.
 use Rattle.store.proofs.Sides.{sides-two, sides-broken}
 use Rattle.store.proofs.Plain.{plain-broken}
-use Rattle.op_items.proofs.Restricting.{top-one, top-zero, top-node}
+use Rattle.op_terminal.proofs.Restricting.{top-one, top-zero, top-node}
 use borrow.Author.Needs.{needs}
-use Rattle.op_items.proofs.terminal.at_top.Statement.{statement}
-use Rattle.op_items.proofs.terminal.at_top.Tie as tie
+use Rattle.op_terminal.proofs.items.at_top.Statement.{statement}
+use Rattle.op_terminal.proofs.items.at_top.Tie as tie
 
 sides-at-requires : tie.Need-sides-at-requires
 sides-at-requires c κs = search needs

@@ -16,7 +16,7 @@ use Rattle.store_node.specs.Inner.{NodeIt}
 use Rattle.store.specs.Inner.{Holds, TwoSides, RanPlain}
 use Rattle.store.proofs.Held.{at-0, top-at}
 use Rattle.op_cache.specs.declared.Call.{Call}
-use Rattle.op_items.specs.Inner.{ItemCall}
+use Rattle.op_terminal.specs.Inner.{ItemCall}
 use Rattle.store.proofs.Naming.{named-item, above-subset1, above-subset0, above-change, at-subset1, at-subset0, at-change}
 use Rattle.store_node.proofs.OneNode.{plain-node}
 use Rattle.store.proofs.Plain.{plain-handle}

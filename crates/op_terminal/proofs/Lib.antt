@@ -1,0 +1,3 @@
+-- The laws of the terminal cases.
+pub mod Restricting
+pub mod Orders

@@ -1,0 +1,2 @@
+-- What the contracts of `op_terminal` cite.
+pub mod Inner

@@ -1,0 +1,3 @@
+// The cases of the operations that need no recursion.
+pub mod families;
+pub mod items;
