@@ -4,7 +4,7 @@ use libc::STDIN_FILENO;
 
 fn main() {
     let mut out = [0u8; 128];
-    let run = report_run::report::report_on(STDIN_FILENO, 65536, &mut out);
+    let run = report_run::report_on(STDIN_FILENO, 65536, &mut out);
     if !run.written {
         os::fail(b"gatecount");
     }

@@ -8,7 +8,7 @@ fn report_file(i: usize) {
     io::write_all(STDOUT_FILENO, b":\n");
     let fd = os::open_read(&path[..bytes]);
     let mut out = [0u8; 128];
-    let run = report_run::report::report_on(fd, 7, &mut out);
+    let run = report_run::report_on(fd, 7, &mut out);
     if !run.written {
         os::fail(&path[..bytes]);
     }

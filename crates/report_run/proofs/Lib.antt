@@ -1,3 +1,2 @@
--- The laws of reading a log and of the report on it.
-pub mod Feedings
+-- The laws of `report_run`.
 pub mod Reports

@@ -13,15 +13,16 @@ use Rattle.report_log.specs.Log.{opening, feed}
 use Rattle.report_log.specs.Promise.{Keeps, OpenCall}
 use Rattle.report_close.specs.Promise.{CloseCall}
 use Rattle.report_close.proofs.Reports.{log-report}
-use Rattle.report_run.specs.declared.feeding.Input.{Input}
-use Rattle.report_run.specs.declared.feeding.Input.the-variants.{Done}
-use Rattle.report_run.specs.declared.feeding.Fed.{Fed}
-use Rattle.report_run.specs.declared.report.Report.{Report}
-use Rattle.report_run.specs.Answers.{inputOf}
-use Rattle.report_run.specs.Promise.{ReadAllCall, ReportOf}
+use Rattle.report_read.specs.declared.Input.{Input}
+use Rattle.report_read.specs.declared.Input.the-variants.{Done}
+use Rattle.report_read.specs.declared.Fed.{Fed}
+use Rattle.report_read.specs.Answers.{inputOf}
+use Rattle.report_read.specs.Promise.{ReadAllCall}
+use Rattle.report_read.proofs.Input.{the-type as the-input}
+use Rattle.report_read.proofs.Feedings.{reads-keep, reads-heard}
+use Rattle.report_run.specs.declared.Report.{Report}
+use Rattle.report_run.specs.Promise.{ReportOf}
 use Rattle.report_run.specs.Inner.{HasReport}
-use Rattle.report_run.proofs.feeding.Input.{the-type as the-input}
-use Rattle.report_run.proofs.Feedings.{reads-keep, reads-heard}
 
 -- an input that is not done
 pub not-done : (x : Input) → OneOf (0 ∷ 2 ∷ []) (tagOf the-input x) → x ≡ Done → ⊥

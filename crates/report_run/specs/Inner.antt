@@ -1,20 +1,11 @@
--- What the functions below `read_all` and `report_on` promise each other. A reader of the promises can pass this page
--- over.
+-- What the functions below `report_on` promise each other. A reader of the promises can pass this page over.
 use Prim.Native.Nat.{ℕ, _≤_}
 use mathlib.Core.Path.{_≡_}
 use mathlib.Core.List.{List}
 use lib.ListN.{length, take}
-use Rattle.report_log.specs.declared.tally.Tally.{Tally}
 use Rattle.report_close.specs.Report.{reportOf}
-use Rattle.report_run.specs.declared.feeding.Fed.{Fed}
-use Rattle.report_run.specs.declared.report.Report.{Report}
-use Rattle.report_run.specs.Answers.{ReadAnswer}
-use Rattle.report_run.specs.Promise.{ReadCall, ReportOf}
-
--- one read, taken
-pub record OneRead (t : Tally) (nodes lookup cache : List ℕ) (r : Fed) (nodes′ lookup′ cache′ : List ℕ) : Type 0 where
-  pub answer : ReadAnswer
-  pub taken : ReadCall t nodes lookup cache (answer .buffer) (answer .got) r nodes′ lookup′ cache′
+use Rattle.report_run.specs.declared.Report.{Report}
+use Rattle.report_run.specs.Promise.{ReportOf}
 
 -- "(500 nodes, 1,001 lookup words, 1,024 cache words)": a report, on words of these lengths
 pub record Reported (lookup cache : List ℕ) (r : Report) (out′ : List ℕ) : Type 0 where

@@ -5,8 +5,8 @@ use Prim.Native.Nat.{ℕ}
 use mathlib.Core.Path.{_≡_}
 use lib.ListN.{length, length-replicate}
 use Rattle.report_run.proofs.Reports.{not-done, none-reported, all-reported}
-use Rattle.report_run.proofs.report.make_report.Statement.{statement}
-use Rattle.report_run.proofs.report.make_report.Tie as tie
+use Rattle.report_run.proofs.make_report.Statement.{statement}
+use Rattle.report_run.proofs.make_report.Tie as tie
 
 -- the lengths of the words lent, by their types
 long-nodes : (c : tie.After-open-log-arg) → length (c .before .args .nodes .now) ≡ 1500

@@ -1,9 +1,9 @@
 -- What a read brought is taken: nothing where it failed or the input is at its end, else so many bytes of the buffer.
 -- The two tests leave the three cases of the system's answer.
 use borrow.Author.Needs.{needs}
-use Rattle.report_run.proofs.Feedings.{read-failed, read-ended, read-brought}
-use Rattle.report_run.proofs.feeding.take_read.Statement.{statement}
-use Rattle.report_run.proofs.feeding.take_read.Tie as tie
+use Rattle.report_read.proofs.Feedings.{read-failed, read-ended, read-brought}
+use Rattle.report_read.proofs.take_read.Statement.{statement}
+use Rattle.report_read.proofs.take_read.Tie as tie
 
 returns : tie.Need-returns
 returns c =

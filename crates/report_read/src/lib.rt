@@ -1,11 +1,10 @@
-// Reads a log from a descriptor in pieces, and takes them. What decides is `take_read`, on the system's answer and the
-// bytes that it left; only the system's read stands outside.
+// A log read from a descriptor in pieces. What decides is `take_read`, on the system's answer and the bytes it left.
 ghost use mathlib.Core.Path.{_≡_};
 ghost use lib.ListN.{length};
 ghost use Rattle.libc.specs.Io.{Moved};
-ghost use Rattle.report_run.specs.Answers.{behind};
-ghost use Rattle.report_run.specs.Promise.{ReadCall, ReadAllCall};
-ghost use Rattle.report_run.specs.Inner.{OneRead};
+ghost use Rattle.report_read.specs.Answers.{behind};
+ghost use Rattle.report_read.specs.Promise.{ReadCall, ReadAllCall};
+ghost use Rattle.report_read.specs.Inner.{OneRead};
 use report_log::taking::take_piece;
 use report_log::tally::Ending;
 use report_log::tally::Tally;

@@ -3,9 +3,9 @@
 use borrow.Author.Needs.{needs}
 use native.Mathlib.Omega.{arith}
 use mathlib.Core.Path.{_∙_}
-use Rattle.report_run.proofs.Feedings.{Onward, onward-start, one-more, not-more, onward-again, onward-end}
-use Rattle.report_run.proofs.feeding.read_all.Statement.{statement}
-use Rattle.report_run.proofs.feeding.read_all.Tie as tie
+use Rattle.report_read.proofs.Feedings.{Onward, onward-start, one-more, not-more, onward-again, onward-end}
+use Rattle.report_read.proofs.read_all.Statement.{statement}
+use Rattle.report_read.proofs.read_all.Tie as tie
 
 abbrev Inv-loop : tie.InvT-loop
 Inv-loop fd most nodes₀ lookup₀ cache₀ fed₀ turns₀ nodes lookup cache fed turns = Onward (fed₀ .tally) nodes₀ lookup₀ cache₀ nodes lookup cache fed turns

@@ -7,8 +7,8 @@ use Rattle.libc.specs.Io.{Moved}
 use Rattle.report_log.specs.declared.tally.Ending.{Ending}
 use Rattle.report_log.specs.declared.tally.Ending.the-variants.{Going, Refused, Full}
 use Rattle.report_log.specs.Log.{opening, feed}
-use Rattle.report_run.specs.declared.feeding.Input.{Input}
-use Rattle.report_run.specs.declared.feeding.Input.the-variants.{More, Done, Failed}
+use Rattle.report_read.specs.declared.Input.{Input}
+use Rattle.report_read.specs.declared.Input.the-variants.{More, Done, Failed}
 
 -- One read as the system answered it: -1, or how many bytes it put at the front of the buffer; and the buffer then.
 pub record ReadAnswer : Type 0 where

@@ -22,13 +22,13 @@ use Rattle.libc.specs.Io.{Moved}
 use Rattle.report_log.specs.declared.tally.Tally.{Tally}
 use Rattle.report_log.specs.Log.{Log, opening, logByte, feed}
 use Rattle.report_log.specs.Promise.{Keeps, TakeCall}
-use Rattle.report_run.specs.declared.feeding.Input.{Input}
-use Rattle.report_run.specs.declared.feeding.Input.the-variants.{More, Done, Failed}
-use Rattle.report_run.specs.declared.feeding.Fed.{Fed}
-use Rattle.report_run.specs.Answers.{ReadAnswer, mostReads, broughtBy, inputOf, behind, inputAfter, Heard, none-heard, next-heard}
-use Rattle.report_run.specs.Promise.{ReadCall, failed, ended, brought, Reads, none, turn, ReadAllCall}
-use Rattle.report_run.specs.Inner.{OneRead}
-use Rattle.report_run.proofs.feeding.Input.{the-type as the-input}
+use Rattle.report_read.specs.declared.Input.{Input}
+use Rattle.report_read.specs.declared.Input.the-variants.{More, Done, Failed}
+use Rattle.report_read.specs.declared.Fed.{Fed}
+use Rattle.report_read.specs.Answers.{ReadAnswer, mostReads, broughtBy, inputOf, behind, inputAfter, Heard, none-heard, next-heard}
+use Rattle.report_read.specs.Promise.{ReadCall, failed, ended, brought, Reads, none, turn, ReadAllCall}
+use Rattle.report_read.specs.Inner.{OneRead}
+use Rattle.report_read.proofs.Input.{the-type as the-input}
 
 -- a count past the end takes all
 take-clamped : (k : ℕ) (l : List ℕ) → take (min k (length l)) l ≡ take k l

@@ -2,8 +2,8 @@
 -- Where the input did not come to its end nothing is written.
 use borrow.Author.Needs.{needs}
 use Rattle.report_run.proofs.Reports.{has-report}
-use Rattle.report_run.proofs.report.report_on.Statement.{statement}
-use Rattle.report_run.proofs.report.report_on.Tie as tie
+use Rattle.report_run.proofs.report_on.Statement.{statement}
+use Rattle.report_run.proofs.report_on.Tie as tie
 
 make-report-requires : tie.Need-make-report-requires
 make-report-requires c κs = search needs

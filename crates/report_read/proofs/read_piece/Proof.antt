@@ -1,9 +1,9 @@
 -- One read, taken.
 -- The answer is the system's own, and the buffer as its read left it.
 use borrow.Author.Needs.{needs}
-use Rattle.report_run.proofs.Feedings.{one-read}
-use Rattle.report_run.proofs.feeding.read_piece.Statement.{statement}
-use Rattle.report_run.proofs.feeding.read_piece.Tie as tie
+use Rattle.report_read.proofs.Feedings.{one-read}
+use Rattle.report_read.proofs.read_piece.Statement.{statement}
+use Rattle.report_read.proofs.read_piece.Tie as tie
 
 large-buffer-requires : tie.Need-large-buffer-requires
 large-buffer-requires c κs = search needs

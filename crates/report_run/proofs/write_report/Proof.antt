@@ -4,8 +4,8 @@ use borrow.Author.Needs.{needs}
 use mathlib.Core.Path.{sym}
 use native.Mathlib.Omega.{arith}
 use lib.Seq.{length-take-le}
-use Rattle.report_run.proofs.report.write_report.Statement.{statement}
-use Rattle.report_run.proofs.report.write_report.Tie as tie
+use Rattle.report_run.proofs.write_report.Statement.{statement}
+use Rattle.report_run.proofs.write_report.Tie as tie
 
 slice-aggregate-hand-over : tie.Need-slice-aggregate-hand-over
 slice-aggregate-hand-over c = sym (length-take-le _ _ (omega (arith, (c .before .before) .pre .inside)))

@@ -4,9 +4,9 @@ use borrow.Author.Needs.{needs}
 use native.Mathlib.Omega.{arith}
 use mathlib.Core.Path.{sym}
 use lib.Seq.{length-take-le}
-use Rattle.report_run.proofs.Feedings.{moved-same, moved-front}
-use Rattle.report_run.proofs.feeding.read_some.Statement.{statement}
-use Rattle.report_run.proofs.feeding.read_some.Tie as tie
+use Rattle.report_read.proofs.Feedings.{moved-same, moved-front}
+use Rattle.report_read.proofs.read_some.Statement.{statement}
+use Rattle.report_read.proofs.read_some.Tie as tie
 
 slice-relend-prefix-read : tie.Need-slice-relend-prefix-read
 slice-relend-prefix-read c = search needs
