@@ -17,11 +17,11 @@ use file_trail::trail::Trail;
 use file_trail::walk::Walked;
 use file_trail::walk::walk;
 use file_write::write_parts;
-use store::node::top_of;
 use store::record::Refusal;
 use store::record::Store;
 use store::tests::Test;
 use store::tests::tested;
+use store_sides::top_of;
 use words::zero;
 
 // What Save answers.

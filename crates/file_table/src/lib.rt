@@ -5,7 +5,7 @@ ghost use Prim.Native.Nat.{_*_, _<_, _≤_};
 ghost use lib.ListN.{length};
 ghost use Rattle.file_table.specs.Inner.{TableRoom, EnterAsks, follows, EnterOf, TakeOf};
 use file_record::field::Part;
-use store::node::top_of;
+use store_sides::top_of;
 use table::probe::probe;
 
 // Whether a part can come after k others: an item of the limit, children that stand before it and have smaller

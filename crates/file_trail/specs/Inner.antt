@@ -10,10 +10,11 @@ use Rattle.family.specs.Family.{Family, top}
 use Rattle.family.specs.Book.{at, number, Held, place, Book}
 use Rattle.family.specs.Record.{stands}
 use Rattle.family.specs.File.{triplesOf, recordsBytes}
-use Rattle.store.specs.declared.node.Sides.{Sides}
-use Rattle.store.specs.declared.node.Sides.the-variants.{Two, Broken}
+use Rattle.store_sides.specs.declared.Sides.{Sides}
+use Rattle.store_sides.specs.declared.Sides.the-variants.{Two, Broken}
 use Rattle.store.specs.Words.{itemLimit, topAt}
-use Rattle.store.specs.Inner.{Holds, TwoSides}
+use Rattle.store.specs.Inner.{Holds}
+use Rattle.store_sides.specs.Inner.{TwoSides}
 use Rattle.file_record.specs.Widths.{widths}
 use Rattle.file_trail.specs.declared.trail.Trail.{Trail}
 use Rattle.file_trail.specs.declared.walk.Walked.{Walked}

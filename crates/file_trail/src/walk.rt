@@ -4,8 +4,8 @@ ghost use Rattle.file_trail.specs.Inner.{ChildrenAsks, SplitOf, WalkAsks
 use crate::trail::Trail;
 use crate::trail::is_met;
 use crate::trail::visit;
-use store::node::Sides;
-use store::node::sides_at;
+use store_sides::Sides;
+use store_sides::sides_at;
 
 // A walk that came to its end, or words that no sound store has.
 pub enum Walked {

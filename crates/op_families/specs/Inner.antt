@@ -6,7 +6,8 @@ use lib.ListN.{length}
 use Rattle.family.specs.Family.{Family}
 use Rattle.store.specs.declared.record.Store.{Store}
 use Rattle.store.specs.Words.{itemLimit, topAt}
-use Rattle.store.specs.Inner.{Roomy, Holds, TwoSides}
+use Rattle.store.specs.Inner.{Roomy, Holds}
+use Rattle.store_sides.specs.Inner.{TwoSides}
 use Rattle.op_cache.specs.declared.Call.{Call}
 use Rattle.op_terminal.specs.Inner.{FamilyOperation, Proper}
 use Rattle.op_families.specs.declared.recursion.Fork.{Fork}

@@ -4,12 +4,12 @@ ghost use Rattle.op_promise.specs.Promise.{OperationCall};
 use crate::recursion::apply;
 use crate::recursion::larger;
 use op_cache::Call;
-use store::node::top_of;
 use store::record::Placed;
 use store::record::Refusal;
 use store::record::Store;
 use store::tests::Test;
 use store::tests::tested;
+use store_sides::top_of;
 use store_undo::finish;
 
 // An operation on two families.

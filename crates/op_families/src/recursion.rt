@@ -10,12 +10,12 @@ use op_cache::recall;
 use op_step::join;
 use op_terminal::families::ordered;
 use op_terminal::families::shortcut;
-use store::node::Sides;
-use store::node::sides_at;
 use store::record::PlaceAnswer;
 use store::record::Placed;
 use store::record::Refusal;
 use store::record::Store;
+use store_sides::Sides;
+use store_sides::sides_at;
 
 // The larger number.
 pub fn larger(a: u32, b: u32) -> u32

@@ -6,7 +6,7 @@ use mathlib.Core.List.{List}
 use native.Mathlib.Omega.{arith}
 use Rattle.family.specs.Family.{top}
 use Rattle.family.specs.Book.{at}
-use Rattle.store.specs.Inner.{TwoSides}
+use Rattle.store_sides.specs.Inner.{TwoSides}
 use Rattle.store.proofs.Held.{top-at, low-at}
 use Rattle.op_cache.specs.declared.Call.{Call}
 use Rattle.store.proofs.Naming.{named-item, restrict-step, restrict-within}

@@ -3,13 +3,13 @@ ghost use Rattle.op_terminal.specs.Inner.{ItemOperation};
 ghost use Rattle.op_promise.specs.Promise.{OperationCall};
 use crate::recursion::restrict;
 use op_cache::Call;
-use store::node::top_of;
 use store::record::Placed;
 use store::record::Refusal;
 use store::record::Store;
 use store::tests::Test;
 use store::tests::item_test;
 use store::tests::tested;
+use store_sides::top_of;
 use store_undo::finish;
 
 // An operation on a family and an item.

@@ -9,12 +9,12 @@ use op_cache::recall;
 use op_step::join;
 use op_terminal::items::above_top;
 use op_terminal::items::at_top;
-use store::node::Sides;
-use store::node::sides_at;
 use store::record::PlaceAnswer;
 use store::record::Placed;
 use store::record::Refusal;
 use store::record::Store;
+use store_sides::Sides;
+use store_sides::sides_at;
 
 // The operation on a family whose top is the level: above and at the top at once, else the cache, then the two sides.
 pub fn restrict(

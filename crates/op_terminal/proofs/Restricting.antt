@@ -13,7 +13,8 @@ use Rattle.store.specs.declared.record.Placed.{Placed}
 use Rattle.store.specs.Words.{topAt}
 use Rattle.store.specs.Operations.{restrict, named}
 use Rattle.store_node.specs.Inner.{NodeIt}
-use Rattle.store.specs.Inner.{Holds, TwoSides, RanPlain}
+use Rattle.store.specs.Inner.{Holds, RanPlain}
+use Rattle.store_sides.specs.Inner.{TwoSides}
 use Rattle.store.proofs.Held.{at-0, top-at}
 use Rattle.op_cache.specs.declared.Call.{Call}
 use Rattle.op_terminal.specs.Inner.{ItemCall}

@@ -3,12 +3,12 @@ ghost use Rattle.op_terminal.specs.Inner.{AboveAsks, AtAsks};
 ghost use Rattle.store.specs.Operations.{named};
 ghost use Rattle.store.specs.Inner.{RanPlain};
 use op_cache::Call;
-use store::node::Sides;
-use store::node::sides_at;
 use store::record::Placed;
 use store::record::Refusal;
 use store::record::Store;
 use store_node::getnode::get_node;
+use store_sides::Sides;
+use store_sides::sides_at;
 
 // An item above the top of p: no member holds it.
 pub fn above_top(call: Call, store: Store, nodes: &mut [u32], lookup: &mut [u32]) -> Placed

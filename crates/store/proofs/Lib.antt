@@ -8,8 +8,6 @@ pub mod Probing
 pub mod Growing
 pub mod Naming
 pub mod Cached
-pub mod Cofactors
-pub mod Sides
 pub mod Decoding
 pub mod Encoding
 pub mod Sounds

@@ -1,11 +1,10 @@
 -- What the functions below the public calls promise each other: on any words that fit, and where the words hold a
 -- book. A reader of the promises can pass this page over.
-use Prim.Native.Nat.{ℕ, _+_, _*_, _-_, _/_, _≤_, _<_}
+use Prim.Native.Nat.{ℕ, _+_, _*_, _/_, _≤_, _<_}
 use mathlib.Core.Path.{_≡_}
 use mathlib.Core.List.{List}
 use lib.ListN.{length, getD, set}
 use Rattle.family.specs.Family.{Family, node}
-use Rattle.family.specs.Operation.{lacking, holding}
 use Rattle.family.specs.Book.{at, place, Book}
 use Rattle.table.specs.Entered.{entered, startAt}
 use Rattle.store.specs.declared.record.Store.{Store}
@@ -13,9 +12,7 @@ use Rattle.store.specs.declared.record.Refusal.the-variants.{Full}
 use Rattle.store.specs.declared.record.PlaceAnswer.{PlaceAnswer}
 use Rattle.store.specs.declared.record.PlaceAnswer.the-variants.{Handle, Refused}
 use Rattle.store.specs.declared.record.Placed.{Placed}
-use Rattle.store.specs.declared.node.Sides.{Sides}
-use Rattle.store.specs.declared.node.Sides.the-variants.{Two, Broken}
-use Rattle.store.specs.Words.{itemLimit, topAt}
+use Rattle.store.specs.Words.{itemLimit}
 use Rattle.store.specs.Cache.{True}
 
 -- words that fit the record
@@ -61,38 +58,10 @@ pub record Kept (s : Store) (nodes lookup : List ℕ) (s′ : Store) (nodes′ l
   pub above : (k : ℕ) → 3 * s′ .count ≤ k → getD nodes′ k 0 ≡ getD nodes k 0
 
 -- a handle of so many nodes, and their words
-pub record TopAsks (nodes : List ℕ) (n p : ℕ) : Type 0 where
-  pub held : p ≤ n + 1
-  pub words : 3 * n ≤ length nodes
-
--- the same for a walk down from the handle
 pub record HandleAsks (nodes : List ℕ) (n p : ℕ) : Type 0 where
   pub held : p ≤ n + 1
   pub words : 3 * n ≤ length nodes
   pub small : n ≤ 1000000
-
--- a handle, the words of the nodes, and a level that is not below the handle's top
-pub record SidesAsks (nodes : List ℕ) (n p level : ℕ) : Type 0 where
-  pub held : p ≤ n + 1
-  pub words : 3 * n ≤ length nodes
-  pub small : n ≤ 1000000
-  pub top-low : topAt nodes p ≤ level
-  pub some : 0 < level
-
--- the sides of p at a level, with their tops
-pub record TwoSides (nodes : List ℕ) (n p level z o zt ot : ℕ) : Type 0 where
-  pub zero-within : z ≤ n + 1
-  pub one-within : o ≤ n + 1
-  pub ztop : zt ≡ topAt nodes z
-  pub otop : ot ≡ topAt nodes o
-  pub zero-below : zt < level
-  pub one-below : ot < level
-  pub lacks : (B : List Family) (lookup : List ℕ) → Holds B n nodes lookup → at B z ≡ lacking level (at B p)
-  pub holds : (B : List Family) (lookup : List ℕ) → Holds B n nodes lookup → at B o ≡ holding level (at B p)
-
-pub data SidesOf (nodes : List ℕ) (n p level : ℕ) : Sides → Type 0 where
-  two : {z o zt ot : ℕ} → TwoSides nodes n p level z o zt ot → SidesOf nodes n p level (Two z o zt ot)
-  broken : ((B : List Family) (lookup : List ℕ) → Holds B n nodes lookup → ⊥) → SidesOf nodes n p level Broken
 
 -- the three words of the node after `count` others
 unfoldable pub putNode : List ℕ → ℕ → ℕ → ℕ → ℕ → List ℕ

@@ -1,4 +1,3 @@
-// The store in lent words: the record and the nodes.
-pub mod node;
+// The store's record, and the tests of every call.
 pub mod record;
 pub mod tests;

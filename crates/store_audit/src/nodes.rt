@@ -3,7 +3,7 @@ ghost use Rattle.store_audit.specs.Inner.{RowAsks, RowsAsks};
 ghost use Prim.Native.Nat.{_+_, _*_, _<_};
 ghost use Rattle.store_audit.specs.Inner.{Decides, NodeAt, NodesTo};
 use crate::slots::is_entered;
-use store::node::top_of;
+use store_sides::top_of;
 
 // Whether the words of node k + 2 are an item, a child before it, and a child before it that is not {}, both with
 // smaller tops.

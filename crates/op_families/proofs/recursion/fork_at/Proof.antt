@@ -2,7 +2,7 @@
 -- Where a split fails, the words hold no book.
 use native.Mathlib.Omega.{arith}
 use Rattle.op_families.specs.Inner.{two, broken}
-use Rattle.store.proofs.Sides.{sides-two, sides-broken}
+use Rattle.store_sides.proofs.Answers.{sides-two, sides-broken}
 use Rattle.op_families.proofs.Forks.{no-level}
 use borrow.Author.Needs.{needs}
 use Rattle.op_families.proofs.recursion.fork_at.Statement.{statement}

@@ -4,7 +4,7 @@
 use Prim.Native.Nat.{ℕ, _+_, _*_, _<_}
 use native.Mathlib.Omega.{arith}
 use Rattle.store.proofs.Growing.{kept-top, kept-roomy}
-use Rattle.store.proofs.Sides.{sides-two, sides-broken}
+use Rattle.store_sides.proofs.Answers.{sides-two, sides-broken}
 use Rattle.store.proofs.Plain.{plain-ran}
 use Rattle.op_step.proofs.Steps.{join-asks, of, step-first, step-joined}
 use Rattle.op_items.proofs.Splits.{split-item}
@@ -22,7 +22,7 @@ use Rattle.op_cache.proofs.recall.Reads as recall-reads
 use Rattle.op_terminal.proofs.items.above_top.Reads as above-top-reads
 use Rattle.op_terminal.proofs.items.at_top.Reads as at-top-reads
 use Rattle.op_step.proofs.join.Reads as join-reads
-use Rattle.store.proofs.node.sides_at.Reads as sides-at-reads
+use Rattle.store_sides.proofs.sides_at.Reads as sides-at-reads
 use Rattle.store.proofs.record.Store.placed.Reads as placed-reads
 use Rattle.store.proofs.record.Store.refused.Reads as refused-reads
 use Rattle.op_items.proofs.recursion.+expand+restrict.{statement}

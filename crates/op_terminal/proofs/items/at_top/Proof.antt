@@ -1,6 +1,6 @@
 -- `at_top` gives what the operation is at the top item: a side, or the node of the sides swapped.
 -- Each way out is one law of restricting; where a split fails, the words hold no book.
-use Rattle.store.proofs.Sides.{sides-two, sides-broken}
+use Rattle.store_sides.proofs.Answers.{sides-two, sides-broken}
 use Rattle.store.proofs.Plain.{plain-broken}
 use Rattle.op_terminal.proofs.Restricting.{top-one, top-zero, top-node}
 use borrow.Author.Needs.{needs}

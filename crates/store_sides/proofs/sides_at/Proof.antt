@@ -3,12 +3,12 @@
 -- Every way out is one law of the cofactors.
 use Prim.Native.Nat.{_-_, _≤_}
 use native.Mathlib.Omega.{arith}
 use Rattle.store.specs.Words.{topAt}
-use Rattle.store.specs.Inner.{two, broken}
-use Rattle.store.proofs.Cofactors.{sides-below, is-inner, zero-inside, one-inside, zero-low, one-low, sides-here}
+use Rattle.store_sides.specs.Inner.{two, broken}
+use Rattle.store_sides.proofs.Cofactors.{sides-below, is-inner, zero-inside, one-inside, zero-low, one-low, sides-here}
 use borrow.Author.Needs.{needs}
-use Rattle.store.proofs.node.sides_at.Statement.{statement}
-use Rattle.store.proofs.node.sides_at.Tie as tie
+use Rattle.store_sides.proofs.sides_at.Statement.{statement}
+use Rattle.store_sides.proofs.sides_at.Tie as tie
 
 -- p is a node of the level
 record Here (c : tie.Start) : Type 0 where

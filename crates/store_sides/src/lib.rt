@@ -1,8 +1,8 @@
 // Reading nodes: the top of a handle, and its two sides at an item. Every child is tested before it is handed on.
 ghost use mathlib.Core.Path.{_≡_};
 ghost use Prim.Native.Nat.{_+_, _*_, _<_};
 ghost use Rattle.store.specs.Words.{topAt};
-ghost use Rattle.store.specs.Inner.{TopAsks, SidesAsks, SidesOf};
+ghost use Rattle.store_sides.specs.Inner.{TopAsks, SidesAsks, SidesOf};
 
 // The top of a handle: 0 for the handles 0 and 1.
 pub fn top_of(nodes: &[u32], count: u32, p: u32) -> u32

@@ -12,9 +12,10 @@ use Rattle.family.specs.Operation.{lacking, holding}
 use Rattle.family.specs.Book.{at}
 use Rattle.family.proofs.Diagrams.{lacking-above, holding-above}
 use Rattle.words.proofs.Cases.{by-lt}
 use Rattle.store.specs.Words.{itemLimit, topAt}
-use Rattle.store.specs.Inner.{Holds, TwoSides}
+use Rattle.store.specs.Inner.{Holds}
+use Rattle.store_sides.specs.Inner.{TwoSides}
 use Rattle.store.proofs.Held.{at-0, top-leaf, top-node, top-at, within, entry, at-node}
 
 module _ (nodes : List ℕ) (n p level : ℕ) (lp : p ≤ n + 1) (some : 0 < level) where
   low : {B : List Family} {lookup : List ℕ} → Holds B n nodes lookup → topAt nodes p < level → Within (level - 1) (at B p)

@@ -4,9 +4,10 @@ use Prim.Native.Nat.{ℕ}
 use mathlib.Core.Path.{_≡_}
 use mathlib.Core.List.{List}
 use Rattle.family.specs.Family.{Family}
-use Rattle.store.specs.declared.node.Sides.{Sides}
-use Rattle.store.specs.declared.node.Sides.the-variants.{Two, Broken}
-use Rattle.store.specs.Inner.{Holds, TwoSides, SidesOf, two, broken}
+use Rattle.store_sides.specs.declared.Sides.{Sides}
+use Rattle.store_sides.specs.declared.Sides.the-variants.{Two, Broken}
+use Rattle.store.specs.Inner.{Holds}
+use Rattle.store_sides.specs.Inner.{TwoSides, SidesOf, two, broken}
 
 pub sides-two : {nodes : List ℕ} {n p level z o zt ot : ℕ} {x : Sides} → x ≡ Two z o zt ot → SidesOf nodes n p level x → TwoSides nodes n p level z o zt ot
 sides-two e S = out (rw e at S)

@@ -1,10 +1,10 @@
 -- `top_of` reads the item of a node's words, and 0 for the two terminals.
 -- Its test is the definition's.
 use mathlib.Core.Path.{sym}
 use Rattle.store.proofs.Held.{top-leaf, top-node}
 use borrow.Author.Needs.{needs}
-use Rattle.store.proofs.node.top_of.Statement.{statement}
-use Rattle.store.proofs.node.top_of.Tie as tie
+use Rattle.store_sides.proofs.top_of.Statement.{statement}
+use Rattle.store_sides.proofs.top_of.Tie as tie
 
 returns : tie.Need-returns
 returns c = sym (top-leaf _ _ (c .if1 .taken))

@@ -1,0 +1,3 @@
+-- The laws of the two sides.
+pub mod Cofactors
+pub mod Answers

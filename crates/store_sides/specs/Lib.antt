@@ -1,0 +1,2 @@
+-- What the contracts of `store_sides` cite.
+pub mod Inner
