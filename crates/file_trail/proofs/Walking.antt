@@ -18,8 +18,8 @@ use Rattle.words.proofs.Cases.{by-lt}
 use Rattle.store_sides.specs.declared.Sides.{Sides}
 use Rattle.store_sides.specs.declared.Sides.the-variants.{Two, Broken}
 use Rattle.store.specs.Words.{itemLimit, topAt}
-use Rattle.store.specs.Inner.{Holds, two as two-sides, broken as no-sides}
-use Rattle.store_sides.specs.Inner.{TwoSides, SidesOf}
+use Rattle.store.specs.Inner.{Holds}
+use Rattle.store_sides.specs.Inner.{TwoSides, SidesOf, two as two-sides, broken as no-sides}
 use Rattle.store.proofs.Held.{top-at, top-node, within, held, at-node}
 use Rattle.file_trail.specs.declared.trail.Trail.{Trail}
 use Rattle.file_trail.specs.declared.walk.Walked.{Walked}
