@@ -14,7 +14,7 @@ use Rattle.family.specs.Book.{start, at}
 use Rattle.family.specs.Record.{front, readNumber}
 use Rattle.family.specs.File.{andThen, readRecords, lastOf, readParts, familyOf}
 use Rattle.store.specs.Words.{itemLimit}
-use Rattle.file_record.proofs.Taking.{number-short}
+use Rattle.file_parse.proofs.Taking.{number-short}
 use Rattle.file_read.specs.declared.file.Content.{Content}
 use Rattle.file_read.specs.declared.file.Content.the-variants.{Leaf, Parts, Bad}
 use Rattle.file_read.specs.Inner.{Table, own, no-records, no-order, TableOf, Holding, holds-leaf, holds-parts, holds-none, ContentOf}

@@ -16,9 +16,9 @@ use Rattle.family.specs.File.{fits, readRecords}
 use Rattle.store.specs.Words.{itemLimit}
 use Rattle.file_record.specs.declared.field.Last.{Last}
 use Rattle.file_record.specs.declared.field.Part.{Part}
-use Rattle.file_record.specs.declared.read.Record.{Record}
-use Rattle.file_record.specs.declared.read.Record.the-variants.{Taken, Bad}
-use Rattle.file_record.specs.Inner.{RecordOf}
+use Rattle.file_parse.specs.declared.Record.{Record}
+use Rattle.file_parse.specs.declared.Record.the-variants.{Taken, Bad}
+use Rattle.file_parse.specs.Inner.{RecordOf}
 use Rattle.file_read.specs.Inner.{whole, none-such, RecordsOf}
 use Rattle.file_table.specs.Inner.{Local, PartTaken, fit, unfit, TakeOf}
 

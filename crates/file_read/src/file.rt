@@ -7,7 +7,7 @@ ghost use Rattle.file_read.specs.Inner.{RecordsRoom, TableOf, ContentOf}
 use crate::order::Order;
 use crate::order::in_order;
 use crate::read::read_records;
-use file_record::read::read_number;
+use file_parse::read_number;
 use words::zero;
 
 // What a file holds: {} or {{}} by its handle, so many parts in the local table, or no family.

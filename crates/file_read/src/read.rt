@@ -2,9 +2,9 @@
 ghost use Rattle.family.specs.Book.{start};
 ghost use Rattle.file_read.specs.Inner.{RecordsRoom, RecordsOf};
 ghost use Rattle.file_table.specs.Inner.{Local};
+use file_parse::Record;
+use file_parse::read_record;
 use file_record::field::Last;
-use file_record::read::Record;
-use file_record::read::read_record;
 use file_table::take_part;
 
 // Takes so many records, each from the rest of the bytes; false where one is none, or bytes are left over.

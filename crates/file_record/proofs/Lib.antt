@@ -1,3 +1,2 @@
--- The laws of reading and writing records.
-pub mod Taking
+-- The laws of writing records.
 pub mod Laying

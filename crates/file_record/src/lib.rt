@@ -1,4 +1,3 @@
-// The record of a part in a file: its fields, one record written, one read.
+// The record of a part in a file: its fields, one record written.
 pub mod field;
-pub mod read;
 pub mod write;

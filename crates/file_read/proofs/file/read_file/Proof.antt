@@ -3,7 +3,7 @@
 use borrow.Author.Needs.{needs}
 use mathlib.Core.Path.{refl}
 use native.Mathlib.Omega.{arith}
-use Rattle.file_record.proofs.Taking.{part-from}
+use Rattle.file_parse.proofs.Taking.{part-from}
 use Rattle.file_read.proofs.Contents.{file-none, file-rest, file-over, file-leaf, file-other}
 use borrow.Author.Needs.{needs}
 use Rattle.file_read.proofs.file.read_file.Statement.{statement}

@@ -5,7 +5,7 @@ use native.Mathlib.Omega.{arith}
 use borrow.Author.Tests.{not-true, not-false}
 use lib.ListN.{drop}
 use Rattle.file_read.proofs.Tables.{table-part}
-use Rattle.file_record.proofs.Taking.{part-from}
+use Rattle.file_parse.proofs.Taking.{part-from}
 use Rattle.file_read.proofs.Contents.{file-short, file-zero, file-many, file-unread, file-parts}
 use borrow.Author.Needs.{needs}
 use Rattle.file_read.proofs.file.read_parts.Statement.{statement}

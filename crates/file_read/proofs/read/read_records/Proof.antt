@@ -5,7 +5,7 @@ use mathlib.Core.Path.{_∙_}
 use Prim.Native.Nat.{_-_}
 use native.Mathlib.Omega.{arith}
 use borrow.Author.Tests.{not-true, not-false}
-use Rattle.file_record.proofs.Taking.{part-from}
+use Rattle.file_parse.proofs.Taking.{part-from}
 use Rattle.file_read.proofs.Recording.{RecordsTaken, taken-start, taken-none, taken-room, taken-fits, taken-unfit, taken-step, taken-done}
 use Rattle.file_read.proofs.read.read_records.Statement.{statement}
 use Rattle.file_read.proofs.read.read_records.Tie as tie

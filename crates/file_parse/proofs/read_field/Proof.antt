@@ -3,9 +3,9 @@
 use borrow.Author.Needs.{needs}
 use borrow.Author.Tests.{not-true, not-false}
 use native.Mathlib.Omega.{arith}
-use Rattle.file_record.proofs.Taking.{field-off, field-short, field-same, field-value}
-use Rattle.file_record.proofs.read.read_field.Statement.{statement}
-use Rattle.file_record.proofs.read.read_field.Tie as tie
+use Rattle.file_parse.proofs.Taking.{field-off, field-short, field-same, field-value}
+use Rattle.file_parse.proofs.read_field.Statement.{statement}
+use Rattle.file_parse.proofs.read_field.Tie as tie
 
 returns : tie.Need-returns
 returns c = search (field-off, not-true)

@@ -2,9 +2,9 @@
 -- Each turn puts one more byte before those read, and the number of so many bytes stays within 32 bits.
 use borrow.Author.Needs.{needs}
 use native.Mathlib.Omega.{arith}
-use Rattle.file_record.proofs.Taking.{BytesRead, number-start, number-room, number-step, number-done}
-use Rattle.file_record.proofs.read.read_number.Statement.{statement}
-use Rattle.file_record.proofs.read.read_number.Tie as tie
+use Rattle.file_parse.proofs.Taking.{BytesRead, number-start, number-room, number-step, number-done}
+use Rattle.file_parse.proofs.read_number.Statement.{statement}
+use Rattle.file_parse.proofs.read_number.Tie as tie
 
 abbrev Inv-loop : tie.InvT-loop
 Inv-loop bytes width value₀ left₀ value left = BytesRead bytes width left value

@@ -4,9 +4,9 @@ ghost use mathlib.Core.Option.{some};
 ghost use Prim.Native.Nat.{_+_, _*_, _≤_, _<_};
 ghost use lib.ListN.{length, drop};
 ghost use Rattle.family.specs.Record.{front, readNumber};
-ghost use Rattle.file_record.specs.Inner.{FieldOf, FieldsOf, RecordOf};
-use crate::field::Last;
-use crate::field::Part;
+ghost use Rattle.file_parse.specs.Inner.{FieldOf, FieldsOf, RecordOf};
+use file_record::field::Last;
+use file_record::field::Part;
 
 // A byte as a wider number.
 fn wide(byte: u8) -> u32

@@ -7,12 +7,12 @@ use mathlib.Core.List.{List}
 use mathlib.Core.Option.{none, some}
 use lib.ListN.{length, drop}
 use Rattle.family.specs.Record.{front, triple, readField, bit1, bit2, bit4, readFields, readRecord}
 use Rattle.file_record.specs.declared.field.Last.{Last}
 use Rattle.file_record.specs.declared.field.Part.{Part}
-use Rattle.file_record.specs.declared.read.Field.{Field}
-use Rattle.file_record.specs.declared.read.Field.the-variants.{Value, Bad}
-use Rattle.file_record.specs.declared.read.Record.{Record}
-use Rattle.file_record.specs.declared.read.Record.the-variants.{Taken, Bad as NoRecord}
+use Rattle.file_parse.specs.declared.Field.{Field}
+use Rattle.file_parse.specs.declared.Field.the-variants.{Value, Bad}
+use Rattle.file_parse.specs.declared.Record.{Record}
+use Rattle.file_parse.specs.declared.Record.the-variants.{Taken, Bad as NoRecord}
 
 -- a field of n bytes
 pub data FieldOf (n : ℕ) (stands : Bool) (other : ℕ) (bytes : List ℕ) : Field → Type 0 where

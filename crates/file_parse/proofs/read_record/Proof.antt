@@ -1,10 +1,10 @@
 -- `read_record` reads the bit map byte and the fields behind it.
 -- Each way out is one branch of the definition.
 use native.Mathlib.Omega.{arith}
-use Rattle.file_record.proofs.Taking.{part-from, fields-read, record-end, record-map, record-no, record-taken}
+use Rattle.file_parse.proofs.Taking.{part-from, fields-read, record-end, record-map, record-no, record-taken}
 use borrow.Author.Needs.{needs}
-use Rattle.file_record.proofs.read.read_record.Statement.{statement}
-use Rattle.file_record.proofs.read.read_record.Tie as tie
+use Rattle.file_parse.proofs.read_record.Statement.{statement}
+use Rattle.file_parse.proofs.read_record.Tie as tie
 
 returns : tie.Need-returns
 returns c = search record-end

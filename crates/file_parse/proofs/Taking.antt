@@ -12,13 +12,13 @@ use lib.ListN.{length, getD, take, drop, length-drop}
 use lib.Seq.{take-all, drop-drop, drop-cons}
 use borrow.Author.Tests.{eq-eqb, ne-eqb, lt-ltb, le-ltb}
 use Rattle.family.specs.Record.{Front, front, Triple, triple, readNumber, readField, bit1, bit2, bit4, readFields, readRecord}
 use Rattle.file_record.specs.declared.field.Last.{Last}
 use Rattle.file_record.specs.declared.field.Part.{Part}
-use Rattle.file_record.specs.declared.read.Field.{Field}
-use Rattle.file_record.specs.declared.read.Field.the-variants.{Value, Bad}
-use Rattle.file_record.specs.declared.read.Record.{Record}
-use Rattle.file_record.specs.declared.read.Record.the-variants.{Taken, Bad as NoRecord}
-use Rattle.file_record.specs.Inner.{FieldOf, value, bad, FieldsOf, RecordOf}
+use Rattle.file_parse.specs.declared.Field.{Field}
+use Rattle.file_parse.specs.declared.Field.the-variants.{Value, Bad}
+use Rattle.file_parse.specs.declared.Record.{Record}
+use Rattle.file_parse.specs.declared.Record.the-variants.{Taken, Bad as NoRecord}
+use Rattle.file_parse.specs.Inner.{FieldOf, value, bad, FieldsOf, RecordOf}
 
 -- a part lent from a place on
 pub part-from : (l : List ℕ) (a : ℕ) → take (length l - a) (drop a l) ≡ drop a l

@@ -2,10 +2,10 @@
 -- Each way out is one branch of the definition.
 use native.Mathlib.Omega.{arith}
 use native.Mathlib.Numerals.{add-one}
-use Rattle.file_record.proofs.Taking.{part-from, field-read, fields-no-item, fields-no-zero, fields-reach, fields-no-one, fields-taken}
+use Rattle.file_parse.proofs.Taking.{part-from, field-read, fields-no-item, fields-no-zero, fields-reach, fields-no-one, fields-taken}
 use borrow.Author.Needs.{needs}
-use Rattle.file_record.proofs.read.fields.Statement.{statement}
-use Rattle.file_record.proofs.read.fields.Tie as tie
+use Rattle.file_parse.proofs.fields.Statement.{statement}
+use Rattle.file_parse.proofs.fields.Tie as tie
 
 add-read-field : tie.Need-add-read-field
 add-read-field c = omega (arith, (c .before .before) .pre)

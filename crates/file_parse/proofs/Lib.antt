@@ -1,0 +1,2 @@
+-- The laws of reading records.
+pub mod Taking

@@ -1,0 +1,2 @@
+-- What the contracts of `file_parse` cite.
+pub mod Inner
