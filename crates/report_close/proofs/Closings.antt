@@ -37,16 +37,17 @@ use Rattle.report_line.specs.declared.Side.{Side}
 use Rattle.report_line.specs.declared.Stage.{Stage}
 use Rattle.report_line.proofs.Stage.{the-type as the-stage}
 use Rattle.report_close.specs.declared.FourHandles.{FourHandles}
-use Rattle.report_log.specs.declared.tally.Ending.{Ending}
-use Rattle.report_log.specs.declared.tally.Ending.the-variants.{Going}
-use Rattle.report_log.proofs.tally.Ending.{the-type as the-ending}
-use Rattle.report_log.specs.declared.tally.Tally.{Tally}
+use Rattle.report_tally.specs.declared.Ending.{Ending}
+use Rattle.report_tally.specs.declared.Ending.the-variants.{Going}
+use Rattle.report_tally.proofs.Ending.{the-type as the-ending}
+use Rattle.report_tally.specs.declared.Tally.{Tally}
 use Rattle.report_line.specs.Line.{progressOf}
 use Rattle.report_add.specs.Promise.{Added, called, After}
 use Rattle.report_text.specs.Text.{reportFull, lineText, sumsText}
 use Rattle.report_text.specs.Promise.{Wrote}
-use Rattle.report_log.specs.Log.{Log, capped, closing, lastLine, endOf, outputOf}
-use Rattle.report_log.specs.Promise.{Keeps}
+use Rattle.report_tally.specs.Log.{Log, capped}
+use Rattle.report_tally.specs.Promise.{Keeps}
+use Rattle.report_log.specs.Log.{closing, lastLine, endOf, outputOf}
 use Rattle.report_close.specs.Promise.{CloseCall}
 use Rattle.report_close.specs.Inner.{SizeIt, SizesIt, SumsIt, endText, EndIs}
 use Rattle.report_add.proofs.Placings.{combine-after}

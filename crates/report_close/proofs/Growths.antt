@@ -18,11 +18,12 @@ use Rattle.family.proofs.Finite.{single-falls, single-size}
 use Rattle.query_sizes.specs.NodeSizes.{most}
 use Rattle.report_line.specs.declared.Side.{Side}
 use Rattle.report_line.specs.declared.Side.the-variants.{Passed, Returned}
-use Rattle.report_log.specs.declared.tally.Ending.{Ending}
-use Rattle.report_log.specs.declared.tally.Ending.the-variants.{Going, Refused, Full}
+use Rattle.report_tally.specs.declared.Ending.{Ending}
+use Rattle.report_tally.specs.declared.Ending.the-variants.{Going, Refused, Full}
 use Rattle.report_line.specs.Line.{Progress, blank, letter, space, numeral, whole, malformed, gap, isDigit, closed, advance, LineState, begin, nextByte, lineOf}
 use Rattle.report_add.specs.Promise.{Added, added}
-use Rattle.report_log.specs.Log.{ofSide, putSide, lotAfter, takeLine, Log, opening, counted, readOn, whileGoing, logByte, feed, capped}
+use Rattle.report_tally.specs.Log.{Log, opening, capped}
+use Rattle.report_log.specs.Log.{ofSide, putSide, lotAfter, takeLine, counted, readOn, whileGoing, logByte, feed}
 use Rattle.report_log.proofs.Logs.{side-full, side-more}
 use Rattle.report_close.proofs.Meanings.{added-single, union-size, intsec-size, diff-size}
 

@@ -11,11 +11,12 @@ use borrow.Author.Tests.{ne-eqb}
 use Rattle.words.proofs.Cases.{by-test, by-eq}
 use Rattle.family.specs.Combination.{insert, isFree}
 use Rattle.report_line.specs.declared.Side.{Side}
-use Rattle.report_log.specs.declared.tally.Ending.{Ending}
-use Rattle.report_log.specs.declared.tally.Ending.the-variants.{Going, Refused, Full}
+use Rattle.report_tally.specs.declared.Ending.{Ending}
+use Rattle.report_tally.specs.declared.Ending.the-variants.{Going, Refused, Full}
 use Rattle.report_line.specs.Line.{Progress, blank, letter, space, numeral, whole, malformed, gap, isDigit, advance, LineState, begin, nextByte, lineOf}
 use Rattle.report_text.specs.Text.{lineText, refusedWord}
-use Rattle.report_log.specs.Log.{LineTaken, takeLine, Log, opening, counted, readOn, whileGoing, logByte, feed, capped, lastLine, endOf, outputOf}
+use Rattle.report_tally.specs.Log.{Log, opening, capped}
+use Rattle.report_log.specs.Log.{LineTaken, takeLine, counted, readOn, whileGoing, logByte, feed, lastLine, endOf, outputOf}
 use Rattle.report_close.specs.Report.{onto, linesOf, nextLine, onLine, reportFrom, reportOf}
 
 -- a newline ends a line

@@ -9,12 +9,13 @@ use Rattle.store.specs.declared.record.Store.{Store}
 use Rattle.store.specs.Words.{bookOf}
 use Rattle.store.specs.Sound.{Sound}
 use Rattle.report_close.specs.declared.FourHandles.{FourHandles}
-use Rattle.report_log.specs.declared.tally.Ending.{Ending}
-use Rattle.report_log.specs.declared.tally.Ending.the-variants.{Going, Refused, Full}
-use Rattle.report_log.specs.declared.tally.Tally.{Tally}
+use Rattle.report_tally.specs.declared.Ending.{Ending}
+use Rattle.report_tally.specs.declared.Ending.the-variants.{Going, Refused, Full}
+use Rattle.report_tally.specs.declared.Tally.{Tally}
 use Rattle.report_text.specs.Text.{refusedWord, fullWord, lineText, sumsText}
-use Rattle.report_log.specs.Log.{Log, capped, closing, outputOf}
-use Rattle.report_log.specs.Promise.{Keeps}
+use Rattle.report_tally.specs.Log.{Log, capped}
+use Rattle.report_tally.specs.Promise.{Keeps}
+use Rattle.report_log.specs.Log.{closing, outputOf}
 
 -- the size of a handle that is held, with enough scratch
 pub record SizeIt (s : Store) (nodes lookup : List ℕ) (p words r : ℕ) : Type 0 where

@@ -3,9 +3,10 @@ use Prim.Native.Nat.{ℕ, _≤_}
 use mathlib.Core.Path.{_≡_}
 use mathlib.Core.List.{List}
 use lib.ListN.{length, take}
-use Rattle.report_log.specs.declared.tally.Tally.{Tally}
-use Rattle.report_log.specs.Log.{Log, outputOf}
-use Rattle.report_log.specs.Promise.{Keeps}
+use Rattle.report_tally.specs.declared.Tally.{Tally}
+use Rattle.report_tally.specs.Log.{Log}
+use Rattle.report_tally.specs.Promise.{Keeps}
+use Rattle.report_log.specs.Log.{outputOf}
 
 -- `close`: what is written is what the log's end prints; the scratch has a word for each node of the capacity.
 pub record CloseCall (t : Tally) (nodes lookup cache sizes : List ℕ) (r : ℕ) (out′ : List ℕ) : Type 0 where

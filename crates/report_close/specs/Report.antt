@@ -7,7 +7,8 @@ use Rattle.family.specs.Family.{empty}
 use Rattle.family.specs.Book.{start}
 use Rattle.report_line.specs.Line.{Progress, blank, letter, space, numeral, whole, malformed, lineOf}
 use Rattle.report_text.specs.Text.{lineText, refusedWord, fullWord}
-use Rattle.report_log.specs.Log.{Lot, LineTaken, takeLine, capped, closing}
+use Rattle.report_tally.specs.Log.{Lot, capped}
+use Rattle.report_log.specs.Log.{LineTaken, takeLine, closing}
 
 -- The lines of an input, each with its newline; what stands behind the last newline, where anything does, is a line
 -- too.

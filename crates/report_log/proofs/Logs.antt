@@ -1,7 +1,7 @@
 -- A log taken byte by byte: what each function leaves keeps the log that the definitions name.
 -- Families held before a call keep their handles, so the other family's handle stays; the rest is by the tally's
 -- fields.
-use Prim.Native.Nat.{ℕ, suc, _+_, _-_, _*_, _/_, _≤_, _<_}
+use Prim.Native.Nat.{ℕ, suc, _+_, _≤_, _<_}
 use mathlib.Core.Path.{_≡_, refl, sym, ap, subst, _∙_}
 use mathlib.Core.Bool.{true, false}
 use mathlib.Core.List.{List, [], _∷_, foldl-append}
@@ -13,65 +13,33 @@ use denote.Enum.Declared.{tagOf}
 use Rattle.family.specs.Family.{Family}
 use Rattle.family.specs.Operation.{union}
 use Rattle.family.specs.Combination.{itemsOf}
-use Rattle.family.specs.Book.{start, at, Grown}
+use Rattle.family.specs.Book.{at, Grown}
 use Rattle.family.proofs.Books.{grown-at, grown-length}
-use Rattle.words.specs.Words.{zeroed}
 use Rattle.store.specs.declared.record.Store.{Store}
 use Rattle.store.specs.declared.record.Refusal.{Refusal}
 use Rattle.store.specs.declared.record.PlaceAnswer.the-variants.{Handle, Refused as NoHandle}
 use Rattle.store.specs.declared.record.Placed.{Placed}
-use Rattle.store_fresh.specs.declared.Freshened.{Freshened}
-use Rattle.store.specs.Capacity.{capacityOf}
 use Rattle.store.specs.Words.{bookOf}
 use Rattle.store.specs.Sound.{Sound}
-use Rattle.store_fresh.specs.Promise.{FreshCall}
-use Rattle.store_fresh.proofs.Freshly.{fresh-is}
 use Rattle.store.proofs.Decoding.{sound-holds}
-use Rattle.store.proofs.Sounds.{fresh-sound}
 use Rattle.report_line.specs.declared.Side.{Side}
 use Rattle.report_line.specs.declared.Side.the-variants.{Passed, Returned}
 use Rattle.report_line.specs.declared.Stage.{Stage}
 use Rattle.report_line.proofs.Stage.{the-type as the-stage}
 use Rattle.report_line.specs.declared.Reading.{Reading}
-use Rattle.report_log.specs.declared.tally.Ending.{Ending}
-use Rattle.report_log.specs.declared.tally.Ending.the-variants.{Going, Refused, Full}
-use Rattle.report_log.specs.declared.tally.Tally.{Tally}
-use Rattle.report_log.proofs.tally.Ending.{the-type as the-ending}
+use Rattle.report_tally.specs.declared.Ending.{Ending}
+use Rattle.report_tally.specs.declared.Ending.the-variants.{Going, Refused, Full}
+use Rattle.report_tally.specs.declared.Tally.{Tally}
+use Rattle.report_tally.proofs.Ending.{the-type as the-ending}
 use Rattle.report_line.specs.Line.{LineState, begin, nextByte, progressOf, stateOf}
 use Rattle.report_add.specs.Promise.{Added, lineMade, added, After, AddCall}
-use Rattle.report_log.specs.Log.{ofSide, putSide, lotAfter, Log, opening, counted, readOn, whileGoing, logByte, feed, capped}
-use Rattle.report_log.specs.Promise.{Keeps, OpenCall, TakeCall}
-use Rattle.report_log.specs.Inner.{TallyIs, ReadOnIs, sideHandle, passedWith, returnedWith, LineEnd, LineIt}
+use Rattle.report_tally.specs.Log.{Log, capped}
+use Rattle.report_tally.specs.Promise.{Keeps}
+use Rattle.report_tally.specs.Inner.{TallyIs, ReadOnIs}
+use Rattle.report_log.specs.Log.{ofSide, putSide, lotAfter, counted, readOn, whileGoing, logByte, feed}
+use Rattle.report_log.specs.Promise.{TakeCall}
+use Rattle.report_log.specs.Inner.{sideHandle, passedWith, returnedWith, LineEnd, LineIt}
 use Rattle.report_add.proofs.Makings.{gives, refused-full, next-grown, made-grown}
-
--- opening
-pub opened : {nodes lookup cache : List ℕ} {f : Freshened} {nodes′ lookup′ cache′ : List ℕ} → FreshCall nodes lookup cache f nodes′ lookup′ cache′ → {s : Store} {p q n : ℕ} {e : Ending} {t : Tally}
-    → f .store ≡ s → p ≡ 0 → q ≡ 0 → n ≡ 0 → e ≡ Going → TallyIs s p q n e t → OpenCall nodes lookup t nodes′ lookup′ cache′
-unfolding bookOf
-opened {nodes} {lookup} {cache} {f} {nodes′} {lookup′} {cache′} C {s} {p} {q} {n} {e} {t} es ep eq en ee T = record { keeps = go }
-  where
-    go : 3 ≤ length nodes → capacityOf (length nodes) + 1 ≤ length lookup → Keeps (capacityOf (length nodes)) t nodes′ lookup′ cache′ opening
-    go l h =
-        let L = C .leaves-is ∙ fresh-is nodes lookup cache l (omega arith) in
-        let x : t .store ≡ record { capacity = capacityOf (length nodes); count = 0 } = T .store-is ∙ sym es ∙ ap (λ y. y .store) L in
-        let en : nodes′ ≡ zeroed 0 (3 * capacityOf (length nodes)) nodes = ap (λ y. y .nodes) L in
-        let el : lookup′ ≡ zeroed 0 (length lookup) lookup = ap (λ y. y .lookup) L in
-        let ec : cache′ ≡ zeroed 0 (length cache / 4 * 4) cache = ap (λ y. y .cache) L in
-        record {
-          sound = rw (x, en, el, ec) (fresh-sound nodes lookup cache (omega arith));
-          capacity-is = ap (λ y. y .capacity) x;
-          book-is = ap (λ y. bookOf nodes′ (y .count)) x;
-          passed-held = omega (arith, T .passed-is);
-          passed-is = ap (λ y. at (bookOf nodes′ (y .count)) (t .passed)) x ∙ ap (λ k. at start k) (T .passed-is ∙ ep);
-          returned-held = omega (arith, T .returned-is);
-          returned-is = ap (λ y. at (bookOf nodes′ (y .count)) (t .returned)) x ∙ ap (λ k. at start k) (T .returned-is ∙ eq);
-          lines-is = T .lines-is ∙ en₀;
-          line-is = T .line-is;
-          ending-is = T .ending-is ∙ ee;
-        }
-      where
-        en₀ : n ≡ capped 0
-        en₀ = en
 
 -- the line read on, the lot as it was
 read-keeps : {capacity : ℕ} {t : Tally} {nodes lookup cache : List ℕ} {g : Log} → Keeps capacity t nodes lookup cache g → {s : LineState} {next : Reading} {e : Ending} {r : Tally}

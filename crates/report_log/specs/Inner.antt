@@ -1,36 +1,14 @@
 -- What the functions below `take_piece` promise each other. A reader of the promises can pass this page over.
 use Prim.Native.Nat.{ℕ}
-use mathlib.Core.Path.{_≡_}
 use mathlib.Core.List.{List}
-use Rattle.store.specs.declared.record.Store.{Store}
 use Rattle.store.specs.declared.record.Placed.{Placed}
 use Rattle.report_line.specs.declared.Side.{Side}
 use Rattle.report_line.specs.declared.Side.the-variants.{Passed, Returned}
-use Rattle.report_line.specs.declared.Reading.{Reading}
-use Rattle.report_log.specs.declared.tally.Ending.{Ending}
-use Rattle.report_log.specs.declared.tally.Tally.{Tally}
+use Rattle.report_tally.specs.declared.Tally.{Tally}
 use Rattle.report_add.specs.Promise.{AddCall}
-use Rattle.report_line.specs.Line.{begin, stateOf}
-use Rattle.report_log.specs.Log.{Log, takeLine, counted}
-use Rattle.report_log.specs.Promise.{Keeps}
-
--- a tally by its fields, behind the end of a line
-pub record TallyIs (s : Store) (passed returned lines : ℕ) (e : Ending) (t : Tally) : Type 0 where
-  pub store-is : t .store ≡ s
-  pub passed-is : t .passed ≡ passed
-  pub returned-is : t .returned ≡ returned
-  pub lines-is : t .lines ≡ lines
-  pub line-is : stateOf (t .reading) ≡ begin
-  pub ending-is : t .ending ≡ e
-
--- a tally by its fields, with its line read on
-pub record ReadOnIs (t : Tally) (reading : Reading) (e : Ending) (r : Tally) : Type 0 where
-  pub store-is : r .store ≡ t .store
-  pub passed-is : r .passed ≡ t .passed
-  pub returned-is : r .returned ≡ t .returned
-  pub lines-is : r .lines ≡ t .lines
-  pub reading-is : r .reading ≡ reading
-  pub ending-is : r .ending ≡ e
+use Rattle.report_tally.specs.Log.{Log}
+use Rattle.report_tally.specs.Promise.{Keeps}
+use Rattle.report_log.specs.Log.{takeLine, counted}
 
 -- a whole line taken
 pub record LineIt (t : Tally) (nodes lookup cache : List ℕ) (d : Side) (c : List ℕ) (r : Tally) (nodes′ lookup′ cache′ : List ℕ) : Type 0 where

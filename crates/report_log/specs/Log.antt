@@ -1,24 +1,17 @@
 -- A log taken byte by byte, and what the program prints at its end: document 01, 'Report program'.
-use Prim.Native.Nat.{ℕ, suc, min}
+use Prim.Native.Nat.{ℕ, suc}
 use mathlib.Core.Bool.{Bool, cond}
 use mathlib.Core.List.{List, foldl}
-use Rattle.family.specs.Family.{Family, empty, size}
+use Rattle.family.specs.Family.{Family, size}
 use Rattle.family.specs.Operation.{intsec, diff}
-use Rattle.family.specs.Book.{start}
-use Rattle.query_sizes.specs.NodeSizes.{most}
 use Rattle.report_line.specs.declared.Side.{Side}
 use Rattle.report_line.specs.declared.Side.the-variants.{Passed, Returned}
-use Rattle.report_log.specs.declared.tally.Ending.{Ending}
-use Rattle.report_log.specs.declared.tally.Ending.the-variants.{Going, Refused, Full}
+use Rattle.report_tally.specs.declared.Ending.{Ending}
+use Rattle.report_tally.specs.declared.Ending.the-variants.{Going, Refused, Full}
 use Rattle.report_line.specs.Line.{Progress, blank, letter, space, numeral, whole, malformed, LineState, begin, nextByte}
+use Rattle.report_tally.specs.Log.{Lot, Log, capped}
 use Rattle.report_add.specs.Promise.{Added, called, added}
 use Rattle.report_text.specs.Text.{lineText, refusedWord, fullWord, reportFull, sumsText}
-
--- the book of the store, and "the passed family P, the returned R"
-pub record Lot : Type 0 where
-  pub book : List Family
-  pub passed : Family
-  pub returned : Family
 
 -- a lot after one more line, or after a line that found the store full
 pub record LineTaken : Type 0 where
@@ -40,16 +33,6 @@ lotAfter d l a = record { full = a .full; lot = putSide d l (a .book) (cond (a .
 
 abbrev pub takeLine : ℕ → Lot → Side → List ℕ → LineTaken
 takeLine capacity l d c = lotAfter d l (added capacity (l .book) (ofSide d l) c)
-
--- A log: the lot, the number of lines taken, the line begun, and whether it goes on.
-pub record Log : Type 0 where
-  pub lot : Lot
-  pub lines : ℕ
-  pub line : LineState
-  pub ending : Ending
-
-abbrev pub opening : Log
-opening = record { lot = record { book = start; passed = empty; returned = empty }; lines = 0; line = begin; ending = Going }
 
 -- the log after a whole line
 abbrev pub counted : Log → LineTaken → Log
@@ -75,11 +58,6 @@ logByte capacity g b = whileGoing (g .ending) (readOn capacity g (nextByte (g .l
 
 abbrev pub feed : ℕ → Log → List ℕ → Log
 feed capacity g bytes = foldl (logByte capacity) g bytes
-
--- a number as 64 bits hold it. Of an input of at most 18,446,744,073,709,551,615 lines every number is at most that,
--- and so exact.
-abbrev pub capped : ℕ → ℕ
-capped n = min n most
 
 -- "the size of the passed family P, the returned R, Intsec(P, R) and Diff(R, P)", or "`report full` in the closing
 -- sums"

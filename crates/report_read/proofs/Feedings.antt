@@ -19,9 +19,11 @@ use borrow.Author.Tests.{le-ltb}
 use Rattle.words.proofs.Cases.{by-lt, clash}
 use Rattle.io.specs.Counts.{clamped}
 use Rattle.libc.specs.Io.{Moved}
-use Rattle.report_log.specs.declared.tally.Tally.{Tally}
-use Rattle.report_log.specs.Log.{Log, opening, logByte, feed}
-use Rattle.report_log.specs.Promise.{Keeps, TakeCall}
+use Rattle.report_tally.specs.declared.Tally.{Tally}
+use Rattle.report_tally.specs.Log.{Log, opening}
+use Rattle.report_tally.specs.Promise.{Keeps}
+use Rattle.report_log.specs.Log.{logByte, feed}
+use Rattle.report_log.specs.Promise.{TakeCall}
 use Rattle.report_read.specs.declared.Input.{Input}
 use Rattle.report_read.specs.declared.Input.the-variants.{More, Done, Failed}
 use Rattle.report_read.specs.declared.Fed.{Fed}

@@ -4,9 +4,10 @@ use mathlib.Core.List.{List, [], _∷_, _++_}
 use lib.IntN.{ℤ, pos, negsuc}
 use lib.ListN.{length, take}
 use Rattle.libc.specs.Io.{Moved}
-use Rattle.report_log.specs.declared.tally.Ending.{Ending}
-use Rattle.report_log.specs.declared.tally.Ending.the-variants.{Going, Refused, Full}
-use Rattle.report_log.specs.Log.{opening, feed}
+use Rattle.report_tally.specs.declared.Ending.{Ending}
+use Rattle.report_tally.specs.declared.Ending.the-variants.{Going, Refused, Full}
+use Rattle.report_tally.specs.Log.{opening}
+use Rattle.report_log.specs.Log.{feed}
 use Rattle.report_read.specs.declared.Input.{Input}
 use Rattle.report_read.specs.declared.Input.the-variants.{More, Done, Failed}
 

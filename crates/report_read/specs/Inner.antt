@@ -1,7 +1,7 @@
 -- What the functions below `read_all` promise each other. A reader of the promises can pass this page over.
 use Prim.Native.Nat.{ℕ}
 use mathlib.Core.List.{List}
-use Rattle.report_log.specs.declared.tally.Tally.{Tally}
+use Rattle.report_tally.specs.declared.Tally.{Tally}
 use Rattle.report_read.specs.declared.Fed.{Fed}
 use Rattle.report_read.specs.Answers.{ReadAnswer}
 use Rattle.report_read.specs.Promise.{ReadCall}

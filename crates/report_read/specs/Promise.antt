@@ -5,7 +5,7 @@ use mathlib.Core.Path.{_≡_}
 use mathlib.Core.List.{List, [], _∷_, _++_}
 use lib.IntN.{ℤ, pos, negsuc}
 use lib.ListN.{length, take}
-use Rattle.report_log.specs.declared.tally.Tally.{Tally}
+use Rattle.report_tally.specs.declared.Tally.{Tally}
 use Rattle.report_log.specs.Promise.{TakeCall}
 use Rattle.report_read.specs.declared.Input.the-variants.{More, Done, Failed}
 use Rattle.report_read.specs.declared.Fed.{Fed}

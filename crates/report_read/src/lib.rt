@@ -5,9 +5,9 @@ ghost use Rattle.libc.specs.Io.{Moved};
 ghost use Rattle.report_read.specs.Answers.{behind};
 ghost use Rattle.report_read.specs.Promise.{ReadCall, ReadAllCall};
 ghost use Rattle.report_read.specs.Inner.{OneRead};
-use report_log::taking::take_piece;
-use report_log::tally::Ending;
-use report_log::tally::Tally;
+use report_log::take_piece;
+use report_tally::Ending;
+use report_tally::Tally;
 
 // How the input stands: there may be more, no more is needed, or a read failed.
 pub enum Input {

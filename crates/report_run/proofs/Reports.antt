@@ -8,9 +8,10 @@ use lib.ListN.{length}
 use types.Run.{OneOf, miss}
 use denote.Enum.Declared.{tagOf}
 use Rattle.store.specs.Capacity.{capacityOf}
-use Rattle.report_log.specs.declared.tally.Tally.{Tally}
-use Rattle.report_log.specs.Log.{opening, feed}
-use Rattle.report_log.specs.Promise.{Keeps, OpenCall}
+use Rattle.report_tally.specs.declared.Tally.{Tally}
+use Rattle.report_tally.specs.Log.{opening}
+use Rattle.report_tally.specs.Promise.{Keeps, OpenCall}
+use Rattle.report_log.specs.Log.{feed}
 use Rattle.report_close.specs.Promise.{CloseCall}
 use Rattle.report_close.proofs.Reports.{log-report}
 use Rattle.report_read.specs.declared.Input.{Input}

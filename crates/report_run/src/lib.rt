@@ -3,9 +3,9 @@ ghost use Rattle.report_run.specs.Promise.{ReportCall};
 ghost use Rattle.report_run.specs.Inner.{Reported, HasReport, IsReport};
 use libc::STDOUT_FILENO;
 use report_close::close;
-use report_log::tally::open_log;
 use report_read::Input;
 use report_read::read_all;
+use report_tally::open_log;
 
 // Three words for each of 500 nodes.
 const NODE_WORDS: usize = 1500;

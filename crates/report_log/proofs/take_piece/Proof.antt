@@ -5,8 +5,8 @@ use Prim.Native.Nat.{_-_}
 use lib.ListN.{length}
 use native.Mathlib.Omega.{arith}
 use Rattle.report_log.proofs.Logs.{Taking, taking-start, taking-again, taking-end}
-use Rattle.report_log.proofs.taking.take_piece.Statement.{statement}
-use Rattle.report_log.proofs.taking.take_piece.Tie as tie
+use Rattle.report_log.proofs.take_piece.Statement.{statement}
+use Rattle.report_log.proofs.take_piece.Tie as tie
 
 abbrev Inv-loop : tie.InvT-loop
 Inv-loop nodes₀ lookup₀ cache₀ piece taken₀ i₀ nodes lookup cache taken i = Taking taken₀ nodes₀ lookup₀ cache₀ piece nodes lookup cache taken i

@@ -2,8 +2,8 @@
 -- The test tells which of the two is the smaller.
 use native.Mathlib.Omega.{arith}
 use borrow.Author.Needs.{needs}
-use Rattle.report_log.proofs.tally.bumped.Statement.{statement}
-use Rattle.report_log.proofs.tally.bumped.Tie as tie
+use Rattle.report_tally.proofs.bumped.Statement.{statement}
+use Rattle.report_tally.proofs.bumped.Tie as tie
 
 add-result : tie.Need-add-result
 add-result c = search needs

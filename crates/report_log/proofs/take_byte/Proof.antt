@@ -3,8 +3,8 @@
 use borrow.Author.Needs.{needs}
 use mathlib.Core.Path.{refl}
 use Rattle.report_log.proofs.Logs.{line-added, next-whole, next-read, next-going, byte-going, byte-ended}
-use Rattle.report_log.proofs.taking.take_byte.Statement.{statement}
-use Rattle.report_log.proofs.taking.take_byte.Tie as tie
+use Rattle.report_log.proofs.take_byte.Statement.{statement}
+use Rattle.report_log.proofs.take_byte.Tie as tie
 
 enum-told : tie.Need-enum-told
 enum-told c = search needs

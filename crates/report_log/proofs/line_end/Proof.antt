@@ -2,8 +2,8 @@
 -- one. The laws of `Logs` have one case for each way out.
 use borrow.Author.Needs.{needs}
 use Rattle.report_log.proofs.Logs.{end-full, end-more, end-at}
-use Rattle.report_log.proofs.taking.line_end.Statement.{statement}
-use Rattle.report_log.proofs.taking.line_end.Tie as tie
+use Rattle.report_log.proofs.line_end.Statement.{statement}
+use Rattle.report_log.proofs.line_end.Tie as tie
 
 enum-known-answer : tie.Need-enum-known-answer
 enum-known-answer c = search needs

@@ -2,8 +2,8 @@
 -- The next line has no byte yet; every field is what was handed in.
 use borrow.Author.Needs.{needs}
 use mathlib.Core.Path.{refl}
-use Rattle.report_log.proofs.tally.tally_of.Statement.{statement}
-use Rattle.report_log.proofs.tally.tally_of.Tie as tie
+use Rattle.report_tally.proofs.tally_of.Statement.{statement}
+use Rattle.report_tally.proofs.tally_of.Tie as tie
 
 new-requires : tie.Need-new-requires
 new-requires c κs = search needs

@@ -2,9 +2,9 @@
 -- What Fresh leaves is a sound store whose book is the first one.
 use borrow.Author.Needs.{needs}
 use mathlib.Core.Path.{refl}
-use Rattle.report_log.proofs.Logs.{opened}
-use Rattle.report_log.proofs.tally.open_log.Statement.{statement}
-use Rattle.report_log.proofs.tally.open_log.Tie as tie
+use Rattle.report_tally.proofs.Openings.{opened}
+use Rattle.report_tally.proofs.open_log.Statement.{statement}
+use Rattle.report_tally.proofs.open_log.Tie as tie
 
 fresh-requires : tie.Need-fresh-requires
 fresh-requires c κs = search needs

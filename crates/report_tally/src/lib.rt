@@ -1,9 +1,9 @@
 // A log so far: what is kept of it, and opening one.
 ghost use mathlib.Core.Path.{_≡_};
 ghost use Prim.Native.Nat.{suc};
-ghost use Rattle.report_log.specs.Log.{capped};
-ghost use Rattle.report_log.specs.Promise.{OpenCall};
-ghost use Rattle.report_log.specs.Inner.{TallyIs, ReadOnIs};
+ghost use Rattle.report_tally.specs.Log.{capped};
+ghost use Rattle.report_tally.specs.Promise.{OpenCall};
+ghost use Rattle.report_tally.specs.Inner.{TallyIs, ReadOnIs};
 use report_line::Reading;
 use store::record::Store;
 use store_fresh::empty;

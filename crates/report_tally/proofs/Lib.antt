@@ -1,0 +1,2 @@
+-- The laws of `report_tally`.
+pub mod Openings
