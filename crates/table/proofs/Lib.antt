@@ -1,4 +1,5 @@
 -- The laws of the unique table, lowest first.
+pub mod Held
 pub mod OwnSlots
 pub mod Starts
 pub mod Scan
