@@ -34,13 +34,13 @@ pub fn recall(cache: &[u32], count: u32, call: Call) -> Recalled
         return Recalled::Miss;
     }
     let at = 4 * group_of(call, groups);
-    if cache[at] != call.op {
-        return Recalled::Miss;
-    }
     if cache[at + 1] != call.p {
         return Recalled::Miss;
     }
     if cache[at + 2] != call.q {
+        return Recalled::Miss;
+    }
+    if cache[at] != call.op {
         return Recalled::Miss;
     }
     let result = cache[at + 3];

@@ -15,6 +15,9 @@ group-of-requires c κs = search needs
 mul-at : tie.Need-mul-at
 mul-at c = search needs
 
+add-if2 : tie.Need-add-if2
+add-if2 c = search needs
+
 mul-if2 : tie.Need-mul-if2
 mul-if2 c = search needs
 
@@ -35,9 +38,6 @@ shared-slice-read-if3 c = search needs
 
 returns-3 : tie.Need-returns-3
 returns-3 c = miss
-
-add-if4 : tie.Need-add-if4
-add-if4 c = search needs
 
 mul-if4 : tie.Need-mul-if4
 mul-if4 c = search needs
@@ -65,15 +65,16 @@ returns-5 c = miss
 
 returns-6 : tie.Need-returns-6
 returns-6 c =
+    let at-if4 : tie.Else4 = search in
     let at-if3 : tie.Else3 = search in
     let at-if2 : tie.Else2 = search in
     let at-group-of : tie.After-group-of = search in
     let g = at-group-of .group-of in
     hit {g = g .result} record {
       within = omega (arith, g .ensures);
-      op-is = at-if2 .if2 .left;
-      first-is = at-if3 .if3 .left;
-      second-is = (c .before .before) .if4 .left;
+      op-is = at-if4 .if4 .left;
+      first-is = at-if2 .if2 .left;
+      second-is = at-if3 .if3 .left;
       result-is = mathlib.Core.Path.refl;
     } (c .if5 .left)
 
@@ -84,6 +85,7 @@ recall-spec =
     returns
     group-of-requires
     mul-at
+    add-if2
     mul-if2
     shared-slice-read-if2
     returns-2
@@ -91,7 +93,6 @@ recall-spec =
     mul-if3
     shared-slice-read-if3
     returns-3
-    add-if4
     mul-if4
     shared-slice-read-if4
     returns-4
