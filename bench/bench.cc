@@ -1,8 +1,8 @@
-// The same lists of calls on this library and on CUDD's zero-suppressed diagrams, alternating, with the ratios and their spread.
+// The same lists of calls on this library, on an earlier build of it where one is given, and on CUDD's zero-suppressed diagrams, in
+// turn, with the ratios and their spread.
 #include <algorithm>
 #include <chrono>
 #include <cstdio>
-#include <cstring>
 #include <functional>
 #include <memory>
 #include <string>
@@ -11,7 +11,18 @@
 #include "packages.h"
 #include "workloads.h"
 
-static const int rounds = 5;
+static const size_t largest_capacity = 1000000;
+static const unsigned cudd_cache = 1 << 18;
+
+// The builds of this library that are timed: an earlier revision's first, where there is one. Their columns: times, and the newest's
+// by the eldest's.
+#ifdef BEFORE
+static const std::vector<const Library *> builds = {&before, &here};
+static const char *heads = " ms before | ms here | here by before |", *rule = "---|---|---|";
+#else
+static const std::vector<const Library *> builds = {&here};
+static const char *heads = " ms here |", *rule = "---|";
+#endif
 
 static double seconds(const std::function<void()> &work) {
     auto start = std::chrono::steady_clock::now();
@@ -19,46 +30,56 @@ static double seconds(const std::function<void()> &work) {
     return std::chrono::duration<double>(std::chrono::steady_clock::now() - start).count();
 }
 
-static double median(std::vector<double> v) {
-    std::sort(v.begin(), v.end());
-    return v[v.size() / 2];
+// Runs rounds for a second, 20 at least and 100 at most.
+static void rounds(const std::function<void()> &round) {
+    double spent = 0;
+    for (int i = 0; i < 20 || (i < 100 && spent < 1); i++) spent += seconds(round);
 }
 
-// What a workload came to: the members and the parts of its last family.
-struct Outcome {
-    uint64_t members;
-    size_t parts;
+static double smallest(const std::vector<double> &v) { return *std::min_element(v.begin(), v.end()); }
+static double largest(const std::vector<double> &v) { return *std::max_element(v.begin(), v.end()); }
+
+// What a package took in each round, and the members and parts of the family that it came to.
+struct Timed {
+    std::vector<double> seconds;
+    uint64_t members = 0;
+    size_t parts = 0;
+    double ms() const { return 1e3 * smallest(seconds); }
 };
 
-static const size_t capacity = 1000000;
-static const unsigned cudd_cache = 1 << 18;
+static void times(const std::vector<Timed> &ours) {
+    for (const Timed &t : ours) std::printf(" %.2f |", t.ms());
+    if (ours.size() > 1) std::printf(" %.2f |", ours.back().ms() / ours.front().ms());
+}
 
-static void row(const char *name, size_t cache_words, const std::vector<double> &ours, const std::vector<double> &theirs, Outcome a, Outcome b) {
-    std::vector<double> ratios;
-    for (size_t i = 0; i < ours.size(); i++) ratios.push_back(ours[i] / theirs[i]);
-    bool same = a.members == b.members && a.parts == b.parts;
-    std::printf("| %s | %zu | %.1f | %.1f | %.2f | %.2f to %.2f | %zu | %llu | %s |\n", name, cache_words, 1e3 * median(ours),
-                1e3 * median(theirs), median(ratios), *std::min_element(ratios.begin(), ratios.end()),
-                *std::max_element(ratios.begin(), ratios.end()), a.parts, (unsigned long long)a.members, same ? "yes" : "NO");
+static void row(const char *name, const Words &words, const std::vector<Timed> &ours, const Timed &cudd) {
+    bool same = true;
+    std::vector<double> speed;
+    for (const Timed &t : ours) same = same && t.members == cudd.members && t.parts == cudd.parts;
+    for (size_t i = 0; i < cudd.seconds.size(); i++) speed.push_back(cudd.seconds[i] / ours.back().seconds[i]);
+    std::printf("| %s | %zu | %zu |", name, words.nodes.size() / 3, words.cache.size() / 4);
+    times(ours);
+    std::printf(" %.2f | %.2f | %.2f to %.2f | %zu | %llu | %s |\n", cudd.ms(), cudd.ms() / ours.back().ms(), smallest(speed),
+                largest(speed), cudd.parts, (unsigned long long)cudd.members, same ? "yes" : "NO");
     std::fflush(stdout);
     if (!same) std::exit(1);
 }
 
-// One line: both packages in turn, `rounds` times.
-template <class Work> static void compare(const char *name, size_t cache_words, Work work) {
-    std::vector<double> ours, theirs;
-    Outcome a{}, b{};
-    for (int i = 0; i < rounds; i++) {
-        Ours p(capacity, cache_words);
-        Ours::F f = 0;
-        ours.push_back(seconds([&] { f = work(p); }));
-        a = {p.size(f), p.parts(f)};
-        Cudd q(cudd_cache);
-        Cudd::F g = nullptr;
-        theirs.push_back(seconds([&] { g = work(q); }));
-        b = {q.size(g), q.parts(g)};
-    }
-    row(name, cache_words, ours, theirs, a, b);
+// One line: the packages in turn; `prepare` is not timed, `work` is.
+template <class Prepare, class Work> static void compare(const char *name, Words &words, Prepare prepare, Work work) {
+    std::vector<Timed> ours(builds.size());
+    Timed cudd;
+    auto round = [&](auto &&p, Timed &t) {
+        auto given = prepare(p);
+        auto family = p.empty();
+        t.seconds.push_back(seconds([&] { family = work(p, given); }));
+        t.members = p.size(family), t.parts = p.parts(family);
+    };
+    rounds([&] {
+        for (size_t k = 0; k < ours.size(); k++) round(Ours(*builds[k], words), ours[k]);
+        round(Cudd(cudd_cache), cudd);
+    });
+    row(name, words, ours, cudd);
 }
 
 // Two large families that share half of their combinations.
@@ -79,39 +100,44 @@ static std::vector<uint8_t> file_of(Ours &p, uint32_t f) {
     return out;
 }
 
-// The operations alone, on families that are there: loaded from files here, built before in CUDD.
-static void large_families(size_t cache_words) {
-    std::vector<double> ours, theirs;
-    Outcome a{}, b{};
-    for (int i = 0; i < rounds; i++) {
-        Ours source(capacity, 1 << 18);
+// The two families before the operations on them are timed: built in CUDD, loaded from files here.
+static std::pair<Cudd::F, Cudd::F> there(Cudd &q) { return two(q); }
+static std::pair<Ours::F, Ours::F> there(Ours &p) {
+    static std::vector<uint8_t> left, right;
+    if (left.empty()) {
+        Words words(largest_capacity, 1 << 18);
+        Ours source(here, words);
         auto built = two(source);
-        auto left = file_of(source, built.first), right = file_of(source, built.second);
-        std::vector<uint32_t> scratch(6 * std::max(left.size(), right.size()));
-        Ours p(capacity, cache_words);
-        std::pair<Ours::F, Ours::F> loaded{p.load(left, scratch), p.load(right, scratch)};
-        Ours::F f = 0;
-        ours.push_back(seconds([&] { f = three(p, loaded); }));
-        a = {p.size(f), p.parts(f)};
-        Cudd q(cudd_cache);
-        auto there = two(q);
-        Cudd::F g = nullptr;
-        theirs.push_back(seconds([&] { g = three(q, there); }));
-        b = {q.size(g), q.parts(g)};
+        left = file_of(source, built.first), right = file_of(source, built.second);
     }
-    row("Union, Intsec, Diff of large families", cache_words, ours, theirs, a, b);
+    std::vector<uint32_t> scratch(6 * std::max(left.size(), right.size()));
+    auto first = p.load(left, scratch);
+    return {first, p.load(right, scratch)};
 }
 
-static void workloads(size_t cache_words) {
-    compare("2,000 random combinations", cache_words, [](auto &p) { return random_family(p, 2000, 1); });
-    compare("10,000 random combinations", cache_words, [](auto &p) { return random_family(p, 10000, 1); });
-    compare("8 queens", cache_words, [](auto &p) { return queens(p, 8); });
-    compare("10 queens", cache_words, [](auto &p) { return queens(p, 10); });
-    compare("independent sets, 10 x 10 grid, rows in order", cache_words,
-            [](auto &p) { return independent_sets(p, 10, [](int row, int column) { return row * 10 + column + 1; }); });
-    compare("independent sets, 7 x 7 grid, even columns first", cache_words,
-            [](auto &p) { return independent_sets(p, 7, [](int row, int column) { return split_order(7, row, column); }); });
-    large_families(cache_words);
+// The workloads with so many cache words, each in a store for twice the nodes that it makes, or in the largest.
+static void workloads(size_t cache_words, bool fitted) {
+    auto run = [&](const char *name, auto prepare, auto work) {
+        Words most(largest_capacity, cache_words);
+        if (!fitted) return compare(name, most, prepare, work);
+        Ours p(here, most);
+        work(p, prepare(p));
+        Words words(std::min(largest_capacity, 2 * size_t(p.store.count)), cache_words);
+        compare(name, words, prepare, work);
+    };
+    auto build = [&](const char *name, auto work) {
+        run(name, [](auto &) { return 0; }, [&](auto &p, int) { return work(p); });
+    };
+    build("2,000 random combinations", [](auto &p) { return random_family(p, 2000, 1); });
+    build("10,000 random combinations", [](auto &p) { return random_family(p, 10000, 1); });
+    build("8 queens", [](auto &p) { return queens(p, 8); });
+    build("10 queens", [](auto &p) { return queens(p, 10); });
+    build("independent sets, 10 x 10 grid, rows in order",
+          [](auto &p) { return independent_sets(p, 10, [](int row, int column) { return row * 10 + column + 1; }); });
+    build("independent sets, 7 x 7 grid, even columns first",
+          [](auto &p) { return independent_sets(p, 7, [](int row, int column) { return split_order(7, row, column); }); });
+    run("Union, Intsec, Diff of large families", [](auto &p) { return there(p); },
+        [](auto &p, auto families) { return three(p, families); });
 }
 
 // The parts of a store of so many nodes, by one random family.
@@ -120,73 +146,72 @@ static uint32_t grown(Ours &p, size_t nodes) {
     uint32_t family = 0;
     while (p.store.count + 9 < nodes) {
         uint32_t one = 1;
-        for (int k = 0; k < 8 && p.store.count + 600 < capacity; k++) one = p.change(one, r.next() % 512 + 1);
-        if (p.store.count + 4700 > capacity) break;
+        for (int k = 0; k < 8 && p.store.count + 600 < largest_capacity; k++) one = p.change(one, r.next() % 512 + 1);
+        if (p.store.count + 4700 > largest_capacity) break;
         family = p.unite(family, one);
     }
     return family;
 }
 
-static void line(const char *name, size_t nodes, const std::function<void()> &work) {
-    std::vector<double> t;
-    for (int i = 0; i < rounds; i++) t.push_back(seconds(work));
-    std::printf("| %s | %.2f | %.2f to %.2f | %.1f |\n", name, 1e3 * median(t), 1e3 * *std::min_element(t.begin(), t.end()),
-                1e3 * *std::max_element(t.begin(), t.end()), 1e9 * median(t) / nodes);
+// One line: a call by each build in turn, and the time of each of `units`.
+static void line(const char *name, size_t units, const std::function<void(const Library &)> &work) {
+    std::vector<Timed> t(builds.size());
+    rounds([&] {
+        for (size_t k = 0; k < t.size(); k++) t[k].seconds.push_back(seconds([&] { work(*builds[k]); }));
+    });
+    std::printf("| %s |", name);
+    times(t);
+    std::printf(" %.2f | %.1f |\n", 1e3 * largest(t.back().seconds), 1e6 * t.back().ms() / units);
     std::fflush(stdout);
 }
 
-// Size, Has, Save, Load and Audit on a store of 500,000 nodes.
+// Size, Save, Load, Audit and Has on a store of 500,000 nodes.
 static void queries() {
-    Ours p(capacity, 1 << 18);
+    Words words(largest_capacity, 1 << 18);
+    Ours p(here, words);
     uint32_t family = grown(p, 500000);
-    size_t nodes = p.store.count;
-    std::vector<uint32_t> links(nodes);
-    std::vector<uint8_t> out(11 * nodes + 5);
-    std::vector<uint8_t> file = file_of(p, family);
-    size_t length = file.size();
-    std::vector<uint32_t> scratch(6 * length);
-    std::printf("\nA store of %zu nodes; the family has %zu parts, its file %zu bytes.\n\n", nodes, p.parts(family), length);
-    std::printf("| Call | ms, median | spread | ns per node |\n|---|---|---|---|\n");
-    line("Size", nodes, [&] { p.size(family); });
-    line("Save", nodes, [&] { p.save(family, links, out); });
-    line("Load into an empty store", nodes, [&] {
-        Ours q(capacity, 0);
-        q.load(file, scratch);
+    size_t nodes = p.store.count, parts = p.parts(family);
+    std::vector<uint8_t> file = file_of(p, family), out(11 * nodes + 5);
+    std::vector<uint32_t> links(nodes), scratch(6 * file.size());
+    Words fresh(2 * parts, 0);
+    std::printf("\nA store of %zu nodes; the family has %zu parts, its file %zu bytes.\n\n", nodes, parts, file.size());
+    std::printf("| Call |%s largest | ns per node |\n|---|%s---|---|\n", heads, rule);
+    line("Size", nodes, [&](const Library &l) { Ours(l, p).size(family); });
+    line("Save", nodes, [&](const Library &l) { Ours(l, p).save(family, links, out); });
+    line("Fresh, and Load into it", parts, [&](const Library &l) { Ours(l, fresh).load(file, scratch); });
+    line("Load of what is held", parts, [&](const Library &l) { Ours(l, p).load(file, scratch); });
+    line("Audit", nodes, [&](const Library &l) {
+        if (!Ours(l, p).audit()) stop("audit", 0);
     });
-    line("Load of what is held", nodes, [&] { p.load(file, scratch); });
-    line("Audit", nodes, [&] {
-        if (!p.audit()) stop("audit", 0);
-    });
-    Random r{9};
-    line("Has, 100,000 times", 100000, [&] {
+    line("Has, 100,000 times", 100000, [&](const Library &l) {
+        Random r{9};
         for (int i = 0; i < 100000; i++) {
             zdd_combination c = {};
             for (int k = 0; k < 8; k++) c.words[r.next() % 16] |= 1u << (r.next() % 32);
-            p.has(family, c);
+            Ours(l, p).has(family, c);
         }
     });
 }
 
-// Time per node as a store grows.
+// Time as a store grows.
 static void growth() {
-    std::printf("\n| Nodes | ns per node made |\n|---|---|\n");
+    std::printf("\n| Nodes made |%s largest | ns per node |\n|---|%s---|---|\n", heads, rule);
+    Words words(largest_capacity, 1 << 18);
     for (size_t nodes : {size_t(10000), size_t(100000), size_t(1000000)}) {
-        std::vector<double> t;
-        size_t made = 0;
-        for (int i = 0; i < rounds; i++) {
-            Ours p(capacity, 1 << 18);
-            t.push_back(seconds([&] { grown(p, nodes); }));
-            made = p.store.count;
-        }
-        std::printf("| %zu | %.0f |\n", made, 1e9 * median(t) / made);
-        std::fflush(stdout);
+        Ours p(here, words);
+        grown(p, nodes);
+        line(std::to_string(p.store.count).c_str(), p.store.count, [&](const Library &l) {
+            Ours q(l, words);
+            grown(q, nodes);
+        });
     }
 }
 
 int main() {
-    std::printf("| Workload | cache words | ms here | ms CUDD | ratio | spread | parts | members | same |\n");
-    std::printf("|---|---|---|---|---|---|---|---|---|\n");
-    for (size_t cache_words : {size_t(262144), size_t(16384), size_t(1024)}) workloads(cache_words);
+    std::printf("| Workload | capacity | groups |%s ms CUDD | times CUDD's speed | spread | parts | members | same |\n", heads);
+    std::printf("|---|---|---|%s---|---|---|---|---|---|\n", rule);
+    for (size_t cache_words : {size_t(262144), size_t(16384), size_t(1024)}) workloads(cache_words, true);
+    workloads(262144, false);
     queries();
     growth();
 }

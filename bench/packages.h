@@ -14,47 +14,96 @@
     std::exit(1);
 }
 
+// The calls of one build of this library.
+struct Library {
+    decltype(&zdd_fresh) fresh;
+    decltype(&zdd_change) change;
+    decltype(&zdd_subset0) subset0;
+    decltype(&zdd_union) unite;
+    decltype(&zdd_intsec) intersect;
+    decltype(&zdd_diff) subtract;
+    decltype(&zdd_load) load;
+    decltype(&zdd_audit) audit;
+    decltype(&zdd_size) size;
+    decltype(&zdd_has) has;
+    decltype(&zdd_save) save;
+};
+
+#define LIBRARY(name)                                                                                                              \
+    Library {                                                                                                                      \
+        name##fresh, name##change, name##subset0, name##union, name##intsec, name##diff, name##load, name##audit, name##size,      \
+            name##has, name##save                                                                                                  \
+    }
+
+// this tree's library, and with BEFORE that of an earlier revision, whose names `bench/run` gives a prefix
+static const Library here = LIBRARY(zdd_);
+#ifdef BEFORE
+extern "C" {
+decltype(zdd_fresh) before_zdd_fresh;
+decltype(zdd_change) before_zdd_change, before_zdd_subset0;
+decltype(zdd_union) before_zdd_union, before_zdd_intsec, before_zdd_diff;
+decltype(zdd_load) before_zdd_load;
+decltype(zdd_audit) before_zdd_audit;
+decltype(zdd_size) before_zdd_size;
+decltype(zdd_has) before_zdd_has;
+decltype(zdd_save) before_zdd_save;
+}
+static const Library before = LIBRARY(before_zdd_);
+#endif
+#undef LIBRARY
+
+// The words lent to a store.
+struct Words {
+    std::vector<uint32_t> nodes, lookup, cache;
+    Words(size_t capacity, size_t cache_words) : nodes(3 * capacity), lookup(2 * capacity + 1), cache(cache_words) {}
+};
+
+// A fresh store in lent words.
 struct Ours {
     using F = uint32_t;
-    std::vector<uint32_t> nodes, lookup, cache;
+    const Library &library;
+    Words &words;
     zdd_store store;
-    Ours(size_t capacity, size_t cache_words) : nodes(3 * capacity), lookup(2 * capacity + 1), cache(cache_words) {
-        auto r = zdd_fresh(nodes.data(), nodes.size(), lookup.data(), lookup.size(), cache.data(), cache.size());
+    Ours(const Library &library, Words &words) : library(library), words(words) {
+        auto r = library.fresh(words.nodes.data(), words.nodes.size(), words.lookup.data(), words.lookup.size(), words.cache.data(),
+                               words.cache.size());
         if (r.refusal) stop("fresh", r.refusal);
         store = r.store;
     }
+    // the store of another build, as it is
+    Ours(const Library &library, const Ours &other) : library(library), words(other.words), store(other.store) {}
     F take(const char *what, zdd_placed r) {
         if (r.refusal) stop(what, r.refusal);
         store = r.store;
         return r.handle;
     }
-#define LENT store, nodes.data(), nodes.size(), lookup.data(), lookup.size(), cache.data(), cache.size()
+#define READ store, words.nodes.data(), words.nodes.size(), words.lookup.data(), words.lookup.size()
+#define LENT READ, words.cache.data(), words.cache.size()
     F empty() { return 0; }
     F base() { return 1; }
-    F change(F p, int item) { return take("change", zdd_change(LENT, p, item)); }
-    F lacking(F p, int item) { return take("subset0", zdd_subset0(LENT, p, item)); }
-    F unite(F p, F q) { return take("union", zdd_union(LENT, p, q)); }
-    F intersect(F p, F q) { return take("intsec", zdd_intsec(LENT, p, q)); }
-    F subtract(F p, F q) { return take("diff", zdd_diff(LENT, p, q)); }
+    F change(F p, int item) { return take("change", library.change(LENT, p, item)); }
+    F lacking(F p, int item) { return take("subset0", library.subset0(LENT, p, item)); }
+    F unite(F p, F q) { return take("union", library.unite(LENT, p, q)); }
+    F intersect(F p, F q) { return take("intsec", library.intersect(LENT, p, q)); }
+    F subtract(F p, F q) { return take("diff", library.subtract(LENT, p, q)); }
     F load(const std::vector<uint8_t> &file, std::vector<uint32_t> &scratch) {
-        return take("load", zdd_load(LENT, file.data(), file.size(), scratch.data(), scratch.size()));
+        return take("load", library.load(LENT, file.data(), file.size(), scratch.data(), scratch.size()));
     }
-    bool audit() { return zdd_audit(LENT).sound; }
-#undef LENT
-#define READ store, nodes.data(), nodes.size(), lookup.data(), lookup.size()
+    bool audit() { return library.audit(LENT).sound; }
     uint64_t size(F p) {
         static std::vector<uint64_t> scratch;
         scratch.resize(store.count);
-        auto r = zdd_size(READ, p, scratch.data(), scratch.size());
+        auto r = library.size(READ, p, scratch.data(), scratch.size());
         if (r.refusal) stop("size", r.refusal);
         return r.size;
     }
-    bool has(F p, zdd_combination c) { return zdd_has(READ, p, c).member; }
+    bool has(F p, zdd_combination c) { return library.has(READ, p, c).member; }
     size_t save(F p, std::vector<uint32_t> &scratch, std::vector<uint8_t> &out) {
-        auto r = zdd_save(READ, p, scratch.data(), scratch.size(), out.data(), out.size());
+        auto r = library.save(READ, p, scratch.data(), scratch.size(), out.data(), out.size());
         if (r.refusal) stop("save", r.refusal);
         return r.length;
     }
+#undef LENT
 #undef READ
     // the number of parts of p, read off the head of its file
     size_t parts(F p) {
