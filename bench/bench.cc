@@ -153,11 +153,14 @@ static uint32_t grown(Ours &p, size_t nodes) {
     return family;
 }
 
-// One line: a call by each build in turn, and the time of each of `units`.
-static void line(const char *name, size_t units, const std::function<void(const Library &)> &work) {
+// One line: what each build does in turn to a store that it is given, and the time of each of `units`.
+static void line(const char *name, size_t units, const std::function<Ours(const Library &)> &store, const std::function<void(Ours &)> &work) {
     std::vector<Timed> t(builds.size());
     rounds([&] {
-        for (size_t k = 0; k < t.size(); k++) t[k].seconds.push_back(seconds([&] { work(*builds[k]); }));
+        for (size_t k = 0; k < t.size(); k++) {
+            Ours p = store(*builds[k]);
+            t[k].seconds.push_back(seconds([&] { work(p); }));
+        }
     });
     std::printf("| %s |", name);
     times(t);
@@ -176,19 +179,21 @@ static void queries() {
     Words fresh(2 * parts, 0);
     std::printf("\nA store of %zu nodes; the family has %zu parts, its file %zu bytes.\n\n", nodes, parts, file.size());
     std::printf("| Call |%s largest | ns per node |\n|---|%s---|---|\n", heads, rule);
-    line("Size", nodes, [&](const Library &l) { Ours(l, p).size(family); });
-    line("Save", nodes, [&](const Library &l) { Ours(l, p).save(family, links, out); });
-    line("Fresh, and Load into it", parts, [&](const Library &l) { Ours(l, fresh).load(file, scratch); });
-    line("Load of what is held", parts, [&](const Library &l) { Ours(l, p).load(file, scratch); });
-    line("Audit", nodes, [&](const Library &l) {
-        if (!Ours(l, p).audit()) stop("audit", 0);
+    auto full = [&](const Library &library) { return Ours(library, p); };
+    auto empty = [&](const Library &library) { return Ours(library, fresh); };
+    line("Size", nodes, full, [&](Ours &q) { q.size(family); });
+    line("Save", nodes, full, [&](Ours &q) { q.save(family, links, out); });
+    line("Load into an empty store", parts, empty, [&](Ours &q) { q.load(file, scratch); });
+    line("Load of what is held", parts, full, [&](Ours &q) { q.load(file, scratch); });
+    line("Audit", nodes, full, [&](Ours &q) {
+        if (!q.audit()) stop("audit", 0);
     });
-    line("Has, 100,000 times", 100000, [&](const Library &l) {
+    line("Has, 100,000 times", 100000, full, [&](Ours &q) {
         Random r{9};
         for (int i = 0; i < 100000; i++) {
             zdd_combination c = {};
             for (int k = 0; k < 8; k++) c.words[r.next() % 16] |= 1u << (r.next() % 32);
-            Ours(l, p).has(family, c);
+            q.has(family, c);
         }
     });
 }
@@ -200,10 +205,8 @@ static void growth() {
     for (size_t nodes : {size_t(10000), size_t(100000), size_t(1000000)}) {
         Ours p(here, words);
         grown(p, nodes);
-        line(std::to_string(p.store.count).c_str(), p.store.count, [&](const Library &l) {
-            Ours q(l, words);
-            grown(q, nodes);
-        });
+        line(std::to_string(p.store.count).c_str(), p.store.count, [&](const Library &library) { return Ours(library, words); },
+             [&](Ours &q) { grown(q, nodes); });
     }
 }
 

@@ -1,4 +1,4 @@
--- What the contracts of `table` cite.
+-- What the contracts of `table` cite, and what document 01's mixing table held.
 pub mod Own
 pub mod Start
 pub mod Held
