@@ -1,3 +1,4 @@
-// The store's record, and the tests of every call.
+// The store's record, the tests of every call, and answers as one number.
+pub mod coded;
 pub mod record;
 pub mod tests;

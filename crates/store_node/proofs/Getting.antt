@@ -1,4 +1,4 @@
--- Each way out of `get_node`: the zero side itself where the one side is {}, else what `make` gave.
+-- Each way out of `node_of`: the zero side itself where the one side is {}, else what `make` gave, as a number.
 -- Adding the node to the book is what placing the family of the item and the two sides does, once both sides are held.
 use Prim.Native.Nat.{ℕ, _+_, _≤_, _<_}
 use mathlib.Core.Path.{_≡_, refl, sym, _∙_}
@@ -11,18 +11,18 @@ use Rattle.family.specs.Book.{at, number, add, made}
 use Rattle.family.proofs.Books.{add-same, add-new}
 use Rattle.family.proofs.Diagrams.{mk-node}
 use Rattle.store.specs.declared.record.Store.{Store}
-use Rattle.store.specs.declared.record.Refusal.the-variants.{Full, Damaged}
 use Rattle.store.specs.declared.record.PlaceAnswer.{PlaceAnswer}
-use Rattle.store.specs.declared.record.PlaceAnswer.the-variants.{Handle, Refused}
-use Rattle.store.specs.declared.record.Placed.{Placed}
+use Rattle.store.specs.declared.record.PlaceAnswer.the-variants.{Handle}
 use Rattle.store_node.specs.declared.unique.Made.{Made}
 use Rattle.store_node.specs.declared.unique.Made.the-variants.{Found, New, Full as NoRoom, Damaged as Bad}
 use Rattle.store_node.specs.declared.unique.Making.{Making}
 use Rattle.store.specs.Words.{itemLimit}
+use Rattle.store.specs.Coded.{answerOf, storeOf, placedOf}
 use Rattle.store.specs.Inner.{Roomy, Holds, Handed, Outcome, gave, full, Kept}
-use Rattle.store_node.specs.Inner.{MadeOf, found, new, MadeIt, NodeIt}
+use Rattle.store_node.specs.Inner.{NodeAsks, MadeOf, found, new, MadeIt, NodeIt}
 use Rattle.store.proofs.Held.{at-0, within, positive-one, held}
 use Rattle.store.proofs.Growing.{kept-self}
+use Rattle.store.proofs.Codes.{coded-handle, coded-full, coded-damaged}
 use Rattle.store.proofs.Answers.{handle-is, refused-not, damaged-not}
 
 pub made-inhabited : (B : List Family) (i : ℕ) (a b : Family) → T (inhabited b) → made B i a b ≡ add B (node i a b)
@@ -51,59 +51,70 @@ not-bad e (found G) = let z : _≡_ {A = ℕ} 0 1 = cc in omega arith
 not-bad e (new l G) = let z : _≡_ {A = ℕ} 0 1 = cc in omega arith
 not-bad e (MadeOf.full l k H) = let z : _≡_ {A = ℕ} 0 1 = cc in omega arith
 
-module _ (s : Store) (nodes lookup : List ℕ) (i z o : ℕ) (small : i ≤ itemLimit) (lz : z ≤ s .count + 1) (lo : o ≤ s .count + 1) where
+-- a handle held is no number of a refusal
+held-low : {s : Store} {nodes lookup : List ℕ} {n h : ℕ} → Roomy s nodes lookup → n ≤ s .capacity → h ≤ n + 1 → answerOf h ≡ Handle h
+held-low {h = h} R l m = coded-handle h (omega (arith, R .small))
+
+module _ (s : Store) (nodes lookup : List ℕ) (i z o : ℕ) (A : NodeAsks s nodes lookup i z o) where
   -- the one side is {}
-  pub node-zero : Roomy s nodes lookup → (r : Placed) → r .store ≡ s → r .answer ≡ Handle z → o ≡ 0 → NodeIt s nodes lookup i z o r nodes lookup
-  node-zero R r es ea e =
+  pub node-zero : o ≡ 0 → NodeIt s nodes lookup i z o (placedOf (s .capacity) (s .count) z) nodes lookup
+  node-zero e =
+      let ea : answerOf z ≡ Handle z = held-low (A .roomy) (A .roomy .within) (A .zero-held) in
       record {
-        kept = rw es (kept-self s nodes lookup (R .within));
-        handle = λ h d. rw es (omega (arith, handle-is (sym ea ∙ d)));
-        sound = λ B H tz to. rw (ea, es, e, at-0 H) (gave {h = z} (record { holds = H; within = omega arith; means = refl }));
+        kept = kept-self s nodes lookup (A .roomy .within);
+        handle = λ h d. omega (arith, handle-is (sym ea ∙ d), A .zero-held);
+        sound = λ B H tz to. rw (ea, e, at-0 H) (gave {h = z} (record { holds = H; within = omega (arith, A .zero-held); means = refl }));
       }
 
-  module _ (some : o ≡ 0 → ⊥) {m : Making} {nodes′ lookup′ : List ℕ} (M : MadeIt s nodes lookup i z o m nodes′ lookup′) (r : Placed) (es : r .store ≡ m .store) where
+  module _ (some : o ≡ 0 → ⊥) {m : Making} {nodes′ lookup′ : List ℕ} (M : MadeIt s nodes lookup i z o m nodes′ lookup′) where
     full-one : {B : List Family} → Holds B (s .count) nodes lookup → T (inhabited (at B o))
-    full-one H = positive-one H o (omega arith) (omega arith)
+    full-one H = positive-one H o (omega (arith, A .one-held)) (omega arith)
 
     is-within : {B : List Family} → Holds B (s .count) nodes lookup → top (at B z) < i → top (at B o) < i → Within itemLimit (node i (at B z) (at B o))
     is-within H tz to =
-        record { ordered = (tz, to, full-one H, within H z (omega arith) .ordered, within H o (omega arith) .ordered); low = small }
+        record {
+          ordered = (tz, to, full-one H, within H z (omega (arith, A .zero-held)) .ordered, within H o (omega (arith, A .one-held)) .ordered);
+          low = A .item-low;
+        }
 
     got : {B : List Family} → Holds B (s .count) nodes lookup → top (at B z) < i → top (at B o) < i
         → MadeOf B (node i (at B z) (at B o)) (s .capacity) (m .store .count) nodes′ lookup′ (m .made)
     got {B} H tz to = M .sound B H (is-within H tz to)
 
-    kept : Kept s nodes lookup (r .store) nodes′ lookup′
-    kept = rw es (M .kept)
+    kept : Kept s nodes lookup (storeOf (s .capacity) (m .store .count)) nodes′ lookup′
+    kept = rw (M .kept .same-capacity) at (M .kept)
 
     -- the family and the book of an inhabited one side
     as-node : {B : List Family} → Holds B (s .count) nodes lookup → (C : List Family) {a : PlaceAnswer} → add B (node i (at B z) (at B o)) ≡ C
         → Outcome C (node i (at B z) (at B o)) (s .capacity) (m .store .count) nodes′ lookup′ a
-        → Outcome (made B i (at B z) (at B o)) (mk i (at B z) (at B o)) (s .capacity) (r .store .count) nodes′ lookup′ a
-    as-node {B} H C e A = rw (es, mk-node i (at B z) (at B o) (full-one H), made-inhabited B i (at B z) (at B o) (full-one H), e) A
+        → Outcome (made B i (at B z) (at B o)) (mk i (at B z) (at B o)) (s .capacity) (m .store .count) nodes′ lookup′ a
+    as-node {B} H C e A = rw (mk-node i (at B z) (at B o) (full-one H), made-inhabited B i (at B z) (at B o) (full-one H), e) A
 
-    pub node-found : (h : ℕ) → m .made ≡ Found h → r .answer ≡ Handle h → NodeIt s nodes lookup i z o r nodes′ lookup′
-    node-found h em ea =
-        record {
-          kept = kept;
-          handle = λ g d. rw es (omega (arith, handle-is (sym ea ∙ d), M .found-within h em));
-          sound = λ B H tz to.
-              let G = found-handed (rw em at (got H tz to)) in
-              rw ea (as-node H B (add-same B (node i (at B z) (at B o)) (rw (G .means) at (held (G .holds) h (G .within)))) (gave G));
-        }
+    -- a handle that is held, with what it means
+    node-handle : (h : ℕ) → h ≤ m .store .count + 1 → ((B : List Family) → Holds B (s .count) nodes lookup → top (at B z) < i → top (at B o) < i
+        → Outcome (made B i (at B z) (at B o)) (mk i (at B z) (at B o)) (s .capacity) (m .store .count) nodes′ lookup′ (Handle h))
+        → NodeIt s nodes lookup i z o (placedOf (s .capacity) (m .store .count) h) nodes′ lookup′
+    node-handle h l f =
+        let ea : answerOf h ≡ Handle h = held-low (A .roomy) (M .kept .fits) l in
+        record { kept = kept; handle = λ g d. omega (arith, handle-is (sym ea ∙ d)); sound = λ B H tz to. rw ea (f B H tz to) }
 
-    pub node-new : (h : ℕ) → m .made ≡ New h → r .answer ≡ Handle h → NodeIt s nodes lookup i z o r nodes′ lookup′
-    node-new h em ea =
-        record {
-          kept = kept;
-          handle = λ g d. rw es (omega (arith, handle-is (sym ea ∙ d), M .new-within h em));
-          sound = λ B H tz to.
-              let G = rw em at (got H tz to) in
-              rw ea (as-node H (B ++ (node i (at B z) (at B o) ∷ [])) (add-new B (node i (at B z) (at B o)) (new-lacks G)) (gave (new-handed G)));
-        }
+    pub node-found : (h : ℕ) → m .made ≡ Found h → NodeIt s nodes lookup i z o (placedOf (s .capacity) (m .store .count) h) nodes′ lookup′
+    node-found h em =
+        node-handle h (M .found-within h em)
+        (λ B H tz to.
+        let G = found-handed (rw em at (got H tz to)) in
+        as-node H B (add-same B (node i (at B z) (at B o)) (rw (G .means) at (held (G .holds) h (G .within)))) (gave G))
 
-    pub node-full : m .made ≡ NoRoom → r .answer ≡ Refused Full → NodeIt s nodes lookup i z o r nodes′ lookup′
-    node-full em ea =
+    pub node-new : (h : ℕ) → m .made ≡ New h → NodeIt s nodes lookup i z o (placedOf (s .capacity) (m .store .count) h) nodes′ lookup′
+    node-new h em =
+        node-handle h (M .new-within h em)
+        (λ B H tz to.
+        let G = rw em at (got H tz to) in
+        as-node H (B ++ (node i (at B z) (at B o) ∷ [])) (add-new B (node i (at B z) (at B o)) (new-lacks G)) (gave (new-handed G)))
+
+    pub node-full : m .made ≡ NoRoom → NodeIt s nodes lookup i z o (placedOf (s .capacity) (m .store .count) 4294967294) nodes′ lookup′
+    node-full em =
+        let ea = coded-full 4294967294 refl in
         record {
           kept = kept;
           handle = λ h d. refused-not h ea d;
@@ -113,10 +124,10 @@ module _ (s : Store) (nodes lookup : List ℕ) (i z o : ℕ) (small : i ≤ item
               (full B (full-holds G) (rw length-append (omega (arith, full-lacks G .1)))));
         }
 
-    pub node-damaged : m .made ≡ Bad → r .answer ≡ Refused Damaged → NodeIt s nodes lookup i z o r nodes′ lookup′
-    node-damaged em ea =
+    pub node-damaged : m .made ≡ Bad → NodeIt s nodes lookup i z o (placedOf (s .capacity) (m .store .count) 4294967295) nodes′ lookup′
+    node-damaged em =
         record {
           kept = kept;
-          handle = λ h d. damaged-not h ea d;
+          handle = λ h d. damaged-not h (coded-damaged 4294967295 (omega arith) (omega arith)) d;
           sound = λ B H tz to. absurd (not-bad em (got H tz to));
         }

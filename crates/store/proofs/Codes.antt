@@ -1,0 +1,30 @@
+-- What each number says as an answer: below the two largest a handle, and each of these a refusal.
+-- The definition tests for them in this order; a handle held is far below them.
+use Prim.Native.Nat.{ℕ, _≤_, _<_}
+use mathlib.Core.Path.{_≡_, sym, _∙_}
+use borrow.Author.Tests.{lt-ltb, le-ltb, ne-eqb}
+use Rattle.store.specs.declared.record.Store.{Store}
+use Rattle.store.specs.declared.record.Refusal.the-variants.{Full, Damaged}
+use Rattle.store.specs.declared.record.PlaceAnswer.{PlaceAnswer}
+use Rattle.store.specs.declared.record.PlaceAnswer.the-variants.{Handle, Refused}
+use Rattle.store.specs.declared.record.Placed.{Placed}
+use Rattle.store.specs.Coded.{answerOf, storeOf, placedOf}
+
+pub coded-handle : (r : ℕ) → r < 4294967294 → answerOf r ≡ Handle r
+unfolding answerOf
+coded-handle r l = rw (lt-ltb r 4294967294 l)
+
+pub coded-full : (r : ℕ) → r ≡ 4294967294 → answerOf r ≡ Refused Full
+unfolding answerOf
+coded-full r e = rw e
+
+pub coded-damaged : (r : ℕ) → 4294967294 ≤ r → (r ≡ 4294967294 → ⊥) → answerOf r ≡ Refused Damaged
+unfolding answerOf
+coded-damaged r l n = rw (le-ltb r 4294967294 l, ne-eqb r 4294967294 n)
+
+-- an answer of a record, with the number that stands for it
+pub coded-placed : {capacity n : ℕ} {a : PlaceAnswer} (r : ℕ) (x : Placed) → x .store ≡ storeOf capacity n → x .answer ≡ a → answerOf r ≡ a → x ≡ placedOf capacity n r
+coded-placed r x es ea er = joined (x .store) (x .answer) es (ea ∙ sym er)
+  where
+    joined : (s : Store) {s′ : Store} (a : PlaceAnswer) {a′ : PlaceAnswer} → s ≡ s′ → a ≡ a′ → _≡_ {A = Placed} record { store = s; answer = a } record { store = s′; answer = a′ }
+    joined s a es ea = cc

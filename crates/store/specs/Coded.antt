@@ -1,0 +1,21 @@
+-- An answer as one number, as the inner functions hand it up. A reader of the promises can pass this page over.
+use Prim.Native.Nat.{ℕ}
+use mathlib.Core.Bool.{cond}
+use lib.Dec.{eqb, ltb}
+use Rattle.store.specs.declared.record.Store.{Store}
+use Rattle.store.specs.declared.record.Refusal.the-variants.{Full, Damaged}
+use Rattle.store.specs.declared.record.PlaceAnswer.{PlaceAnswer}
+use Rattle.store.specs.declared.record.PlaceAnswer.the-variants.{Handle, Refused}
+use Rattle.store.specs.declared.record.Placed.{Placed}
+
+-- what a number says: a handle, but for the two largest numbers of a word, which are full and damaged
+unfoldable pub answerOf : ℕ → PlaceAnswer
+answerOf r = cond (ltb r 4294967294) (Handle r) (cond (eqb r 4294967294) (Refused Full) (Refused Damaged))
+
+-- the record of a capacity and a count
+abbrev pub storeOf : ℕ → ℕ → Store
+storeOf capacity n = record { capacity = capacity; count = n }
+
+-- what a call gives back: the record of so many nodes, and the answer that a number stands for
+abbrev pub placedOf : ℕ → ℕ → ℕ → Placed
+placedOf capacity n r = record { store = storeOf capacity n; answer = answerOf r }
