@@ -91,8 +91,8 @@ noted-remembered cache s call h l =
       each = noted-each cache s (call .op) (call .p) (call .q) h f;
     }
 
-pub nothing-remembered : (cache : List ℕ) (call : Call) (h : ℕ) → length cache / 4 ≡ 0 → Remembered cache call h cache
-nothing-remembered cache call h e = record { long = refl; rest = λ k m. refl; each = λ g op p q r G. inl G }
+pub nothing-remembered : (cache : List ℕ) (call : Call) (h : ℕ) → Remembered cache call h cache
+nothing-remembered cache call h = record { long = refl; rest = λ k m. refl; each = λ g op p q r G. inl G }
 
 -- a true cache that remembers a true result
 pub true-remembered : {B : List Family} {cache cache′ : List ℕ} {call : Call} {h : ℕ} → True B cache → Truth B (call .op) (call .p) (call .q) h → Remembered cache call h cache′ → True B cache′

@@ -10,6 +10,10 @@ use Rattle.op_cache.specs.declared.Call.{Call}
 use Rattle.op_cache.specs.declared.Recalled.{Recalled}
 use Rattle.op_cache.specs.declared.Recalled.the-variants.{Hit, Miss}
 
+-- a call by its three numbers
+abbrev pub callOf : ℕ → ℕ → ℕ → Call
+callOf op p q = record { op = op; p = p; q = q }
+
 -- a recalled result is a group of the cache, and a handle held
 pub data RecallOf (cache : List ℕ) (n : ℕ) (call : Call) : Recalled → Type 0 where
   hit : {g h : ℕ} → Group cache g (call .op) (call .p) (call .q) h → h ≤ n + 1 → RecallOf cache n call (Hit h)

@@ -1,5 +1,5 @@
 // The cache: groups of four words, operation, two operands, result.
-ghost use Prim.Native.Nat.{_<_, _≤_};
+ghost use Prim.Native.Nat.{_/_, _<_, _≤_};
 ghost use Rattle.op_cache.specs.Inner.{RecallOf, Remembered};
 
 // An operation by its number, with its two operands.
@@ -14,26 +14,29 @@ pub enum Recalled {
     Miss,
 }
 
-// The group of a call: rising first operands go to groups side by side, and the second operand is spread.
-fn group_of(call: Call, groups: usize) -> usize
-    requires { ⌜ 0 < groups ⌝ }
-    ensures { λ r. ⌜ r < groups ⌝ }
+// The number of a call's group in a cache of so many words; 0 where there is none. Rising first operands go to groups
+// side by side, and the second operand is spread.
+pub fn group_of(call: Call, words: usize) -> usize
+    ensures { λ r. ⌜ (0 < words / 4 → r < words / 4) ⌝ }
 {
+    let groups = words / 4;
+    if groups == 0 {
+        return 0;
+    }
     let spread = call.q as u64 * 2654435761 % 4294967296 / 1024;
     let sum = call.p as u64 + spread + call.op as u64 * 1000003;
     sum as usize % groups
 }
 
-// The result of a call, where the cache has it and it is a handle held.
-pub fn recall(cache: &[u32], count: u32, call: Call) -> Recalled
+// The result of a call in the group of this number, where the group has that call and the result is a handle held.
+pub fn recall(cache: &[u32], group: usize, count: u32, call: Call) -> Recalled
     requires { ⌜ count ≤ 1000000 ⌝ }
     ensures { λ r. ⌜ RecallOf (now (cache .entry)) count call r ⌝ }
 {
-    let groups = cache.len() / 4;
-    if groups == 0 {
+    if cache.len() / 4 <= group {
         return Recalled::Miss;
     }
-    let at = 4 * group_of(call, groups);
+    let at = 4 * group;
     if cache[at + 1] != call.p {
         return Recalled::Miss;
     }
@@ -50,15 +53,14 @@ pub fn recall(cache: &[u32], count: u32, call: Call) -> Recalled
     Recalled::Hit(result)
 }
 
-// Puts a call and its result into the call's group.
-pub fn remember(cache: &mut [u32], call: Call, result: u32)
+// Puts a call and its result into the group of this number, where there is one.
+pub fn remember(cache: &mut [u32], group: usize, call: Call, result: u32)
     ensures { λ _. ⌜ Remembered (now (cache .entry)) call result (now (cache .exit)) ⌝ }
 {
-    let groups = cache.len() / 4;
-    if groups == 0 {
+    if cache.len() / 4 <= group {
         return;
     }
-    let at = 4 * group_of(call, groups);
+    let at = 4 * group;
     cache[at] = call.op;
     cache[at + 1] = call.p;
     cache[at + 2] = call.q;

@@ -3,7 +3,7 @@ ghost use Rattle.op_terminal.specs.Inner.{FamilyOperation};
 ghost use Rattle.op_promise.specs.Promise.{OperationCall};
 use crate::recursion::apply;
 use crate::recursion::larger;
-use op_cache::Call;
+use store::coded::answered;
 use store::record::Placed;
 use store::record::Refusal;
 use store::record::Store;
@@ -34,9 +34,9 @@ fn of_families(
     if 512 < level {
         return store.refused(Refusal::Damaged);
     }
-    let call = Call { op: op, p: p, q: q };
-    let placed = apply(call, level, store, nodes, lookup, cache);
-    finish(placed, count, nodes, lookup, cache)
+    let mut held = count;
+    let coded = apply(op, p, q, level, store.capacity, &mut held, nodes, lookup, cache);
+    finish(answered(store.capacity, held, coded), count, nodes, lookup, cache)
 }
 
 // The combinations in p or in q.

@@ -1,19 +1,21 @@
 // Union (4), Intsec (5) and Diff (6): the recursion on the two sides; the larger top item falls at each call.
 ghost use mathlib.Core.Path.{_≡_};
-ghost use Prim.Native.Nat.{_<_, max};
+ghost use Prim.Native.Nat.{max};
+ghost use Rattle.op_cache.specs.Inner.{callOf};
+ghost use Rattle.store.specs.Coded.{storeOf, placedOf};
 ghost use Rattle.store.specs.Operations.{named};
 ghost use Rattle.store.specs.Inner.{Ran};
 ghost use Rattle.op_families.specs.Inner.{ForkAsks, ApplyAsks, FamilyStepAsks, ForkOf};
 use op_cache::Call;
 use op_cache::Recalled;
+use op_cache::group_of;
 use op_cache::recall;
-use op_step::join;
+use op_step::keep;
 use op_terminal::families::ordered;
 use op_terminal::families::shortcut;
-use store::record::PlaceAnswer;
-use store::record::Placed;
-use store::record::Refusal;
-use store::record::Store;
+use store::coded::DAMAGED;
+use store::coded::FULL;
+use store_node::getnode::node_of;
 use store_sides::Sides;
 use store_sides::sides_at;
 
@@ -71,68 +73,68 @@ fn fork_at(nodes: &[u32], count: u32, call: Call, level: u32) -> Fork
     }
 }
 
-// The operation on two families whose larger top is the level: terminal cases, then the cache, then the two sides.
+// The operation on two families whose larger top is the level: terminal cases at once, else by the two sides.
 pub fn apply(
-    asked: Call,
+    op: u32,
+    p: u32,
+    q: u32,
     level: u32,
-    store: Store,
+    capacity: u32,
+    count: &mut u32,
     nodes: &mut [u32],
     lookup: &mut [u32],
     cache: &mut [u32],
-) -> Placed
-    requires { ⌜ ApplyAsks asked level store (now nodes) (now lookup) ⌝ }
-    ensures { λ r. ⌜ Ran (λ B. named (asked .op) B (asked .p) (asked .q)) store (now (nodes .entry)) (now (lookup .entry)) (now (cache .entry)) r (now (nodes .exit)) (now (lookup .exit)) (now (cache .exit)) ⌝ }
+) -> u32
+    requires { ⌜ ApplyAsks (callOf op p q) level (storeOf capacity (now count)) (now nodes) (now lookup) ⌝ }
+    ensures { λ r. ⌜ Ran (λ B. named op B p q) (storeOf capacity (now (count .entry))) (now (nodes .entry)) (now (lookup .entry)) (now (cache .entry)) (placedOf capacity (now (count .exit)) r) (now (nodes .exit)) (now (lookup .exit)) (now (cache .exit)) ⌝ }
 {
-    let call = ordered(asked);
+    let call = ordered(Call { op: op, p: p, q: q });
     if let Recalled::Hit(handle) = shortcut(call) {
-        return store.placed(handle);
+        return handle;
     }
-    if let Recalled::Hit(handle) = recall(cache, store.count, call) {
-        return store.placed(handle);
-    }
-    expand(call, level, store, nodes, lookup, cache)
+    expand(op, call.p, call.q, level, capacity, count, nodes, lookup, cache)
 }
 
-// The same by its two sides, and the node of the two results.
+// The same where it is no terminal case: the cache, else the two sides and the node of their results.
 fn expand(
-    call: Call,
+    op: u32,
+    p: u32,
+    q: u32,
     level: u32,
-    store: Store,
+    capacity: u32,
+    count: &mut u32,
     nodes: &mut [u32],
     lookup: &mut [u32],
     cache: &mut [u32],
-) -> Placed
-    requires { ⌜ FamilyStepAsks call level store (now nodes) (now lookup) ⌝ }
-    ensures { λ r. ⌜ Ran (λ B. named (call .op) B (call .p) (call .q)) store (now (nodes .entry)) (now (lookup .entry)) (now (cache .entry)) r (now (nodes .exit)) (now (lookup .exit)) (now (cache .exit)) ⌝ }
+) -> u32
+    requires { ⌜ FamilyStepAsks (callOf op p q) level (storeOf capacity (now count)) (now nodes) (now lookup) ⌝ }
+    ensures { λ r. ⌜ Ran (λ B. named op B p q) (storeOf capacity (now (count .entry))) (now (nodes .entry)) (now (lookup .entry)) (now (cache .entry)) (placedOf capacity (now (count .exit)) r) (now (nodes .exit)) (now (lookup .exit)) (now (cache .exit)) ⌝ }
 {
-    match fork_at(nodes, store.count, call, level) {
-        Fork::Broken => store.refused(Refusal::Damaged),
-        Fork::Two {
-            p0,
-            q0,
-            top0,
-            p1,
-            q1,
-            top1,
-        } => {
-            let below = Call {
-                op: call.op,
-                p: p0,
-                q: q0,
-            };
-            let first = apply(below, top0, store, nodes, lookup, cache);
-            let answer = first.answer;
-            let PlaceAnswer::Handle(zero) = answer else {
-                return first;
-            };
-            let after = first.store;
-            let above = Call {
-                op: call.op,
-                p: p1,
-                q: q1,
-            };
-            let second = apply(above, top1, after, nodes, lookup, cache);
-            join(second, nodes, lookup, cache, call, level, zero)
-        }
+    let call = Call { op: op, p: p, q: q };
+    let group = group_of(call, cache.len());
+    if let Recalled::Hit(handle) = recall(cache, group, *count, call) {
+        return handle;
     }
+    let Fork::Two {
+        p0,
+        q0,
+        top0,
+        p1,
+        q1,
+        top1,
+    } = fork_at(nodes, *count, call, level)
+    else {
+        return DAMAGED;
+    };
+    let zero = apply(op, p0, q0, top0, capacity, count, nodes, lookup, cache);
+    if FULL <= zero {
+        return zero;
+    }
+    let one = apply(op, p1, q1, top1, capacity, count, nodes, lookup, cache);
+    if FULL <= one {
+        return one;
+    }
+    let made = node_of(capacity, count, nodes, lookup, level, zero, one);
+    keep(cache, group, call, made);
+    made
 }

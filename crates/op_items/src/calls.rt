@@ -2,7 +2,7 @@
 ghost use Rattle.op_terminal.specs.Inner.{ItemOperation};
 ghost use Rattle.op_promise.specs.Promise.{OperationCall};
 use crate::recursion::restrict;
-use op_cache::Call;
+use store::coded::answered;
 use store::record::Placed;
 use store::record::Refusal;
 use store::record::Store;
@@ -35,13 +35,9 @@ fn of_item(
     if 512 < level {
         return store.refused(Refusal::Damaged);
     }
-    let call = Call {
-        op: op,
-        p: p,
-        q: item,
-    };
-    let placed = restrict(call, level, store, nodes, lookup, cache);
-    finish(placed, count, nodes, lookup, cache)
+    let mut held = count;
+    let coded = restrict(op, p, item, level, store.capacity, &mut held, nodes, lookup, cache);
+    finish(answered(store.capacity, held, coded), count, nodes, lookup, cache)
 }
 
 // The members of p with the item, the item taken out.

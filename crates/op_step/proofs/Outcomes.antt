@@ -9,12 +9,11 @@ use native.Mathlib.Omega.{arith}
 use Rattle.family.specs.Family.{Family}
 use Rattle.family.proofs.Placing.{place-grown}
 use Rattle.store.specs.declared.record.Store.{Store}
-use Rattle.store.specs.declared.record.Refusal.the-variants.{Damaged}
-use Rattle.store.specs.declared.record.PlaceAnswer.the-variants.{Handle, Refused}
 use Rattle.store.specs.declared.record.Placed.{Placed}
+use Rattle.store.specs.Coded.{placedOf}
 use Rattle.store.specs.Inner.{Roomy, Holds, gave, Ran}
-use Rattle.store.proofs.Held.{within}
 use Rattle.store.proofs.Answers.{handle-is}
+use Rattle.store.proofs.Codes.{coded-held}
 use Rattle.store.proofs.Growing.{kept-self}
 use Rattle.op_cache.specs.declared.Call.{Call}
 use Rattle.op_cache.specs.declared.Recalled.{Recalled}
@@ -39,20 +38,20 @@ module _ (s : Store) (nodes lookup cache : List ℕ) where
         cached = λ B H t h d. rw (e B H) (R .cached B H t h d);
       }
 
-  module _ (roomy : Roomy s nodes lookup) (call : Call) (r : Placed) (es : r .store ≡ s) where
-    pub ran-broken : r .answer ≡ Refused Damaged → ((B : List Family) → Holds B (s .count) nodes lookup → ⊥) → Ran (of call) s nodes lookup cache r nodes lookup cache
-    ran-broken ea f = plain-ran (of call) s nodes lookup cache (plain-broken (of call) s nodes lookup roomy r es ea f)
+  module _ (roomy : Roomy s nodes lookup) (call : Call) where
+    pub ran-broken : ((B : List Family) → Holds B (s .count) nodes lookup → ⊥) → Ran (of call) s nodes lookup cache (placedOf (s .capacity) (s .count) 4294967295) nodes lookup cache
+    ran-broken f = plain-ran (of call) s nodes lookup cache (plain-broken (of call) s nodes lookup roomy f)
 
-    module _ (h : ℕ) (ea : r .answer ≡ Handle h) where
-      pub ran-recalled : {x : Recalled} → 1 ≤ call .op → x ≡ Hit h → RecallOf cache (s .count) call x → Ran (of call) s nodes lookup cache r nodes lookup cache
-      ran-recalled l e C =
-          record {
-            kept = rw es (kept-self s nodes lookup (roomy .within));
-            handle = λ k d. rw es (omega (arith, handle-is (sym ea ∙ d), recalled-within e C));
-            long-cache = refl;
-            rest = λ k m. refl;
-            sound = λ B H t.
-                rw (ea, es, ← recalled-true t l e C .means, place-at H h (omega (arith, recalled-within e C)))
-                (gave {h = h} (record { holds = H; within = omega (arith, recalled-within e C); means = refl }));
-            cached = λ B H t k d. true-grown (place-grown B (of call B)) t;
-          }
+    pub ran-recalled : (h : ℕ) {x : Recalled} → 1 ≤ call .op → x ≡ Hit h → RecallOf cache (s .count) call x → Ran (of call) s nodes lookup cache (placedOf (s .capacity) (s .count) h) nodes lookup cache
+    ran-recalled h l e C =
+        let ea = coded-held h roomy (roomy .within) (recalled-within e C) in
+        record {
+          kept = kept-self s nodes lookup (roomy .within);
+          handle = λ k d. omega (arith, handle-is (sym ea ∙ d), recalled-within e C);
+          long-cache = refl;
+          rest = λ k m. refl;
+          sound = λ B H t.
+              rw (ea, ← recalled-true t l e C .means, place-at H h (omega (arith, recalled-within e C)))
+              (gave {h = h} (record { holds = H; within = omega (arith, recalled-within e C); means = refl }));
+          cached = λ B H t k d. true-grown (place-grown B (of call B)) t;
+        }

@@ -19,13 +19,13 @@ use Rattle.store.specs.declared.record.Placed.{Placed}
 use Rattle.store.specs.Words.{itemLimit}
 use Rattle.store.specs.Operations.{named}
 use Rattle.store.specs.Cache.{Truth, True}
-use Rattle.store_node.specs.Inner.{NodeIt}
+use Rattle.store_node.specs.Inner.{NodeAsks, NodeIt}
 use Rattle.store.specs.Inner.{Holds, Handed, Outcome, Kept, Ran, Roomy}
 use Rattle.store.proofs.Held.{inside}
 use Rattle.store.proofs.Growing.{kept-trans, kept-roomy}
 use Rattle.store.proofs.Answers.{not-both, handed-of, refused-on, by-answer}
 use Rattle.op_cache.specs.declared.Call.{Call}
-use Rattle.op_step.specs.Inner.{RememberedAnswer, Joined, JoinAsks}
+use Rattle.op_step.specs.Inner.{RememberedAnswer}
 use Rattle.store.proofs.Naming.{named-grown}
 use Rattle.store.proofs.Cached.{true-grown}
 use Rattle.op_cache.proofs.Remembering.{true-remembered}
@@ -107,7 +107,7 @@ module _ (call below above : Call) (level : ℕ) (s : Store) (nodes lookup cache
     chained = kept-trans (R .kept) (S .kept)
 
     -- the second result refused
-    step-second : (x : Refusal) → m₂ .answer ≡ Refused x → Ran (of call) s nodes lookup cache m₂ nodes₂ lookup₂ cache₂
+    pub step-second : (x : Refusal) → m₂ .answer ≡ Refused x → Ran (of call) s nodes lookup cache m₂ nodes₂ lookup₂ cache₂
     step-second x e =
         record {
           kept = chained;
@@ -128,7 +128,7 @@ module _ (call below above : Call) (level : ℕ) (s : Store) (nodes lookup cache
           let A = N .sound (place (place B (of below B)) (of above B)) (G .holds) (omega (arith, ap top ea, K .low B H)) (omega (arith, ap top (G .means), K .high B H)) in
           rw (whole H t, K .is B H) (rw (ea, G .means, S .kept .same-capacity ∙ R .kept .same-capacity) at A)
 
-      step-done : Ran (of call) s nodes lookup cache r nodes₃ lookup₃ cache₃
+      pub step-done : Ran (of call) s nodes lookup cache r nodes₃ lookup₃ cache₃
       step-done =
           record {
             kept = kept-trans chained (N .kept);
@@ -146,21 +146,15 @@ module _ (call below above : Call) (level : ℕ) (s : Store) (nodes lookup cache
           stays : (k : ℕ) → length cache₂ / 4 * 4 ≤ k → getD cache₃ k 0 ≡ getD cache₂ k 0
           stays k l = by-answer (r .answer) (λ h e. M .gave h e .rest k l) (λ x e. ap (λ X. getD X k 0) (M .refused x e))
 
-    pub step-joined : {r : Placed} {nodes₃ lookup₃ cache₃ : List ℕ} → Joined m₂ nodes₂ lookup₂ cache₂ call level z r nodes₃ lookup₃ cache₃ → Ran (of call) s nodes lookup cache r nodes₃ lookup₃ cache₃
-    step-joined J =
-        by-answer (m₂ .answer)
-        (λ o e. step-done o e (J .made o e) (J .remembered o e))
-        (λ x e. let q = J .passed x e in rw (q .0, q .1, q .2, q .3) (step-second x e))
-
--- what `join` asks, after two results: the first gave the zero side
-pub join-asks : {F G : List Family → Family} {s : Store} {nodes lookup cache : List ℕ} {first second : Placed} {nodes₁ lookup₁ cache₁ nodes₂ lookup₂ cache₂ : List ℕ} {level z : ℕ}
+-- what Getnode asks, after two results: the zero side and the one side
+pub node-asks : {F G : List Family → Family} {s : Store} {nodes lookup cache : List ℕ} {first second : Placed} {nodes₁ lookup₁ cache₁ nodes₂ lookup₂ cache₂ : List ℕ} {level z o : ℕ}
     → Roomy s nodes lookup → Ran F s nodes lookup cache first nodes₁ lookup₁ cache₁ → first .answer ≡ Handle z → Ran G (first .store) nodes₁ lookup₁ cache₁ second nodes₂ lookup₂ cache₂
-    → 1 ≤ level → level ≤ itemLimit → JoinAsks second nodes₂ lookup₂ level z
-join-asks R L e M some low =
+    → second .answer ≡ Handle o → 1 ≤ level → level ≤ itemLimit → NodeAsks (second .store) nodes₂ lookup₂ level z o
+node-asks R L e M d some low =
     record {
       roomy = kept-roomy (kept-trans (L .kept) (M .kept)) R;
-      level-some = some;
-      level-low = low;
+      item-some = some;
+      item-low = low;
       zero-held = omega (arith, L .handle _ e, M .kept .grows);
-      one-held = M .handle;
+      one-held = M .handle _ d;
     }

@@ -8,8 +8,8 @@ use native.Mathlib.Omega.{arith}
 use Rattle.family.specs.Family.{Family, top, mk}
 use Rattle.family.specs.Book.{at}
 use Rattle.store.specs.declared.record.Store.{Store}
-use Rattle.store.specs.declared.record.PlaceAnswer.the-variants.{Handle}
 use Rattle.store.specs.declared.record.Placed.{Placed}
+use Rattle.store.specs.Coded.{placedOf}
 use Rattle.store.specs.Words.{topAt}
 use Rattle.store.specs.Operations.{restrict, named}
 use Rattle.store_node.specs.Inner.{NodeIt}
@@ -20,7 +20,7 @@ use Rattle.op_cache.specs.declared.Call.{Call}
 use Rattle.op_terminal.specs.Inner.{ItemCall}
 use Rattle.store.proofs.Naming.{named-item, above-subset1, above-subset0, above-change, at-subset1, at-subset0, at-change}
 use Rattle.store_node.proofs.OneNode.{plain-node}
-use Rattle.store.proofs.Plain.{plain-handle}
+use Rattle.store.proofs.Plain.{plain-coded}
 
 module _ (call : Call) (s : Store) (nodes lookup : List ℕ) (I : ItemCall call s nodes lookup) where
   abbrev F : List Family → Family
@@ -34,13 +34,13 @@ module _ (call : Call) (s : Store) (nodes lookup : List ℕ) (I : ItemCall call 
     low : {B : List Family} → Holds B (s .count) nodes lookup → top (at B (call .p)) < call .q
     low H = omega (arith, top-at H (call .p) (omega arith))
 
-    pub above-none : (r : Placed) → r .store ≡ s → r .answer ≡ Handle 0 → call .op ≡ 1 → RanPlain (λ B. named (call .op) B (call .p) (call .q)) s nodes lookup r nodes lookup
-    above-none r es ea e =
-        plain-handle F s nodes lookup (I .roomy) r 0 es ea (omega arith) (λ B H. at-0 H ∙ sym (item B ∙ above-subset1 (call .op) (call .q) (at B (call .p)) (low H) e))
+    pub above-none : call .op ≡ 1 → RanPlain (λ B. named (call .op) B (call .p) (call .q)) s nodes lookup (placedOf (s .capacity) (s .count) 0) nodes lookup
+    above-none e =
+        plain-coded F s nodes lookup (I .roomy) 0 (omega arith) (λ B H. at-0 H ∙ sym (item B ∙ above-subset1 (call .op) (call .q) (at B (call .p)) (low H) e))
 
-    pub above-same : (r : Placed) → r .store ≡ s → r .answer ≡ Handle (call .p) → call .op ≡ 2 → RanPlain (λ B. named (call .op) B (call .p) (call .q)) s nodes lookup r nodes lookup
-    above-same r es ea e =
-        plain-handle F s nodes lookup (I .roomy) r (call .p) es ea (I .held) (λ B H. sym (item B ∙ above-subset0 (call .op) (call .q) (at B (call .p)) (low H) e))
+    pub above-same : call .op ≡ 2 → RanPlain (λ B. named (call .op) B (call .p) (call .q)) s nodes lookup (placedOf (s .capacity) (s .count) (call .p)) nodes lookup
+    above-same e =
+        plain-coded F s nodes lookup (I .roomy) (call .p) (I .held) (λ B H. sym (item B ∙ above-subset0 (call .op) (call .q) (at B (call .p)) (low H) e))
 
     pub above-node : (r : Placed) {nodes′ lookup′ : List ℕ} → (call .op ≡ 1 → ⊥) → (call .op ≡ 2 → ⊥) → NodeIt s nodes lookup (call .q) 0 (call .p) r nodes′ lookup′
         → RanPlain (λ B. named (call .op) B (call .p) (call .q)) s nodes lookup r nodes′ lookup′
@@ -53,13 +53,13 @@ module _ (call : Call) (s : Store) (nodes lookup : List ℕ) (I : ItemCall call 
     is-top : {B : List Family} → Holds B (s .count) nodes lookup → top (at B (call .p)) ≡ call .q
     is-top H = sym (top-at H (call .p) (omega arith)) ∙ here
 
-    pub top-one : (r : Placed) → r .store ≡ s → r .answer ≡ Handle o → call .op ≡ 1 → RanPlain (λ B. named (call .op) B (call .p) (call .q)) s nodes lookup r nodes lookup
-    top-one r es ea e =
-        plain-handle F s nodes lookup (I .roomy) r o es ea (T .one-within) (λ B H. T .holds B lookup H ∙ sym (item B ∙ at-subset1 (call .op) (call .q) (at B (call .p)) (I .item-some) (is-top H) e))
+    pub top-one : call .op ≡ 1 → RanPlain (λ B. named (call .op) B (call .p) (call .q)) s nodes lookup (placedOf (s .capacity) (s .count) o) nodes lookup
+    top-one e =
+        plain-coded F s nodes lookup (I .roomy) o (T .one-within) (λ B H. T .holds B lookup H ∙ sym (item B ∙ at-subset1 (call .op) (call .q) (at B (call .p)) (I .item-some) (is-top H) e))
 
-    pub top-zero : (r : Placed) → r .store ≡ s → r .answer ≡ Handle z → call .op ≡ 2 → RanPlain (λ B. named (call .op) B (call .p) (call .q)) s nodes lookup r nodes lookup
-    top-zero r es ea e =
-        plain-handle F s nodes lookup (I .roomy) r z es ea (T .zero-within) (λ B H. T .lacks B lookup H ∙ sym (item B ∙ at-subset0 (call .op) (call .q) (at B (call .p)) (I .item-some) (is-top H) e))
+    pub top-zero : call .op ≡ 2 → RanPlain (λ B. named (call .op) B (call .p) (call .q)) s nodes lookup (placedOf (s .capacity) (s .count) z) nodes lookup
+    top-zero e =
+        plain-coded F s nodes lookup (I .roomy) z (T .zero-within) (λ B H. T .lacks B lookup H ∙ sym (item B ∙ at-subset0 (call .op) (call .q) (at B (call .p)) (I .item-some) (is-top H) e))
 
     pub top-node : (r : Placed) {nodes′ lookup′ : List ℕ} → (call .op ≡ 1 → ⊥) → (call .op ≡ 2 → ⊥) → NodeIt s nodes lookup (call .q) o z r nodes′ lookup′
         → RanPlain (λ B. named (call .op) B (call .p) (call .q)) s nodes lookup r nodes′ lookup′

@@ -35,6 +35,12 @@ pub record AtAsks (call : Call) (s : Store) (nodes lookup : List ℕ) : Type 0 w
   pub taken : ItemCall call s nodes lookup
   pub here : topAt nodes (call .p) ≡ call .q
 
+-- either, with the top of the family
+pub record LeafAsks (call : Call) (level : ℕ) (s : Store) (nodes lookup : List ℕ) : Type 0 where
+  pub taken : ItemCall call s nodes lookup
+  pub level-is : level ≡ topAt nodes (call .p)
+  pub not-below : level ≤ call .q
+
 -- an operation on two families
 pub record FamilyOperation (op : ℕ) : Type 0 where
   pub some : 4 ≤ op

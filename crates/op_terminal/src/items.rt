@@ -1,49 +1,84 @@
 // Subset1 (1), Subset0 (2) and Change (3): an item above the top, and the top itself.
-ghost use Rattle.op_terminal.specs.Inner.{AboveAsks, AtAsks};
+ghost use Rattle.op_terminal.specs.Inner.{AboveAsks, AtAsks, LeafAsks};
+ghost use Rattle.op_cache.specs.Inner.{callOf};
+ghost use Rattle.store.specs.Coded.{storeOf, placedOf};
 ghost use Rattle.store.specs.Operations.{named};
 ghost use Rattle.store.specs.Inner.{RanPlain};
-use op_cache::Call;
-use store::record::Placed;
-use store::record::Refusal;
-use store::record::Store;
-use store_node::getnode::get_node;
+use store::coded::DAMAGED;
+use store_node::getnode::node_of;
 use store_sides::Sides;
 use store_sides::sides_at;
 
 // An item above the top of p: no member holds it.
-pub fn above_top(call: Call, store: Store, nodes: &mut [u32], lookup: &mut [u32]) -> Placed
-    requires { ⌜ AboveAsks call store (now nodes) (now lookup) ⌝ }
-    ensures { λ r. ⌜ RanPlain (λ B. named (call .op) B (call .p) (call .q)) store (now (nodes .entry)) (now (lookup .entry)) r (now (nodes .exit)) (now (lookup .exit)) ⌝ }
+fn above_top(
+    op: u32,
+    p: u32,
+    item: u32,
+    capacity: u32,
+    count: &mut u32,
+    nodes: &mut [u32],
+    lookup: &mut [u32],
+) -> u32
+    requires { ⌜ AboveAsks (callOf op p item) (storeOf capacity (now count)) (now nodes) (now lookup) ⌝ }
+    ensures { λ r. ⌜ RanPlain (λ B. named op B p item) (storeOf capacity (now (count .entry))) (now (nodes .entry)) (now (lookup .entry)) (placedOf capacity (now (count .exit)) r) (now (nodes .exit)) (now (lookup .exit)) ⌝ }
 {
-    if call.op == 1 {
-        return store.placed(0);
+    if op == 1 {
+        return 0;
     }
-    if call.op == 2 {
-        return store.placed(call.p);
+    if op == 2 {
+        return p;
     }
-    get_node(store, nodes, lookup, call.q, 0, call.p)
+    node_of(capacity, count, nodes, lookup, item, 0, p)
 }
 
 // The top of p itself: its two sides are at hand.
-pub fn at_top(call: Call, store: Store, nodes: &mut [u32], lookup: &mut [u32]) -> Placed
-    requires { ⌜ AtAsks call store (now nodes) (now lookup) ⌝ }
-    ensures { λ r. ⌜ RanPlain (λ B. named (call .op) B (call .p) (call .q)) store (now (nodes .entry)) (now (lookup .entry)) r (now (nodes .exit)) (now (lookup .exit)) ⌝ }
+fn at_top(
+    op: u32,
+    p: u32,
+    item: u32,
+    capacity: u32,
+    count: &mut u32,
+    nodes: &mut [u32],
+    lookup: &mut [u32],
+) -> u32
+    requires { ⌜ AtAsks (callOf op p item) (storeOf capacity (now count)) (now nodes) (now lookup) ⌝ }
+    ensures { λ r. ⌜ RanPlain (λ B. named op B p item) (storeOf capacity (now (count .entry))) (now (nodes .entry)) (now (lookup .entry)) (placedOf capacity (now (count .exit)) r) (now (nodes .exit)) (now (lookup .exit)) ⌝ }
 {
-    match sides_at(nodes, store.count, call.p, call.q) {
-        Sides::Broken => store.refused(Refusal::Damaged),
+    match sides_at(nodes, *count, p, item) {
+        Sides::Broken => DAMAGED,
         Sides::Two {
             zero,
             one,
             ztop: _,
             otop: _,
         } => {
-            if call.op == 1 {
-                return store.placed(one);
+            if op == 1 {
+                return one;
             }
-            if call.op == 2 {
-                return store.placed(zero);
+            if op == 2 {
+                return zero;
             }
-            get_node(store, nodes, lookup, call.q, one, zero)
+            node_of(capacity, count, nodes, lookup, item, one, zero)
         }
     }
+}
+
+// A family whose top, the level, is at most the item.
+pub fn leaf(
+    op: u32,
+    p: u32,
+    item: u32,
+    level: u32,
+    capacity: u32,
+    count: &mut u32,
+    nodes: &mut [u32],
+    lookup: &mut [u32],
+) -> u32
+    requires { ⌜ LeafAsks (callOf op p item) level (storeOf capacity (now count)) (now nodes) (now lookup) ⌝ }
+    ensures { λ r. ⌜ RanPlain (λ B. named op B p item) (storeOf capacity (now (count .entry))) (now (nodes .entry)) (now (lookup .entry)) (placedOf capacity (now (count .exit)) r) (now (nodes .exit)) (now (lookup .exit)) ⌝ }
+{
+    if level < item {
+        return above_top(op, p, item, capacity, count, nodes, lookup);
+    }
+    at_top(op, p, item, capacity, count, nodes, lookup)
 }

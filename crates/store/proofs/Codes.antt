@@ -1,18 +1,27 @@
 -- What each number says as an answer: below the two largest a handle, and each of these a refusal.
 -- The definition tests for them in this order; a handle held is far below them.
-use Prim.Native.Nat.{ℕ, _≤_, _<_}
+use Prim.Native.Nat.{ℕ, _+_, _≤_, _<_}
 use mathlib.Core.Path.{_≡_, sym, _∙_}
+use mathlib.Core.List.{List}
+use native.Mathlib.Omega.{arith}
 use borrow.Author.Tests.{lt-ltb, le-ltb, ne-eqb}
+use Rattle.words.proofs.Cases.{by-eq}
 use Rattle.store.specs.declared.record.Store.{Store}
+use Rattle.store.specs.declared.record.Refusal.{Refusal}
 use Rattle.store.specs.declared.record.Refusal.the-variants.{Full, Damaged}
 use Rattle.store.specs.declared.record.PlaceAnswer.{PlaceAnswer}
 use Rattle.store.specs.declared.record.PlaceAnswer.the-variants.{Handle, Refused}
 use Rattle.store.specs.declared.record.Placed.{Placed}
+use Rattle.store.specs.Inner.{Roomy}
 use Rattle.store.specs.Coded.{answerOf, storeOf, placedOf}
 
 pub coded-handle : (r : ℕ) → r < 4294967294 → answerOf r ≡ Handle r
 unfolding answerOf
 coded-handle r l = rw (lt-ltb r 4294967294 l)
+
+-- a handle held
+pub coded-held : {s : Store} {nodes lookup : List ℕ} {n : ℕ} (h : ℕ) → Roomy s nodes lookup → n ≤ s .capacity → h ≤ n + 1 → answerOf h ≡ Handle h
+coded-held h R l m = coded-handle h (omega (arith, R .small))
 
 pub coded-full : (r : ℕ) → r ≡ 4294967294 → answerOf r ≡ Refused Full
 unfolding answerOf
@@ -21,6 +30,9 @@ coded-full r e = rw e
 pub coded-damaged : (r : ℕ) → 4294967294 ≤ r → (r ≡ 4294967294 → ⊥) → answerOf r ≡ Refused Damaged
 unfolding answerOf
 coded-damaged r l n = rw (le-ltb r 4294967294 l, ne-eqb r 4294967294 n)
+
+pub coded-refused : (r : ℕ) → 4294967294 ≤ r → (x : Refusal) × (answerOf r ≡ Refused x)
+coded-refused r l = by-eq r 4294967294 (λ e d. (Full, coded-full r e)) (λ n d. (Damaged, coded-damaged r l n))
 
 -- an answer of a record, with the number that stands for it
 pub coded-placed : {capacity n : ℕ} {a : PlaceAnswer} (r : ℕ) (x : Placed) → x .store ≡ storeOf capacity n → x .answer ≡ a → answerOf r ≡ a → x ≡ placedOf capacity n r

@@ -9,12 +9,13 @@ use Rattle.family.specs.Family.{Family}
 use Rattle.family.specs.Book.{at, place}
 use Rattle.family.proofs.Placing.{place-grown, place-held}
 use Rattle.store.specs.declared.record.Store.{Store}
-use Rattle.store.specs.declared.record.Refusal.the-variants.{Damaged}
-use Rattle.store.specs.declared.record.PlaceAnswer.the-variants.{Handle, Refused}
+use Rattle.store.specs.declared.record.PlaceAnswer.the-variants.{Handle}
 use Rattle.store.specs.declared.record.Placed.{Placed}
+use Rattle.store.specs.Coded.{placedOf}
 use Rattle.store.specs.Inner.{Roomy, Holds, gave, Ran, RanPlain}
 use Rattle.store.proofs.Held.{held}
 use Rattle.store.proofs.Answers.{handle-is, damaged-not}
+use Rattle.store.proofs.Codes.{coded-held, coded-damaged}
 use Rattle.store.proofs.Growing.{kept-self}
 use Rattle.store.proofs.Cached.{true-grown}
 
@@ -33,10 +34,19 @@ module _ (F : List Family → Family) (s : Store) (nodes lookup : List ℕ) wher
         sound = λ B H. rw (ea, es, ← means B H, place-at H h (omega arith)) (gave {h = h} (record { holds = H; within = omega arith; means = refl }));
       }
 
+  -- the same with the handle as a number
+  pub plain-coded : Roomy s nodes lookup → (h : ℕ) → h ≤ s .count + 1 → ((B : List Family) → Holds B (s .count) nodes lookup → at B h ≡ F B)
+      → RanPlain F s nodes lookup (placedOf (s .capacity) (s .count) h) nodes lookup
+  plain-coded R h l means = plain-handle R (placedOf (s .capacity) (s .count) h) h refl (coded-held h R (R .within) l) l means
+
   -- words that hold no book
-  pub plain-broken : Roomy s nodes lookup → (r : Placed) → r .store ≡ s → r .answer ≡ Refused Damaged → ((B : List Family) → Holds B (s .count) nodes lookup → ⊥) → RanPlain F s nodes lookup r nodes lookup
-  plain-broken R r es ea f =
-      record { kept = rw es (kept-self s nodes lookup (R .within)); handle = λ h e. damaged-not h ea e; sound = λ B H. absurd (f B H) }
+  pub plain-broken : Roomy s nodes lookup → ((B : List Family) → Holds B (s .count) nodes lookup → ⊥) → RanPlain F s nodes lookup (placedOf (s .capacity) (s .count) 4294967295) nodes lookup
+  plain-broken R f =
+      record {
+        kept = kept-self s nodes lookup (R .within);
+        handle = λ h e. damaged-not h (coded-damaged 4294967295 (omega arith) (omega arith)) e;
+        sound = λ B H. absurd (f B H);
+      }
 
   -- a call that leaves the cache alone
   pub plain-ran : {r : Placed} {nodes′ lookup′ : List ℕ} (cache : List ℕ) → RanPlain F s nodes lookup r nodes′ lookup′ → Ran F s nodes lookup cache r nodes′ lookup′ cache

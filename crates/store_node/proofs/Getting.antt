@@ -22,7 +22,7 @@ use Rattle.store.specs.Inner.{Roomy, Holds, Handed, Outcome, gave, full, Kept}
 use Rattle.store_node.specs.Inner.{NodeAsks, MadeOf, found, new, MadeIt, NodeIt}
 use Rattle.store.proofs.Held.{at-0, within, positive-one, held}
 use Rattle.store.proofs.Growing.{kept-self}
-use Rattle.store.proofs.Codes.{coded-handle, coded-full, coded-damaged}
+use Rattle.store.proofs.Codes.{coded-held, coded-full, coded-damaged}
 use Rattle.store.proofs.Answers.{handle-is, refused-not, damaged-not}
 
 pub made-inhabited : (B : List Family) (i : ℕ) (a b : Family) → T (inhabited b) → made B i a b ≡ add B (node i a b)
@@ -51,15 +51,11 @@ not-bad e (found G) = let z : _≡_ {A = ℕ} 0 1 = cc in omega arith
 not-bad e (new l G) = let z : _≡_ {A = ℕ} 0 1 = cc in omega arith
 not-bad e (MadeOf.full l k H) = let z : _≡_ {A = ℕ} 0 1 = cc in omega arith
 
--- a handle held is no number of a refusal
-held-low : {s : Store} {nodes lookup : List ℕ} {n h : ℕ} → Roomy s nodes lookup → n ≤ s .capacity → h ≤ n + 1 → answerOf h ≡ Handle h
-held-low {h = h} R l m = coded-handle h (omega (arith, R .small))
-
 module _ (s : Store) (nodes lookup : List ℕ) (i z o : ℕ) (A : NodeAsks s nodes lookup i z o) where
   -- the one side is {}
   pub node-zero : o ≡ 0 → NodeIt s nodes lookup i z o (placedOf (s .capacity) (s .count) z) nodes lookup
   node-zero e =
-      let ea : answerOf z ≡ Handle z = held-low (A .roomy) (A .roomy .within) (A .zero-held) in
+      let ea : answerOf z ≡ Handle z = coded-held z (A .roomy) (A .roomy .within) (A .zero-held) in
       record {
         kept = kept-self s nodes lookup (A .roomy .within);
         handle = λ h d. omega (arith, handle-is (sym ea ∙ d), A .zero-held);
@@ -95,7 +91,7 @@ module _ (s : Store) (nodes lookup : List ℕ) (i z o : ℕ) (A : NodeAsks s nod
         → Outcome (made B i (at B z) (at B o)) (mk i (at B z) (at B o)) (s .capacity) (m .store .count) nodes′ lookup′ (Handle h))
         → NodeIt s nodes lookup i z o (placedOf (s .capacity) (m .store .count) h) nodes′ lookup′
     node-handle h l f =
-        let ea : answerOf h ≡ Handle h = held-low (A .roomy) (M .kept .fits) l in
+        let ea : answerOf h ≡ Handle h = coded-held h (A .roomy) (M .kept .fits) l in
         record { kept = kept; handle = λ g d. omega (arith, handle-is (sym ea ∙ d)); sound = λ B H tz to. rw ea (f B H tz to) }
 
     pub node-found : (h : ℕ) → m .made ≡ Found h → NodeIt s nodes lookup i z o (placedOf (s .capacity) (m .store .count) h) nodes′ lookup′

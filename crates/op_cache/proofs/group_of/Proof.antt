@@ -5,6 +5,9 @@ use borrow.Author.Needs.{needs}
 use Rattle.op_cache.proofs.group_of.Statement.{statement}
 use Rattle.op_cache.proofs.group_of.Tie as tie
 
+returns : tie.Need-returns
+returns c = search needs
+
 cast-spread : tie.Need-cast-spread
 cast-spread c = search needs
 
@@ -29,13 +32,14 @@ add-sum-2 c = search needs
 rem-result : tie.Need-rem-result
 rem-result c = search needs
 
-returns : tie.Need-returns
-returns c = mod-lt _ ((c .before .before .before) .pre)
+returns-2 : tie.Need-returns-2
+returns-2 c some = mod-lt _ some
 
 pub group-of-spec : {M : Type 1} → statement M
 group-of-spec =
     tie.close
     (tie.spec
+    returns
     cast-spread
     mul-spread
     cast-sum
@@ -44,4 +48,4 @@ group-of-spec =
     mul-sum
     add-sum-2
     rem-result
-    returns)
+    returns-2)

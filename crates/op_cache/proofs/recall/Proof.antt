@@ -9,9 +9,6 @@ use Rattle.op_cache.proofs.recall.Tie as tie
 returns : tie.Need-returns
 returns c = miss
 
-group-of-requires : tie.Need-group-of-requires
-group-of-requires c κs = search needs
-
 mul-at : tie.Need-mul-at
 mul-at c = search needs
 
@@ -68,10 +65,10 @@ returns-6 c =
     let at-if4 : tie.Else4 = search in
     let at-if3 : tie.Else3 = search in
     let at-if2 : tie.Else2 = search in
-    let at-group-of : tie.After-group-of = search in
-    let g = at-group-of .group-of in
-    hit {g = g .result} record {
-      within = omega (arith, g .ensures);
+    let at-if1 : tie.Else1 = search in
+    let at-start : tie.Start = search in
+    hit {g = at-start .args .group} record {
+      within = omega (arith, at-if1 .if1 .left);
       op-is = at-if4 .if4 .left;
       first-is = at-if2 .if2 .left;
       second-is = at-if3 .if3 .left;
@@ -83,7 +80,6 @@ recall-spec =
     tie.close
     (tie.spec
     returns
-    group-of-requires
     mul-at
     add-if2
     mul-if2

@@ -1,7 +1,9 @@
 -- `at_top` gives what the operation is at the top item: a side, or the node of the sides swapped.
 -- Each way out is one law of restricting; where a split fails, the words hold no book.
+use Rattle.store.specs.Coded.{storeOf}
 use Rattle.store_sides.proofs.Answers.{sides-two, sides-broken}
 use Rattle.store.proofs.Plain.{plain-broken}
+use Rattle.op_cache.specs.Inner.{callOf}
 use Rattle.op_terminal.proofs.Restricting.{top-one, top-zero, top-node}
 use borrow.Author.Needs.{needs}
 use Rattle.op_terminal.proofs.items.at_top.Statement.{statement}
@@ -13,14 +15,8 @@ sides-at-requires c κs = search needs
 enum-told : tie.Need-enum-told
 enum-told c = search needs
 
-refused-requires : tie.Need-refused-requires
-refused-requires c κs = search needs
-
 enum-known-zero : tie.Need-enum-known-zero
 enum-known-zero c = search needs
-
-placed-requires : tie.Need-placed-requires
-placed-requires c κs = search needs
 
 same-length : tie.Need-same-length
 same-length c = search needs
@@ -32,11 +28,7 @@ returns c =
     let at-start : tie.Start = search in
     let a = at-start .args in
     let p = at-start .pre in
-    top-one (a .call) (a .store) (a .nodes .now) (a .lookup .now) (p .taken) (p .here)
-    (sides-two (at-zero .zero .given .1) (at-sides-at .sides-at .ensures)) (c .placed .result) (c .placed .ensures .0) (c .placed .ensures .1) ((c .before) .if1 .taken)
-
-placed-requires-2 : tie.Need-placed-requires-2
-placed-requires-2 c κs = search needs
+    top-one (callOf (a .op) (a .p) (a .item)) (storeOf (a .capacity) (a .count .now)) (a .nodes .now) (a .lookup .now) (p .taken) (p .here) (sides-two (at-zero .zero .given .1) (at-sides-at .sides-at .ensures)) (c .if1 .taken)
 
 same-length-2 : tie.Need-same-length-2
 same-length-2 c = search needs
@@ -48,11 +40,10 @@ returns-2 c =
     let at-start : tie.Start = search in
     let a = at-start .args in
     let p = at-start .pre in
-    top-zero (a .call) (a .store) (a .nodes .now) (a .lookup .now) (p .taken) (p .here)
-    (sides-two (at-zero .zero .given .1) (at-sides-at .sides-at .ensures)) (c .placed2 .result) (c .placed2 .ensures .0) (c .placed2 .ensures .1) ((c .before) .if2 .taken)
+    top-zero (callOf (a .op) (a .p) (a .item)) (storeOf (a .capacity) (a .count .now)) (a .nodes .now) (a .lookup .now) (p .taken) (p .here) (sides-two (at-zero .zero .given .1) (at-sides-at .sides-at .ensures)) (c .if2 .taken)
 
-get-node-requires : tie.Need-get-node-requires
-get-node-requires c κs =
+node-of-requires : tie.Need-node-of-requires
+node-of-requires c κs =
     let at-zero : tie.After-zero = search in
     let at-sides-at : tie.After-sides-at = search in
     let at-start : tie.Start = search in
@@ -65,11 +56,13 @@ same-length-3 c = search needs
 
 returns-3 : tie.Need-returns-3
 returns-3 c =
+    let at-told : tie.After-enum-told = search in
+    let at-sides-at : tie.After-sides-at = search in
     let at-start : tie.Start = search in
     let a = at-start .args in
     let p = at-start .pre in
-    plain-broken _ (a .store) (a .nodes .now) (a .lookup .now) (p .taken .roomy) (c .refused .result) (c .refused .ensures .0) (c .refused .ensures .1)
-    (λ B H. sides-broken ((c .before) .enum-told .given .1) ((c .before .before .before) .sides-at .ensures) B (a .lookup .now) H)
+    plain-broken _ (storeOf (a .capacity) (a .count .now)) (a .nodes .now) (a .lookup .now) (p .taken .roomy)
+    (λ B H. sides-broken (at-told .enum-told .given .1) (at-sides-at .sides-at .ensures) B (a .lookup .now) H)
 
 same-length-4 : tie.Need-same-length-4
 same-length-4 c = search needs
@@ -79,7 +72,7 @@ same-length-5 c = search needs
 
 returns-4 : tie.Need-returns-4
 returns-4 c =
-    let at-get-node : tie.After-get-node = search in
+    let at-node-of : tie.After-node-of = search in
     let at-if2 : tie.Else2 = search in
     let at-if1 : tie.Else1 = search in
     let at-zero : tie.After-zero = search in
@@ -87,9 +80,7 @@ returns-4 c =
     let at-start : tie.Start = search in
     let a = at-start .args in
     let p = at-start .pre in
-    top-node (a .call) (a .store) (a .nodes .now) (a .lookup .now) (p .taken) (p .here)
-    (sides-two (at-zero .zero .given .1) (at-sides-at .sides-at .ensures)) (at-get-node .get-node .result)
-    (at-if1 .if1 .left) (at-if2 .if2 .left) (at-get-node .get-node .ensures)
+    top-node (callOf (a .op) (a .p) (a .item)) (storeOf (a .capacity) (a .count .now)) (a .nodes .now) (a .lookup .now) (p .taken) (p .here) (sides-two (at-zero .zero .given .1) (at-sides-at .sides-at .ensures)) _ (at-if1 .if1 .left) (at-if2 .if2 .left) (at-node-of .node-of .ensures)
 
 pub at-top-spec : {M : Type 1} → statement M
 at-top-spec =
@@ -97,15 +88,12 @@ at-top-spec =
     (tie.spec
     sides-at-requires
     enum-told
-    refused-requires
     enum-known-zero
-    placed-requires
     same-length
     returns
-    placed-requires-2
     same-length-2
     returns-2
-    get-node-requires
+    node-of-requires
     same-length-3
     returns-3
     same-length-4
