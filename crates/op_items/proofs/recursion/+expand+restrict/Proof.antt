@@ -3,12 +3,15 @@
 -- Every way out is one at or above the top, a recalled result, or one step over the two results below.
 use Prim.Native.Nat.{ℕ, _+_, _*_, _<_}
 use native.Mathlib.Omega.{arith}
+use Rattle.store.specs.Coded.{storeOf}
+use Rattle.store.proofs.Codes.{coded-handle, coded-refused}
 use Rattle.store.proofs.Growing.{kept-top, kept-roomy}
-use Rattle.store_sides.proofs.Answers.{sides-two, sides-broken}
 use Rattle.store.proofs.Plain.{plain-ran}
-use Rattle.op_step.proofs.Steps.{join-asks, of, step-first, step-joined}
-use Rattle.op_items.proofs.Splits.{split-item}
+use Rattle.store_sides.proofs.Answers.{sides-two, sides-broken}
+use Rattle.op_cache.specs.Inner.{callOf}
+use Rattle.op_step.proofs.Steps.{node-asks, step-first, step-second, step-done}
 use Rattle.op_step.proofs.Outcomes.{ran-broken, ran-recalled}
+use Rattle.op_items.proofs.Splits.{split-item}
 use borrow.Author.Needs.{needs}
 use borrow.Fn.Kinds.{In}
 use borrow.Fn.PlainCycle.{Measures, is, falls, and}
@@ -18,40 +21,58 @@ use Rattle.op_items.proofs.recursion.+expand+restrict.Lts-expand as exp
 use Rattle.op_items.proofs.recursion.restrict.Reads as restrict
 use Rattle.op_items.proofs.recursion.restrict.Kinds as restrict-kinds
 use Rattle.op_items.proofs.recursion.+expand+restrict.Lts-restrict as restrict-lts
+use Rattle.op_cache.proofs.group_of.Reads as group-of-reads
 use Rattle.op_cache.proofs.recall.Reads as recall-reads
-use Rattle.op_terminal.proofs.items.above_top.Reads as above-top-reads
-use Rattle.op_terminal.proofs.items.at_top.Reads as at-top-reads
-use Rattle.op_step.proofs.join.Reads as join-reads
+use Rattle.op_step.proofs.keep.Reads as keep-reads
+use Rattle.op_terminal.proofs.items.leaf.Reads as leaf-reads
+use Rattle.store_node.proofs.getnode.node_of.Reads as node-of-reads
 use Rattle.store_sides.proofs.sides_at.Reads as sides-at-reads
-use Rattle.store.proofs.record.Store.placed.Reads as placed-reads
-use Rattle.store.proofs.record.Store.refused.Reads as refused-reads
 use Rattle.op_items.proofs.recursion.+expand+restrict.{statement}
 use Rattle.op_items.proofs.recursion.+expand+restrict.Tie.{close}
 
-abbrev μ-expand : Measures 3 expand-kinds.ps ℕ
-μ-expand κs a = 2 * a .1 .0
+abbrev μ-expand : Measures 4 expand-kinds.ps ℕ
+μ-expand κs a = 2 * a .1 .1 .1 .0
 
-abbrev μ-restrict : Measures 3 restrict-kinds.ps ℕ
-μ-restrict κs a = 2 * a .1 .0 + 1
+abbrev μ-restrict : Measures 4 restrict-kinds.ps ℕ
+μ-restrict κs a = 2 * a .1 .1 .1 .0 + 1
 
-abbrev expand-at : ℕ → In 3 expand-kinds.ps
-expand-at t = and 3 expand-kinds.ps (is 3 expand-kinds.ps μ-expand t) expand.Pre
+abbrev expand-at : ℕ → In 4 expand-kinds.ps
+expand-at t = and 4 expand-kinds.ps (is 4 expand-kinds.ps μ-expand t) expand.Pre
 
-abbrev expand-below : ℕ → In 3 expand-kinds.ps
-expand-below t = and 3 expand-kinds.ps (falls 3 expand-kinds.ps _<_ μ-expand t) expand.Pre
+abbrev expand-below : ℕ → In 4 expand-kinds.ps
+expand-below t = and 4 expand-kinds.ps (falls 4 expand-kinds.ps _<_ μ-expand t) expand.Pre
 
-abbrev restrict-at : ℕ → In 3 restrict-kinds.ps
-restrict-at t = and 3 restrict-kinds.ps (is 3 restrict-kinds.ps μ-restrict t) restrict.Pre
+abbrev restrict-at : ℕ → In 4 restrict-kinds.ps
+restrict-at t = and 4 restrict-kinds.ps (is 4 restrict-kinds.ps μ-restrict t) restrict.Pre
 
-abbrev restrict-below : ℕ → In 3 restrict-kinds.ps
+abbrev restrict-below : ℕ → In 4 restrict-kinds.ps
 restrict-below t =
-    and 3 restrict-kinds.ps (falls 3 restrict-kinds.ps _<_ μ-restrict t) restrict.Pre
+    and 4 restrict-kinds.ps (falls 4 restrict-kinds.ps _<_ μ-restrict t) restrict.Pre
 
 abbrev expand-claims : ℕ → expand-lts.Claims
-expand-claims t = (sides-at-reads.Asked, sides-at-reads.Learnt, refused-reads.Asked, refused-reads.Learnt, restrict-below t, restrict.Post, join-reads.Asked, join-reads.Learnt)
+expand-claims t = (group-of-reads.Asked, group-of-reads.Learnt, recall-reads.Asked, recall-reads.Learnt, sides-at-reads.Asked, sides-at-reads.Learnt, restrict-below t, restrict.Post, node-of-reads.Asked, node-of-reads.Learnt, keep-reads.Asked, keep-reads.Learnt)
 
 abbrev restrict-claims : ℕ → restrict-lts.Claims
-restrict-claims t = (above-top-reads.Asked, above-top-reads.Learnt, at-top-reads.Asked, at-top-reads.Learnt, recall-reads.Asked, recall-reads.Learnt, placed-reads.Asked, placed-reads.Learnt, expand-below t, expand.Post)
+restrict-claims t = (leaf-reads.Asked, leaf-reads.Learnt, expand-below t, expand.Post)
+
+-- the start, seen from where the sides are at hand
+abbrev start-of : (t : ℕ) → expand-lts.After-p0 (expand-claims t) (expand-at t) expand.Post → expand-lts.Start (expand-claims t) (expand-at t) expand.Post
+start-of t c = search
+
+expand-recall-requires : (t : ℕ) → expand-lts.Need-recall-requires (expand-claims t) (expand-at t) expand.Post
+expand-recall-requires t c κs =
+    let at-start : expand-lts.Start (expand-claims t) (expand-at t) expand.Post = search in
+    let p = at-start .pre in
+    omega (arith, p .1 .asks .taken .roomy .within, p .1 .asks .taken .roomy .small)
+
+expand-returns : (t : ℕ) → expand-lts.Need-returns (expand-claims t) (expand-at t) expand.Post
+expand-returns t c =
+    let at-handle : expand-lts.After-handle (expand-claims t) (expand-at t) expand.Post = search in
+    let at-recall : expand-lts.After-recall (expand-claims t) (expand-at t) expand.Post = search in
+    let at-start : expand-lts.Start (expand-claims t) (expand-at t) expand.Post = search in
+    let a = at-start .args in
+    let p = at-start .pre in
+    ran-recalled (storeOf (a .capacity) (a .count .now)) (a .nodes .now) (a .lookup .now) (a .cache .now) (p .1 .asks .taken .roomy) (callOf (a .op) (a .p) (a .item)) _ (omega (arith, p .1 .asks .taken .operation .some)) (at-handle .handle .given .1) (at-recall .recall .ensures)
 
 expand-sides-at-requires : (t : ℕ) → expand-lts.Need-sides-at-requires (expand-claims t) (expand-at t) expand.Post
 expand-sides-at-requires t c κs =
@@ -66,6 +87,15 @@ expand-sides-at-requires t c κs =
       some = omega (arith, p .1 .below);
     }
 
+expand-returns-2 : (t : ℕ) → expand-lts.Need-returns-2 (expand-claims t) (expand-at t) expand.Post
+expand-returns-2 t c =
+    let at-told : expand-lts.After-enum-told2 (expand-claims t) (expand-at t) expand.Post = search in
+    let at-sides-at : expand-lts.After-sides-at (expand-claims t) (expand-at t) expand.Post = search in
+    let at-start : expand-lts.Start (expand-claims t) (expand-at t) expand.Post = search in
+    let a = at-start .args in
+    let p = at-start .pre in
+    ran-broken (storeOf (a .capacity) (a .count .now)) (a .nodes .now) (a .lookup .now) (a .cache .now) (p .1 .asks .taken .roomy) (callOf (a .op) (a .p) (a .item)) (λ B H. sides-broken (at-told .enum-told2 .given .1) (at-sides-at .sides-at .ensures) B (a .lookup .now) H)
+
 expand-restrict-requires : (t : ℕ) → expand-lts.Need-restrict-requires (expand-claims t) (expand-at t) expand.Post
 expand-restrict-requires t c κs =
     let at-p0 : expand-lts.After-p0 (expand-claims t) (expand-at t) expand.Post = search in
@@ -76,24 +106,24 @@ expand-restrict-requires t c κs =
     let I = p .1 .asks .taken in
     (omega arith, search needs)
 
-expand-returns : (t : ℕ) → expand-lts.Need-returns (expand-claims t) (expand-at t) expand.Post
-expand-returns t c =
+expand-returns-3 : (t : ℕ) → expand-lts.Need-returns-3 (expand-claims t) (expand-at t) expand.Post
+expand-returns-3 t c =
     let at-restrict : expand-lts.After-restrict (expand-claims t) (expand-at t) expand.Post = search in
     let at-p0 : expand-lts.After-p0 (expand-claims t) (expand-at t) expand.Post = search in
     let at-sides-at : expand-lts.After-sides-at (expand-claims t) (expand-at t) expand.Post = search in
-    let at-start : expand-lts.Start (expand-claims t) (expand-at t) expand.Post = search in
+    let at-start = start-of t at-p0 in
     let a = at-start .args in
     let p = at-start .pre in
-    step-first (a .call) _ _ (a .level) (a .store) (a .nodes .now) (a .lookup .now) (a .cache .now)
-    (split-item (p .1) (sides-two (at-p0 .p0 .given .1) (at-sides-at .sides-at .ensures)))
-    (at-restrict .restrict .ensures) _ (c .enum-told2 .given .1)
+    let K = sides-two (at-p0 .p0 .given .1) (at-sides-at .sides-at .ensures) in
+    let R = coded-refused _ (c .if1 .taken) in
+    step-first (callOf (a .op) (a .p) (a .item)) _ _ (a .level) (storeOf (a .capacity) (a .count .now)) (a .nodes .now) (a .lookup .now) (a .cache .now) (split-item (p .1) K) (at-restrict .restrict .ensures) (R .0) (R .1)
 
 expand-restrict-requires-2 : (t : ℕ) → expand-lts.Need-restrict-requires-2 (expand-claims t) (expand-at t) expand.Post
 expand-restrict-requires-2 t c κs =
     let at-restrict : expand-lts.After-restrict (expand-claims t) (expand-at t) expand.Post = search in
-    let at-p0 : expand-lts.After-p0 (expand-claims t) (expand-at t) expand.Post = search in
-    let at-sides-at : expand-lts.After-sides-at (expand-claims t) (expand-at t) expand.Post = search in
-    let at-start : expand-lts.Start (expand-claims t) (expand-at t) expand.Post = search (at-sides-at) in
+    let at-p0 : expand-lts.After-p0 (expand-claims t) (expand-at t) expand.Post = search (at-restrict) in
+    let at-sides-at : expand-lts.After-sides-at (expand-claims t) (expand-at t) expand.Post = search (at-restrict) in
+    let at-start = start-of t at-p0 in
     let p = at-start .pre in
     let K = sides-two (at-p0 .p0 .given .1) (at-sides-at .sides-at .ensures) in
     let L = at-restrict .restrict .ensures .kept in
@@ -112,118 +142,70 @@ expand-restrict-requires-2 t c κs =
       },
     )
 
-expand-join-requires : (t : ℕ) → expand-lts.Need-join-requires (expand-claims t) (expand-at t) expand.Post
-expand-join-requires t c κs =
+expand-returns-4 : (t : ℕ) → expand-lts.Need-returns-4 (expand-claims t) (expand-at t) expand.Post
+expand-returns-4 t c =
     let at-restrict2 : expand-lts.After-restrict2 (expand-claims t) (expand-at t) expand.Post = search in
-    let at-answer : expand-lts.After-answer (expand-claims t) (expand-at t) expand.Post = search in
-    let at-restrict : expand-lts.After-restrict (expand-claims t) (expand-at t) expand.Post = search in
+    let at-if1 : expand-lts.Else1 (expand-claims t) (expand-at t) expand.Post = search in
+    let at-restrict : expand-lts.After-restrict (expand-claims t) (expand-at t) expand.Post = search (at-if1) in
     let at-p0 : expand-lts.After-p0 (expand-claims t) (expand-at t) expand.Post = search (at-restrict) in
     let at-sides-at : expand-lts.After-sides-at (expand-claims t) (expand-at t) expand.Post = search (at-restrict) in
-    let at-start : expand-lts.Start (expand-claims t) (expand-at t) expand.Post = search (at-restrict) in
+    let at-start = start-of t at-p0 in
+    let a = at-start .args in
     let p = at-start .pre in
     let K = sides-two (at-p0 .p0 .given .1) (at-sides-at .sides-at .ensures) in
-    let L = at-restrict .restrict .ensures in
-    let M = at-restrict2 .restrict2 .ensures in
-    join-asks (p .1 .asks .taken .roomy) L (at-answer .answer .given .1) M (omega (arith, p .1 .below)) (p .1 .asks .level-low)
+    let R = coded-refused _ (c .if2 .taken) in
+    step-second (callOf (a .op) (a .p) (a .item)) _ _ (a .level) (storeOf (a .capacity) (a .count .now)) (a .nodes .now) (a .lookup .now) (a .cache .now) (split-item (p .1) K) (at-restrict .restrict .ensures) _ (coded-handle _ (at-if1 .if1 .left)) (at-restrict2 .restrict2 .ensures) (R .0) (R .1)
 
-expand-returns-2 : (t : ℕ) → expand-lts.Need-returns-2 (expand-claims t) (expand-at t) expand.Post
-expand-returns-2 t c =
-    let at-start : expand-lts.Start (expand-claims t) (expand-at t) expand.Post = search in
+expand-node-of-requires : (t : ℕ) → expand-lts.Need-node-of-requires (expand-claims t) (expand-at t) expand.Post
+expand-node-of-requires t c κs =
+    let at-if2 : expand-lts.Else2 (expand-claims t) (expand-at t) expand.Post = search in
+    let at-restrict2 : expand-lts.After-restrict2 (expand-claims t) (expand-at t) expand.Post = search in
+    let at-if1 : expand-lts.Else1 (expand-claims t) (expand-at t) expand.Post = search in
+    let at-restrict : expand-lts.After-restrict (expand-claims t) (expand-at t) expand.Post = search (at-if1) in
+    let at-p0 : expand-lts.After-p0 (expand-claims t) (expand-at t) expand.Post = search (at-restrict) in
+    let at-start = start-of t at-p0 in
+    let p = at-start .pre in
+    node-asks (p .1 .asks .taken .roomy) (at-restrict .restrict .ensures) (coded-handle _ (at-if1 .if1 .left)) (at-restrict2 .restrict2 .ensures) (coded-handle _ (at-if2 .if2 .left)) (omega (arith, p .1 .below)) (p .1 .asks .level-low)
+
+expand-returns-5 : (t : ℕ) → expand-lts.Need-returns-5 (expand-claims t) (expand-at t) expand.Post
+expand-returns-5 t c =
+    let at-keep : expand-lts.After-keep (expand-claims t) (expand-at t) expand.Post = search in
+    let at-node-of : expand-lts.After-node-of (expand-claims t) (expand-at t) expand.Post = search in
+    let at-if2 : expand-lts.Else2 (expand-claims t) (expand-at t) expand.Post = search in
+    let at-restrict2 : expand-lts.After-restrict2 (expand-claims t) (expand-at t) expand.Post = search (at-if2) in
+    let at-if1 : expand-lts.Else1 (expand-claims t) (expand-at t) expand.Post = search (at-if2) in
+    let at-restrict : expand-lts.After-restrict (expand-claims t) (expand-at t) expand.Post = search (at-if1) in
+    let at-p0 : expand-lts.After-p0 (expand-claims t) (expand-at t) expand.Post = search (at-restrict) in
+    let at-sides-at : expand-lts.After-sides-at (expand-claims t) (expand-at t) expand.Post = search (at-restrict) in
+    let at-start = start-of t at-p0 in
     let a = at-start .args in
     let p = at-start .pre in
-    ran-broken (a .store) (a .nodes .now) (a .lookup .now) (a .cache .now) (p .1 .asks .taken .roomy) (a .call) (c .refused .result) (c .refused .ensures .0) (c .refused .ensures .1)
-    (λ B H. sides-broken ((c .before) .enum-told .given .1) ((c .before .before .before) .sides-at .ensures) B (a .lookup .now) H)
+    let K = sides-two (at-p0 .p0 .given .1) (at-sides-at .sides-at .ensures) in
+    step-done (callOf (a .op) (a .p) (a .item)) _ _ (a .level) (storeOf (a .capacity) (a .count .now)) (a .nodes .now) (a .lookup .now) (a .cache .now) (split-item (p .1) K) (at-restrict .restrict .ensures) _ (coded-handle _ (at-if1 .if1 .left)) (at-restrict2 .restrict2 .ensures) _ (coded-handle _ (at-if2 .if2 .left)) (at-node-of .node-of .ensures) (at-keep .keep .ensures)
 
-expand-same-length-5 : (t : ℕ) → expand-lts.Need-same-length-5 (expand-claims t) (expand-at t) expand.Post
-expand-same-length-5 t c =
-    let at-join : expand-lts.After-join (expand-claims t) (expand-at t) expand.Post = search in
-    let at-restrict2 : expand-lts.After-restrict2 (expand-claims t) (expand-at t) expand.Post = search in
-    let at-answer : expand-lts.After-answer (expand-claims t) (expand-at t) expand.Post = search in
-    let at-restrict : expand-lts.After-restrict (expand-claims t) (expand-at t) expand.Post = search (at-answer) in
-    cc
-
-expand-same-length-6 : (t : ℕ) → expand-lts.Need-same-length-6 (expand-claims t) (expand-at t) expand.Post
-expand-same-length-6 t c =
-    let at-join : expand-lts.After-join (expand-claims t) (expand-at t) expand.Post = search in
-    let at-restrict2 : expand-lts.After-restrict2 (expand-claims t) (expand-at t) expand.Post = search in
-    let at-answer : expand-lts.After-answer (expand-claims t) (expand-at t) expand.Post = search in
-    let at-restrict : expand-lts.After-restrict (expand-claims t) (expand-at t) expand.Post = search (at-answer) in
-    cc
-
-expand-same-length-7 : (t : ℕ) → expand-lts.Need-same-length-7 (expand-claims t) (expand-at t) expand.Post
-expand-same-length-7 t c =
-    let at-join : expand-lts.After-join (expand-claims t) (expand-at t) expand.Post = search in
-    let at-restrict2 : expand-lts.After-restrict2 (expand-claims t) (expand-at t) expand.Post = search in
-    let at-answer : expand-lts.After-answer (expand-claims t) (expand-at t) expand.Post = search in
-    let at-restrict : expand-lts.After-restrict (expand-claims t) (expand-at t) expand.Post = search (at-answer) in
-    cc
-
-expand-returns-3 : (t : ℕ) → expand-lts.Need-returns-3 (expand-claims t) (expand-at t) expand.Post
-expand-returns-3 t c =
-    let at-join : expand-lts.After-join (expand-claims t) (expand-at t) expand.Post = search in
-    let at-restrict2 : expand-lts.After-restrict2 (expand-claims t) (expand-at t) expand.Post = search in
-    let at-answer : expand-lts.After-answer (expand-claims t) (expand-at t) expand.Post = search in
-    let at-restrict : expand-lts.After-restrict (expand-claims t) (expand-at t) expand.Post = search (at-answer) in
-    let at-p0 : expand-lts.After-p0 (expand-claims t) (expand-at t) expand.Post = search (at-answer) in
-    let at-sides-at : expand-lts.After-sides-at (expand-claims t) (expand-at t) expand.Post = search (at-answer) in
-    let at-start : expand-lts.Start (expand-claims t) (expand-at t) expand.Post = search (at-answer) in
-    let a = at-start .args in
-    let p = at-start .pre in
-    step-joined (a .call) _ _ (a .level) (a .store) (a .nodes .now) (a .lookup .now) (a .cache .now)
-    (split-item (p .1) (sides-two (at-p0 .p0 .given .1) (at-sides-at .sides-at .ensures)))
-    (at-restrict .restrict .ensures) _ (at-answer .answer .given .1) (at-restrict2 .restrict2 .ensures) (at-join .join .ensures)
-
-restrict-above-top-requires : (t : ℕ) → restrict-lts.Need-above-top-requires (restrict-claims t) (restrict-at t) restrict.Post
-restrict-above-top-requires t c κs =
+restrict-leaf-requires : (t : ℕ) → restrict-lts.Need-leaf-requires (restrict-claims t) (restrict-at t) restrict.Post
+restrict-leaf-requires t c κs =
     let at-start : restrict-lts.Start (restrict-claims t) (restrict-at t) restrict.Post = search in
+    let at-if1 : restrict-lts.Then1 (restrict-claims t) (restrict-at t) restrict.Post = search in
     let p = at-start .pre in
-    record { taken = p .1 .taken; above = omega (arith, p .1 .level-is, (c .before .before) .if1 .taken) }
+    record { taken = p .1 .taken; level-is = p .1 .level-is; not-below = at-if1 .if1 .taken }
 
 restrict-returns : (t : ℕ) → restrict-lts.Need-returns (restrict-claims t) (restrict-at t) restrict.Post
 restrict-returns t c =
-    let at-above-top : restrict-lts.After-above-top (restrict-claims t) (restrict-at t) restrict.Post = search in
+    let at-leaf : restrict-lts.After-leaf (restrict-claims t) (restrict-at t) restrict.Post = search in
     let at-start : restrict-lts.Start (restrict-claims t) (restrict-at t) restrict.Post = search in
     let a = at-start .args in
-    plain-ran (of (a .call)) (a .store) (a .nodes .now) (a .lookup .now) (a .cache .now) (at-above-top .above-top .ensures)
-
-restrict-at-top-requires : (t : ℕ) → restrict-lts.Need-at-top-requires (restrict-claims t) (restrict-at t) restrict.Post
-restrict-at-top-requires t c κs =
-    let at-start : restrict-lts.Start (restrict-claims t) (restrict-at t) restrict.Post = search in
-    let p = at-start .pre in
-    record { taken = p .1 .taken; here = omega (arith, p .1 .level-is, (c .before .before) .if2 .taken) }
-
-restrict-returns-2 : (t : ℕ) → restrict-lts.Need-returns-2 (restrict-claims t) (restrict-at t) restrict.Post
-restrict-returns-2 t c =
-    let at-at-top : restrict-lts.After-at-top (restrict-claims t) (restrict-at t) restrict.Post = search in
-    let at-start : restrict-lts.Start (restrict-claims t) (restrict-at t) restrict.Post = search in
-    let a = at-start .args in
-    plain-ran (of (a .call)) (a .store) (a .nodes .now) (a .lookup .now) (a .cache .now) (at-at-top .at-top .ensures)
-
-restrict-recall-requires : (t : ℕ) → restrict-lts.Need-recall-requires (restrict-claims t) (restrict-at t) restrict.Post
-restrict-recall-requires t c κs =
-    let at-start : restrict-lts.Start (restrict-claims t) (restrict-at t) restrict.Post = search in
-    let p = at-start .pre in
-    omega (arith, p .1 .taken .roomy .within, p .1 .taken .roomy .small)
-
-restrict-returns-3 : (t : ℕ) → restrict-lts.Need-returns-3 (restrict-claims t) (restrict-at t) restrict.Post
-restrict-returns-3 t c =
-    let at-recall : restrict-lts.After-recall (restrict-claims t) (restrict-at t) restrict.Post = search in
-    let at-start : restrict-lts.Start (restrict-claims t) (restrict-at t) restrict.Post = search in
-    let a = at-start .args in
-    let p = at-start .pre in
-    ran-recalled (a .store) (a .nodes .now) (a .lookup .now) (a .cache .now) (p .1 .taken .roomy) (a .call) (c .placed .result) (c .placed .ensures .0) _ (c .placed .ensures .1)
-    (p .1 .taken .operation .some) ((c .before .before) .handle .given .1) (at-recall .recall .ensures)
+    plain-ran _ (storeOf (a .capacity) (a .count .now)) (a .nodes .now) (a .lookup .now) (a .cache .now) (at-leaf .leaf .ensures)
 
 restrict-expand-requires : (t : ℕ) → restrict-lts.Need-expand-requires (restrict-claims t) (restrict-at t) restrict.Post
 restrict-expand-requires t c κs =
-    let at-if2 : restrict-lts.Else2 (restrict-claims t) (restrict-at t) restrict.Post = search in
-    let at-if1 : restrict-lts.Else1 (restrict-claims t) (restrict-at t) restrict.Post = search in
     let at-start : restrict-lts.Start (restrict-claims t) (restrict-at t) restrict.Post = search in
+    let at-if1 : restrict-lts.Else1 (restrict-claims t) (restrict-at t) restrict.Post = search in
     let p = at-start .pre in
-    (omega (arith, p .0), record { asks = p .1; below = omega (arith, at-if1 .if1 .left, at-if2 .if2 .left) })
+    (omega (arith, p .0), record { asks = p .1; below = omega (arith, at-if1 .if1 .left) })
 
-restrict-returns-4 : (t : ℕ) → restrict-lts.Need-returns-4 (restrict-claims t) (restrict-at t) restrict.Post
-restrict-returns-4 t c =
+restrict-returns-2 : (t : ℕ) → restrict-lts.Need-returns-2 (restrict-claims t) (restrict-at t) restrict.Post
+restrict-returns-2 t c =
     let at-expand : restrict-lts.After-expand (restrict-claims t) (restrict-at t) restrict.Post = search in
     at-expand .expand .ensures
 
@@ -231,44 +213,43 @@ pub +expand+restrict-spec : {M : Type 1} → statement M
 +expand+restrict-spec = close μ-expand μ-restrict (λ t. expand-lts.spec (expand-claims t)
     (expand-at t)
     expand.Post
+    (λ c κs. search needs)
+    (expand-recall-requires t)
+    (λ c. search needs)
+    (λ c. search needs)
+    (expand-returns t)
+    (λ c. search needs)
     (expand-sides-at-requires t)
     (λ c. search needs)
-    (λ c κs. search needs)
     (λ c. search needs)
+    (λ c. search needs)
+    (λ c. search needs)
+    (expand-returns-2 t)
     (expand-restrict-requires t)
     (λ c. search needs)
     (λ c. search needs)
     (λ c. search needs)
-    (λ c. search needs)
-    (λ c. search needs)
-    (expand-returns t)
+    (expand-returns-3 t)
     (expand-restrict-requires-2 t)
-    (expand-join-requires t)
     (λ c. search needs)
-    (expand-returns-2 t)
-    (expand-same-length-5 t)
-    (expand-same-length-6 t)
-    (expand-same-length-7 t)
-    (expand-returns-3 t))
+    (λ c. search needs)
+    (λ c. search needs)
+    (expand-returns-4 t)
+    (expand-node-of-requires t)
+    (λ c κs. search needs)
+    (λ c. search needs)
+    (λ c. search needs)
+    (λ c. search needs)
+    (expand-returns-5 t))
     λ t. restrict-lts.spec (restrict-claims t)
     (restrict-at t)
     restrict.Post
-    (restrict-above-top-requires t)
+    (restrict-leaf-requires t)
     (λ c. search needs)
     (λ c. search needs)
     (restrict-returns t)
-    (restrict-at-top-requires t)
-    (λ c. search needs)
-    (λ c. search needs)
-    (restrict-returns-2 t)
-    (restrict-recall-requires t)
-    (λ c. search needs)
-    (λ c κs. search needs)
-    (λ c. search needs)
-    (restrict-returns-3 t)
-    (λ c. search needs)
     (restrict-expand-requires t)
     (λ c. search needs)
     (λ c. search needs)
     (λ c. search needs)
-    (restrict-returns-4 t)
+    (restrict-returns-2 t)
