@@ -7,8 +7,8 @@ use mathlib.Core.Logic.{_⊎_, ⊎-elim}
 use native.Mathlib.Omega.{arith}
 use Rattle.family.specs.Book.{at}
 use Rattle.store.specs.declared.record.Store.{Store}
-use Rattle.store.specs.declared.record.PlaceAnswer.the-variants.{Handle}
 use Rattle.store.specs.declared.record.Placed.{Placed}
+use Rattle.store.specs.Coded.{placedOf}
 use Rattle.store.specs.Words.{topAt}
 use Rattle.store.specs.Inner.{Roomy, Ran}
 use Rattle.store.proofs.Held.{at-0, within}
@@ -16,7 +16,7 @@ use Rattle.op_cache.specs.declared.Call.{Call}
 use Rattle.op_cache.specs.declared.Recalled.{Recalled}
 use Rattle.op_cache.specs.declared.Recalled.the-variants.{Hit, Miss}
 use Rattle.op_terminal.specs.Inner.{OrderedAs, Shortcut, Proper, ShortcutOf, known, unknown}
-use Rattle.store.proofs.Plain.{plain-handle, plain-ran}
+use Rattle.store.proofs.Plain.{plain-coded, plain-ran}
 use Rattle.op_step.proofs.Steps.{of}
 use Rattle.op_step.proofs.Outcomes.{ran-same}
 
@@ -32,15 +32,13 @@ shortcut-proper e S = out (rw e at S)
     out : {call : Call} → ShortcutOf call Miss → Proper call
     out (unknown K) = K
 
-module _ (s : Store) (nodes lookup cache : List ℕ) where
-  module _ (roomy : Roomy s nodes lookup) (call : Call) (r : Placed) (es : r .store ≡ s) where
-    module _ (h : ℕ) (ea : r .answer ≡ Handle h) where
-      pub ran-shortcut : {x : Recalled} → call .p ≤ s .count + 1 → call .q ≤ s .count + 1 → x ≡ Hit h → ShortcutOf call x → Ran (of call) s nodes lookup cache r nodes lookup cache
-      ran-shortcut lp lq e S =
-          let K = shortcut-known e S in
-          plain-ran (of call) s nodes lookup cache (plain-handle (of call) s nodes lookup roomy r h es ea
-          (⊎-elim (λ d. omega arith) (λ d. ⊎-elim (λ c. omega arith) (λ c. omega arith) d) (K .one-of))
-          (λ B H. K .means B (at-0 H) (within H (call .p) (omega arith) .ordered) (within H (call .q) (omega arith) .ordered)))
+pub ran-shortcut : (s : Store) (nodes lookup cache : List ℕ) → Roomy s nodes lookup → (call : Call) (h : ℕ) {x : Recalled} → call .p ≤ s .count + 1 → call .q ≤ s .count + 1 → x ≡ Hit h → ShortcutOf call x
+    → Ran (of call) s nodes lookup cache (placedOf (s .capacity) (s .count) h) nodes lookup cache
+ran-shortcut s nodes lookup cache roomy call h lp lq e S =
+    let K = shortcut-known e S in
+    plain-ran (of call) s nodes lookup cache (plain-coded (of call) s nodes lookup roomy h
+    (⊎-elim (λ d. omega arith) (λ d. ⊎-elim (λ c. omega arith) (λ c. omega arith) d) (K .one-of))
+    (λ B H. K .means B (at-0 H) (within H (call .p) (omega arith) .ordered) (within H (call .q) (omega arith) .ordered)))
 
 -- the call with its operands in order
 module _ {asked call : Call} (O : OrderedAs asked call) where

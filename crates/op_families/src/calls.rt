@@ -35,8 +35,24 @@ fn of_families(
         return store.refused(Refusal::Damaged);
     }
     let mut held = count;
-    let coded = apply(op, p, q, level, store.capacity, &mut held, nodes, lookup, cache);
-    finish(answered(store.capacity, held, coded), count, nodes, lookup, cache)
+    let coded = apply(
+        op,
+        p,
+        q,
+        level,
+        store.capacity,
+        &mut held,
+        nodes,
+        lookup,
+        cache,
+    );
+    finish(
+        answered(store.capacity, held, coded),
+        count,
+        nodes,
+        lookup,
+        cache,
+    )
 }
 
 // The combinations in p or in q.

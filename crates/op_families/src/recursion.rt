@@ -92,7 +92,17 @@ pub fn apply(
     if let Recalled::Hit(handle) = shortcut(call) {
         return handle;
     }
-    expand(op, call.p, call.q, level, capacity, count, nodes, lookup, cache)
+    expand(
+        call.op,
+        call.p,
+        call.q,
+        level,
+        capacity,
+        count,
+        nodes,
+        lookup,
+        cache,
+    )
 }
 
 // The same where it is no terminal case: the cache, else the two sides and the node of their results.

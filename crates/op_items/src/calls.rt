@@ -36,8 +36,24 @@ fn of_item(
         return store.refused(Refusal::Damaged);
     }
     let mut held = count;
-    let coded = restrict(op, p, item, level, store.capacity, &mut held, nodes, lookup, cache);
-    finish(answered(store.capacity, held, coded), count, nodes, lookup, cache)
+    let coded = restrict(
+        op,
+        p,
+        item,
+        level,
+        store.capacity,
+        &mut held,
+        nodes,
+        lookup,
+        cache,
+    );
+    finish(
+        answered(store.capacity, held, coded),
+        count,
+        nodes,
+        lookup,
+        cache,
+    )
 }
 
 // The members of p with the item, the item taken out.

@@ -88,16 +88,25 @@ apply-requires c κs =
       level-low = omega (arith, at-if1 .if1 .left);
     }
 
+answered-requires : tie.Need-answered-requires
+answered-requires c κs = search needs
+
+-- the tests passed, seen from where the level is known to be low
+abbrev told-of : tie.Else1 → tie.After-enum-told
+told-of c = search
+
 finish-requires : tie.Need-finish-requires
 finish-requires c κs =
+    let at-answered : tie.After-answered = search in
     let at-apply : tie.After-apply = search in
-    let at-told : tie.After-enum-told = search in
+    let at-if1 : tie.Else1 = search in
+    let at-told = told-of at-if1 in
     let at-tested : tie.After-tested = search in
     let at-start : tie.Start = search in
     let a = at-start .args in
     let P = tested-clear (a .nodes .now) (a .lookup .now) (at-tested .tested .ensures) (at-told .enum-told .given .1) in
     let K = at-apply .apply .ensures .kept in
-    record { roomy = kept-roomy K (P .roomy); fewer = K .grows }
+    rw (at-answered .answered .ensures) (record { roomy = kept-roomy K (P .roomy); fewer = K .grows })
 
 same-length-2 : tie.Need-same-length-2
 same-length-2 c = search needs
@@ -111,6 +120,7 @@ same-length-4 c = search needs
 returns-3 : tie.Need-returns-3
 returns-3 c =
     let at-finish : tie.After-finish = search in
+    let at-answered : tie.After-answered = search in
     let at-apply : tie.After-apply = search in
     let at-larger : tie.After-larger = search (at-apply) in
     let at-told : tie.After-enum-told = search (at-larger) in
@@ -119,7 +129,7 @@ returns-3 c =
     let a = at-start .args in
     let P = tested-clear (a .nodes .now) (a .lookup .now) (at-tested .tested .ensures) (at-told .enum-told .given .1) in
     let number = family-number (a .op) (a .store .count) (a .p) (a .q) (at-start .pre .some) in
-    done _ _ _ _ _ _ (P .fits) _ (number ∙ P .number-is) (at-apply .apply .ensures) (at-finish .finish .ensures)
+    done _ _ _ _ _ _ (P .fits) _ (number ∙ P .number-is) (at-apply .apply .ensures) (rw (at-answered .answered .ensures) at (at-finish .finish .ensures))
 
 pub of-families-spec : {M : Type 1} → statement M
 of-families-spec =
@@ -137,6 +147,7 @@ of-families-spec =
     same-length
     returns-2
     apply-requires
+    answered-requires
     finish-requires
     same-length-2
     same-length-3

@@ -100,7 +100,7 @@ expand-restrict-requires : (t : ℕ) → expand-lts.Need-restrict-requires (expa
 expand-restrict-requires t c κs =
     let at-p0 : expand-lts.After-p0 (expand-claims t) (expand-at t) expand.Post = search in
     let at-sides-at : expand-lts.After-sides-at (expand-claims t) (expand-at t) expand.Post = search in
-    let at-start : expand-lts.Start (expand-claims t) (expand-at t) expand.Post = search in
+    let at-start = start-of t at-p0 in
     let p = at-start .pre in
     let K = sides-two (at-p0 .p0 .given .1) (at-sides-at .sides-at .ensures) in
     let I = p .1 .asks .taken in
