@@ -1,22 +1,25 @@
 -- A terminal case of two families runs as the call that it answers, and so does a call with its operands in order.
 -- A terminal case gives a handle that is in the book already; an order that names the same family runs the same.
-use Prim.Native.Nat.{ℕ, _+_, _≤_, max}
-use mathlib.Core.Path.{_≡_, sym, ap}
+use Prim.Native.Nat.{ℕ, _+_, _≤_}
+use mathlib.Core.Path.{_≡_, refl, sym, ap}
 use mathlib.Core.List.{List}
 use mathlib.Core.Logic.{_⊎_, ⊎-elim}
 use native.Mathlib.Omega.{arith}
 use Rattle.family.specs.Book.{at}
 use Rattle.store.specs.declared.record.Store.{Store}
+use Rattle.store.specs.declared.record.PlaceAnswer.the-variants.{Handle}
 use Rattle.store.specs.declared.record.Placed.{Placed}
 use Rattle.store.specs.Coded.{placedOf}
 use Rattle.store.specs.Words.{topAt}
-use Rattle.store.specs.Inner.{Roomy, Ran}
+use Rattle.store.specs.Inner.{Ran}
+use Rattle.store.proofs.Codes.{coded-held}
 use Rattle.store.proofs.Held.{at-0, within}
 use Rattle.op_cache.specs.declared.Call.{Call}
 use Rattle.op_cache.specs.declared.Recalled.{Recalled}
 use Rattle.op_cache.specs.declared.Recalled.the-variants.{Hit, Miss}
 use Rattle.op_terminal.specs.Inner.{OrderedAs, Shortcut, Proper, ShortcutOf, known, unknown}
-use Rattle.store.proofs.Plain.{plain-coded, plain-ran}
+use Rattle.op_families.specs.Inner.{ApplyAsks}
+use Rattle.store.proofs.Plain.{plain-handle, plain-ran}
 use Rattle.op_step.proofs.Steps.{of}
 use Rattle.op_step.proofs.Outcomes.{ran-same}
 
@@ -32,31 +35,41 @@ shortcut-proper e S = out (rw e at S)
     out : {call : Call} → ShortcutOf call Miss → Proper call
     out (unknown K) = K
 
-pub ran-shortcut : (s : Store) (nodes lookup cache : List ℕ) → Roomy s nodes lookup → (call : Call) (h : ℕ) {x : Recalled} → call .p ≤ s .count + 1 → call .q ≤ s .count + 1 → x ≡ Hit h → ShortcutOf call x
-    → Ran (of call) s nodes lookup cache (placedOf (s .capacity) (s .count) h) nodes lookup cache
-ran-shortcut s nodes lookup cache roomy call h lp lq e S =
-    let K = shortcut-known e S in
-    plain-ran (of call) s nodes lookup cache (plain-coded (of call) s nodes lookup roomy h
-    (⊎-elim (λ d. omega arith) (λ d. ⊎-elim (λ c. omega arith) (λ c. omega arith) d) (K .one-of))
-    (λ B H. K .means B (at-0 H) (within H (call .p) (omega arith) .ordered) (within H (call .q) (omega arith) .ordered)))
+-- a call, and the same with its operands in order
+module _ {asked call : Call} (O : OrderedAs asked call) {level : ℕ} {s : Store} {nodes lookup : List ℕ} (A : ApplyAsks asked level s nodes lookup) where
+  pub ordered-asks : ApplyAsks call level s nodes lookup
+  ordered-asks =
+      let I = A .taken in
+      let e = O .op-is in
+      record {
+        taken = record {
+          roomy = I .roomy;
+          operation = record { some = omega (arith, I .operation .some); low = omega (arith, I .operation .low) };
+          first = ⊎-elim (λ d. omega (arith, d .0, I .first)) (λ d. omega (arith, d .0, I .second)) (O .operands);
+          second = ⊎-elim (λ d. omega (arith, d .1, I .second)) (λ d. omega (arith, d .1, I .first)) (O .operands);
+        };
+        level-is = ⊎-elim (λ d. omega (arith, A .level-is, ap (λ k. topAt nodes k) (d .0), ap (λ k. topAt nodes k) (d .1)))
+            (λ d. omega (arith, A .level-is, ap (λ k. topAt nodes k) (d .0), ap (λ k. topAt nodes k) (d .1))) (O .operands);
+        level-low = A .level-low;
+      }
 
--- the call with its operands in order
-module _ {asked call : Call} (O : OrderedAs asked call) where
-  pub ordered-op : call .op ≡ asked .op
-  ordered-op = O .op-is
+  pub ran-ordered : (cache : List ℕ) {r : Placed} {nodes′ lookup′ cache′ : List ℕ} → Ran (of call) s nodes lookup cache r nodes′ lookup′ cache′ → Ran (of asked) s nodes lookup cache r nodes′ lookup′ cache′
+  ran-ordered cache R =
+      ran-same s nodes lookup cache
+      (λ B H. sym (O .named-is B (within H (asked .p) (omega (arith, A .taken .first)) .ordered) (within H (asked .q) (omega (arith, A .taken .second)) .ordered))) R
 
-  module _ (n : ℕ) (lp : asked .p ≤ n + 1) (lq : asked .q ≤ n + 1) where
-    pub ordered-first : call .p ≤ n + 1
-    ordered-first = ⊎-elim (λ d. omega (arith, d .0)) (λ d. omega (arith, d .0)) (O .operands)
+  -- a terminal case, as an answer and as a number
+  module _ (cache : List ℕ) {h : ℕ} {x : Recalled} (e : x ≡ Hit h) (S : ShortcutOf call x) where
+    terminal-held : h ≤ s .count + 1
+    terminal-held =
+        let I = ordered-asks .taken in
+        ⊎-elim (λ d. omega arith) (λ d. ⊎-elim (λ c. omega (arith, I .first)) (λ c. omega (arith, I .second)) d) (shortcut-known e S .one-of)
 
-    pub ordered-second : call .q ≤ n + 1
-    ordered-second = ⊎-elim (λ d. omega (arith, d .1)) (λ d. omega (arith, d .1)) (O .operands)
+    pub ran-terminal : (r : Placed) → r .store ≡ s → r .answer ≡ Handle h → Ran (of asked) s nodes lookup cache r nodes lookup cache
+    ran-terminal r es ea =
+        let I = ordered-asks .taken in
+        ran-ordered cache (plain-ran (of call) s nodes lookup cache (plain-handle (of call) s nodes lookup (I .roomy) r h es ea terminal-held
+        (λ B H. shortcut-known e S .means B (at-0 H) (within H (call .p) (omega (arith, I .first)) .ordered) (within H (call .q) (omega (arith, I .second)) .ordered))))
 
-  pub ordered-level : (nodes : List ℕ) {level : ℕ} → level ≡ max (topAt nodes (asked .p)) (topAt nodes (asked .q)) → level ≡ max (topAt nodes (call .p)) (topAt nodes (call .q))
-  ordered-level nodes e =
-      ⊎-elim (λ d. omega (arith, ap (λ k. topAt nodes k) (d .0), ap (λ k. topAt nodes k) (d .1))) (λ d. omega (arith, ap (λ k. topAt nodes k) (d .0), ap (λ k. topAt nodes k) (d .1))) (O .operands)
-
-  pub ran-ordered : (s : Store) (nodes lookup cache : List ℕ) {r : Placed} {nodes′ lookup′ cache′ : List ℕ} → asked .p ≤ s .count + 1 → asked .q ≤ s .count + 1
-      → Ran (of call) s nodes lookup cache r nodes′ lookup′ cache′ → Ran (of asked) s nodes lookup cache r nodes′ lookup′ cache′
-  ran-ordered s nodes lookup cache lp lq R =
-      ran-same s nodes lookup cache (λ B H. sym (O .named-is B (within H (asked .p) (omega arith) .ordered) (within H (asked .q) (omega arith) .ordered))) R
+    pub coded-terminal : Ran (of asked) s nodes lookup cache (placedOf (s .capacity) (s .count) h) nodes lookup cache
+    coded-terminal = ran-terminal (placedOf (s .capacity) (s .count) h) refl (coded-held h (A .taken .roomy) (A .taken .roomy .within) terminal-held)

@@ -1,16 +1,19 @@
 // Union, Intsec and Diff: what refuses them, the recursion, and the end of the call.
 ghost use Rattle.op_terminal.specs.Inner.{FamilyOperation};
 ghost use Rattle.op_promise.specs.Promise.{OperationCall};
-use crate::recursion::apply;
+use crate::recursion::expand;
 use crate::recursion::larger;
-use store::coded::answered;
+use op_cache::Call;
+use op_cache::Recalled;
+use op_terminal::families::ordered;
+use op_terminal::families::shortcut;
 use store::record::Placed;
 use store::record::Refusal;
 use store::record::Store;
 use store::tests::Test;
 use store::tests::tested;
 use store_sides::top_of;
-use store_undo::finish;
+use store_undo::finish_coded;
 
 // An operation on two families.
 fn of_families(
@@ -34,11 +37,15 @@ fn of_families(
     if 512 < level {
         return store.refused(Refusal::Damaged);
     }
+    let call = ordered(Call { op: op, p: p, q: q });
+    if let Recalled::Hit(handle) = shortcut(call) {
+        return store.placed(handle);
+    }
     let mut held = count;
-    let coded = apply(
-        op,
-        p,
-        q,
+    let coded = expand(
+        call.op,
+        call.p,
+        call.q,
         level,
         store.capacity,
         &mut held,
@@ -46,13 +53,7 @@ fn of_families(
         lookup,
         cache,
     );
-    finish(
-        answered(store.capacity, held, coded),
-        count,
-        nodes,
-        lookup,
-        cache,
-    )
+    finish_coded(store, held, coded, nodes, lookup, cache)
 }
 
 // The combinations in p or in q.

@@ -74,7 +74,7 @@ fn fork_at(nodes: &[u32], count: u32, call: Call, level: u32) -> Fork
 }
 
 // The operation on two families whose larger top is the level: terminal cases at once, else by the two sides.
-pub fn apply(
+fn apply(
     op: u32,
     p: u32,
     q: u32,
@@ -106,7 +106,7 @@ pub fn apply(
 }
 
 // The same where it is no terminal case: the cache, else the two sides and the node of their results.
-fn expand(
+pub fn expand(
     op: u32,
     p: u32,
     q: u32,

@@ -1,8 +1,8 @@
 // Subset1, Subset0 and Change: what refuses them, the recursion, and the end of the call.
 ghost use Rattle.op_terminal.specs.Inner.{ItemOperation};
 ghost use Rattle.op_promise.specs.Promise.{OperationCall};
-use crate::recursion::restrict;
-use store::coded::answered;
+use crate::recursion::expand;
+use op_terminal::items::leaf;
 use store::record::Placed;
 use store::record::Refusal;
 use store::record::Store;
@@ -10,7 +10,7 @@ use store::tests::Test;
 use store::tests::item_test;
 use store::tests::tested;
 use store_sides::top_of;
-use store_undo::finish;
+use store_undo::finish_coded;
 
 // An operation on a family and an item.
 fn of_item(
@@ -36,7 +36,11 @@ fn of_item(
         return store.refused(Refusal::Damaged);
     }
     let mut held = count;
-    let coded = restrict(
+    if level <= item {
+        let coded = leaf(op, p, item, level, store.capacity, &mut held, nodes, lookup);
+        return finish_coded(store, held, coded, nodes, lookup, cache);
+    }
+    let coded = expand(
         op,
         p,
         item,
@@ -47,13 +51,7 @@ fn of_item(
         lookup,
         cache,
     );
-    finish(
-        answered(store.capacity, held, coded),
-        count,
-        nodes,
-        lookup,
-        cache,
-    )
+    finish_coded(store, held, coded, nodes, lookup, cache)
 }
 
 // The members of p with the item, the item taken out.

@@ -17,7 +17,7 @@ use store_sides::Sides;
 use store_sides::sides_at;
 
 // The operation on a family whose top is the level: at once where the item is not below it, else by the two sides.
-pub fn restrict(
+fn restrict(
     op: u32,
     p: u32,
     item: u32,
@@ -38,7 +38,7 @@ pub fn restrict(
 }
 
 // The same with the item below the level: the cache, else the two sides and the node of their results.
-fn expand(
+pub fn expand(
     op: u32,
     p: u32,
     item: u32,

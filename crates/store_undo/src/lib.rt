@@ -1,5 +1,7 @@
 // Taking back the newest nodes.
+ghost use Rattle.store.specs.Coded.{storeOf, placedOf};
 ghost use Rattle.store_undo.specs.Inner.{UndoAsks, RolledBack, Finished};
+use store::coded::answered;
 use store::record::PlaceAnswer;
 use store::record::Placed;
 use store::record::Store;
@@ -40,4 +42,20 @@ pub fn finish(
             before.refused(refusal)
         }
     }
+}
+
+// The same for a call whose answer is a number, with so many nodes held after it.
+pub fn finish_coded(
+    store: Store,
+    held: u32,
+    coded: u32,
+    nodes: &mut [u32],
+    lookup: &mut [u32],
+    cache: &mut [u32],
+) -> Placed
+    requires { ⌜ UndoAsks (storeOf (store .capacity) held) (now nodes) (now lookup) (store .count) ⌝ }
+    ensures { λ r. ⌜ Finished (placedOf (store .capacity) held coded) (store .count) (now (nodes .entry)) (now (lookup .entry)) (now (cache .entry)) r (now (nodes .exit)) (now (lookup .exit)) (now (cache .exit)) ⌝ }
+{
+    let placed = answered(store.capacity, held, coded);
+    finish(placed, store.count, nodes, lookup, cache)
 }

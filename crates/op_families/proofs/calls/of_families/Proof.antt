@@ -1,13 +1,52 @@
 -- `of_families` tests in document 01's order, then runs the recursion and ends as every placing call does.
 -- Each way out is one law of refusing, or of a call that ran to its end.
-use mathlib.Core.Path.{sym, _∙_}
+use mathlib.Core.Path.{_≡_, sym, _∙_}
 use native.Mathlib.Omega.{arith}
 use Rattle.store.proofs.Growing.{kept-roomy}
-use Rattle.store.proofs.Testing.{tested-clear, placing-refused}
+use Rattle.store.proofs.Testing.{Tested, tested-clear, placing-refused}
+use Rattle.store_undo.proofs.Finishing.{finished-gave}
+use Rattle.op_cache.specs.Inner.{callOf}
+use Rattle.op_promise.specs.Promise.{operationRefusal}
 use Rattle.op_promise.proofs.Refusing.{family-number, refused-tops, done}
+use Rattle.op_families.specs.Inner.{ApplyAsks}
+use Rattle.op_families.proofs.Shortcuts.{shortcut-proper, ordered-asks, ran-ordered, ran-terminal}
 use borrow.Author.Needs.{needs}
 use Rattle.op_families.proofs.calls.of_families.Statement.{statement}
 use Rattle.op_families.proofs.calls.of_families.Tie as tie
+
+-- what stands before the tests passed
+abbrev start-of : tie.After-enum-told → tie.Start
+start-of c = search
+
+-- the tests passed
+passed : (c : tie.After-enum-told) → let a = (start-of c) .args in Tested (a .store) (a .nodes .now) (a .lookup .now) (a .p) (a .q) 0 0 0
+passed c =
+    let at-tested : tie.After-tested = search in
+    let a = (start-of c) .args in
+    tested-clear (a .nodes .now) (a .lookup .now) (at-tested .tested .ensures) (c .enum-told .given .1)
+
+none : (c : tie.After-enum-told) → let a = (start-of c) .args in operationRefusal (a .op) (a .store .count) (a .p) (a .q) ≡ 0
+none c =
+    let a = (start-of c) .args in
+    family-number (a .op) (a .store .count) (a .p) (a .q) ((start-of c) .pre .some) ∙ passed c .number-is
+
+-- the level is known to be low
+abbrev told-of : tie.Else1 → tie.After-enum-told
+told-of c = search
+
+abbrev larger-of : tie.Else1 → tie.After-larger
+larger-of c = search
+
+asks : (c : tie.Else1) → let a = (start-of (told-of c)) .args in ApplyAsks (callOf (a .op) (a .p) (a .q)) ((larger-of c) .larger .result) (a .store) (a .nodes .now) (a .lookup .now)
+asks c =
+    let at-second : tie.After-top-of2 = search in
+    let at-first : tie.After-top-of = search in
+    let P = passed (told-of c) in
+    record {
+      taken = record { roomy = P .roomy; operation = (start-of (told-of c)) .pre; first = P .passed .first; second = P .passed .second };
+      level-is = omega (arith, at-first .top-of .ensures, at-second .top-of2 .ensures, (larger-of c) .larger .ensures);
+      level-low = omega (arith, c .if1 .left);
+    }
 
 tested-requires : tie.Need-tested-requires
 tested-requires c κs = search needs
@@ -34,19 +73,13 @@ enum-told c = search needs
 top-of-requires : tie.Need-top-of-requires
 top-of-requires c κs =
     let at-told : tie.After-enum-told = search in
-    let at-tested : tie.After-tested = search in
-    let at-start : tie.Start = search in
-    let a = at-start .args in
-    let P = tested-clear (a .nodes .now) (a .lookup .now) (at-tested .tested .ensures) (at-told .enum-told .given .1) in
+    let P = passed at-told in
     record { held = P .passed .first; words = omega (arith, P .roomy .within, P .roomy .words) }
 
 top-of-requires-2 : tie.Need-top-of-requires-2
 top-of-requires-2 c κs =
     let at-told : tie.After-enum-told = search in
-    let at-tested : tie.After-tested = search in
-    let at-start : tie.Start = search in
-    let a = at-start .args in
-    let P = tested-clear (a .nodes .now) (a .lookup .now) (at-tested .tested .ensures) (at-told .enum-told .given .1) in
+    let P = passed at-told in
     record { held = P .passed .second; words = omega (arith, P .roomy .within, P .roomy .words) }
 
 larger-requires : tie.Need-larger-requires
@@ -64,52 +97,57 @@ returns-2 c =
     let at-second : tie.After-top-of2 = search in
     let at-first : tie.After-top-of = search in
     let at-told : tie.After-enum-told = search in
-    let at-tested : tie.After-tested = search in
-    let at-start : tie.Start = search in
-    let a = at-start .args in
-    let P = tested-clear (a .nodes .now) (a .lookup .now) (at-tested .tested .ensures) (at-told .enum-told .given .1) in
+    let P = passed at-told in
     refused-tops _ _ _ _ _ _ (P .fits) _ (P .passed .first) (P .passed .second)
     (omega (arith, at-first .top-of .ensures, at-second .top-of2 .ensures, at-larger .larger .ensures, (c .before) .if1 .taken)) (c .refused2 .result) (c .refused2 .ensures .0)
 
-apply-requires : tie.Need-apply-requires
-apply-requires c κs =
-    let at-if1 : tie.Else1 = search in
-    let at-larger : tie.After-larger = search in
-    let at-second : tie.After-top-of2 = search in
-    let at-first : tie.After-top-of = search in
-    let at-told : tie.After-enum-told = search in
-    let at-tested : tie.After-tested = search in
-    let at-start : tie.Start = search in
-    let a = at-start .args in
-    let P = tested-clear (a .nodes .now) (a .lookup .now) (at-tested .tested .ensures) (at-told .enum-told .given .1) in
-    record {
-      taken = record { roomy = P .roomy; operation = at-start .pre; first = P .passed .first; second = P .passed .second };
-      level-is = omega (arith, at-first .top-of .ensures, at-second .top-of2 .ensures, at-larger .larger .ensures);
-      level-low = omega (arith, at-if1 .if1 .left);
-    }
+ordered-requires : tie.Need-ordered-requires
+ordered-requires c κs = search needs
 
-answered-requires : tie.Need-answered-requires
-answered-requires c κs = search needs
+shortcut-requires : tie.Need-shortcut-requires
+shortcut-requires c κs = search needs
 
--- the tests passed, seen from where the level is known to be low
-abbrev told-of : tie.Else1 → tie.After-enum-told
-told-of c = search
+enum-known-handle : tie.Need-enum-known-handle
+enum-known-handle c = search needs
 
-finish-requires : tie.Need-finish-requires
-finish-requires c κs =
-    let at-answered : tie.After-answered = search in
-    let at-apply : tie.After-apply = search in
-    let at-if1 : tie.Else1 = search in
-    let at-told = told-of at-if1 in
-    let at-tested : tie.After-tested = search in
-    let at-start : tie.Start = search in
-    let a = at-start .args in
-    let P = tested-clear (a .nodes .now) (a .lookup .now) (at-tested .tested .ensures) (at-told .enum-told .given .1) in
-    let K = at-apply .apply .ensures .kept in
-    rw (at-answered .answered .ensures) (record { roomy = kept-roomy K (P .roomy); fewer = K .grows })
+placed-requires : tie.Need-placed-requires
+placed-requires c κs = search needs
 
 same-length-2 : tie.Need-same-length-2
 same-length-2 c = search needs
+
+returns-3 : tie.Need-returns-3
+returns-3 c =
+    let at-handle : tie.After-handle = search in
+    let at-shortcut : tie.After-shortcut = search in
+    let at-ordered : tie.After-ordered = search in
+    let at-if1 : tie.Else1 = search in
+    let at-told = told-of at-if1 in
+    let a = (start-of at-told) .args in
+    done _ _ _ _ _ _ (passed at-told .fits) _ (none at-told)
+    (ran-terminal (at-ordered .ordered .ensures) (asks at-if1) (a .cache .now) (at-handle .handle .given .1) (at-shortcut .shortcut .ensures) (c .placed .result) (c .placed .ensures .0) (c .placed .ensures .1))
+    (finished-gave (c .placed .result) (a .store .count) (a .nodes .now) (a .lookup .now) (a .cache .now) _ (c .placed .ensures .1))
+
+enum-told-2 : tie.Need-enum-told-2
+enum-told-2 c = search needs
+
+expand-requires : tie.Need-expand-requires
+expand-requires c κs =
+    let at-told2 : tie.After-enum-told2 = search in
+    let at-shortcut : tie.After-shortcut = search in
+    let at-ordered : tie.After-ordered = search in
+    let at-if1 : tie.Else1 = search in
+    record {
+      asks = ordered-asks (at-ordered .ordered .ensures) (asks at-if1);
+      proper = shortcut-proper (at-told2 .enum-told2 .given .1) (at-shortcut .shortcut .ensures);
+    }
+
+finish-coded-requires : tie.Need-finish-coded-requires
+finish-coded-requires c κs =
+    let at-expand : tie.After-expand = search in
+    let at-if1 : tie.Else1 = search in
+    let K = at-expand .expand .ensures .kept in
+    record { roomy = kept-roomy K (asks at-if1 .taken .roomy); fewer = K .grows }
 
 same-length-3 : tie.Need-same-length-3
 same-length-3 c = search needs
@@ -117,19 +155,18 @@ same-length-3 c = search needs
 same-length-4 : tie.Need-same-length-4
 same-length-4 c = search needs
 
-returns-3 : tie.Need-returns-3
-returns-3 c =
-    let at-finish : tie.After-finish = search in
-    let at-answered : tie.After-answered = search in
-    let at-apply : tie.After-apply = search in
-    let at-larger : tie.After-larger = search (at-apply) in
-    let at-told : tie.After-enum-told = search (at-larger) in
-    let at-tested : tie.After-tested = search (at-told) in
-    let at-start : tie.Start = search (at-tested) in
-    let a = at-start .args in
-    let P = tested-clear (a .nodes .now) (a .lookup .now) (at-tested .tested .ensures) (at-told .enum-told .given .1) in
-    let number = family-number (a .op) (a .store .count) (a .p) (a .q) (at-start .pre .some) in
-    done _ _ _ _ _ _ (P .fits) _ (number ∙ P .number-is) (at-apply .apply .ensures) (rw (at-answered .answered .ensures) at (at-finish .finish .ensures))
+same-length-5 : tie.Need-same-length-5
+same-length-5 c = search needs
+
+returns-4 : tie.Need-returns-4
+returns-4 c =
+    let at-finish : tie.After-finish-coded = search in
+    let at-expand : tie.After-expand = search in
+    let at-ordered : tie.After-ordered = search in
+    let at-if1 : tie.Else1 = search in
+    let at-told = told-of at-if1 in
+    let a = (start-of at-told) .args in
+    done _ _ _ _ _ _ (passed at-told .fits) _ (none at-told) (ran-ordered (at-ordered .ordered .ensures) (asks at-if1) (a .cache .now) (at-expand .expand .ensures)) (at-finish .finish-coded .ensures)
 
 pub of-families-spec : {M : Type 1} → statement M
 of-families-spec =
@@ -146,10 +183,16 @@ of-families-spec =
     refused-requires-2
     same-length
     returns-2
-    apply-requires
-    answered-requires
-    finish-requires
+    ordered-requires
+    shortcut-requires
+    enum-known-handle
+    placed-requires
     same-length-2
+    returns-3
+    enum-told-2
+    expand-requires
+    finish-coded-requires
     same-length-3
     same-length-4
-    returns-3)
+    same-length-5
+    returns-4)

@@ -11,7 +11,7 @@ use Rattle.op_step.proofs.Steps.{node-asks, step-first, step-second, step-done}
 use Rattle.op_step.proofs.Outcomes.{ran-broken, ran-recalled}
 use Rattle.op_families.proofs.Forks.{fork-two, fork-broken}
 use Rattle.op_families.proofs.Splits.{split-families}
-use Rattle.op_families.proofs.Shortcuts.{shortcut-proper, ran-shortcut, ordered-op, ordered-first, ordered-second, ordered-level, ran-ordered}
+use Rattle.op_families.proofs.Shortcuts.{shortcut-proper, ordered-asks, ran-ordered, coded-terminal}
 use borrow.Author.Needs.{needs}
 use borrow.Fn.Kinds.{In}
 use borrow.Fn.PlainCycle.{Measures, is, falls, and}
@@ -59,7 +59,7 @@ apply-shortcut-requires : (t : ℕ) → apply-lts.Need-shortcut-requires (apply-
 apply-shortcut-requires t c κs =
     let at-start : apply-lts.Start (apply-claims t) (apply-at t) apply.Post = search in
     let p = at-start .pre in
-    let e = ordered-op (c .ordered .ensures) in
+    let e = c .ordered .ensures .op-is in
     record { some = omega (arith, p .1 .taken .operation .some); low = omega (arith, p .1 .taken .operation .low) }
 
 apply-returns : (t : ℕ) → apply-lts.Need-returns (apply-claims t) (apply-at t) apply.Post
@@ -68,12 +68,7 @@ apply-returns t c =
     let at-shortcut : apply-lts.After-shortcut (apply-claims t) (apply-at t) apply.Post = search in
     let at-ordered : apply-lts.After-ordered (apply-claims t) (apply-at t) apply.Post = search in
     let at-start : apply-lts.Start (apply-claims t) (apply-at t) apply.Post = search in
-    let a = at-start .args in
-    let p = at-start .pre in
-    let O = at-ordered .ordered .ensures in
-    ran-ordered O (storeOf (a .capacity) (a .count .now)) (a .nodes .now) (a .lookup .now) (a .cache .now) (p .1 .taken .first) (p .1 .taken .second)
-    (ran-shortcut (storeOf (a .capacity) (a .count .now)) (a .nodes .now) (a .lookup .now) (a .cache .now) (p .1 .taken .roomy) (at-ordered .ordered .result) _
-    (ordered-first O (a .count .now) (p .1 .taken .first) (p .1 .taken .second)) (ordered-second O (a .count .now) (p .1 .taken .first) (p .1 .taken .second)) (at-handle .handle .given .1) (at-shortcut .shortcut .ensures))
+    coded-terminal (at-ordered .ordered .ensures) (at-start .pre .1) (at-start .args .cache .now) (at-handle .handle .given .1) (at-shortcut .shortcut .ensures)
 
 apply-expand-requires : (t : ℕ) → apply-lts.Need-expand-requires (apply-claims t) (apply-at t) apply.Post
 apply-expand-requires t c κs =
@@ -81,23 +76,10 @@ apply-expand-requires t c κs =
     let at-shortcut : apply-lts.After-shortcut (apply-claims t) (apply-at t) apply.Post = search in
     let at-ordered : apply-lts.After-ordered (apply-claims t) (apply-at t) apply.Post = search in
     let at-start : apply-lts.Start (apply-claims t) (apply-at t) apply.Post = search in
-    let a = at-start .args in
-    let p = at-start .pre in
-    let O = at-ordered .ordered .ensures in
-    let e = ordered-op O in
-    let I = p .1 .taken in (
+    let p = at-start .pre in (
       omega (arith, p .0),
       record {
-        asks = record {
-          taken = record {
-            roomy = I .roomy;
-            operation = record { some = omega (arith, I .operation .some); low = omega (arith, I .operation .low) };
-            first = ordered-first O (a .count .now) (I .first) (I .second);
-            second = ordered-second O (a .count .now) (I .first) (I .second);
-          };
-          level-is = ordered-level O (a .nodes .now) (p .1 .level-is);
-          level-low = p .1 .level-low;
-        };
+        asks = ordered-asks (at-ordered .ordered .ensures) (p .1);
         proper = shortcut-proper (at-enum-told .enum-told .given .1) (at-shortcut .shortcut .ensures);
       },
     )
@@ -107,9 +89,7 @@ apply-returns-2 t c =
     let at-expand : apply-lts.After-expand (apply-claims t) (apply-at t) apply.Post = search in
     let at-ordered : apply-lts.After-ordered (apply-claims t) (apply-at t) apply.Post = search in
     let at-start : apply-lts.Start (apply-claims t) (apply-at t) apply.Post = search in
-    let a = at-start .args in
-    let p = at-start .pre in
-    ran-ordered (at-ordered .ordered .ensures) (storeOf (a .capacity) (a .count .now)) (a .nodes .now) (a .lookup .now) (a .cache .now) (p .1 .taken .first) (p .1 .taken .second) (at-expand .expand .ensures)
+    ran-ordered (at-ordered .ordered .ensures) (at-start .pre .1) (at-start .args .cache .now) (at-expand .expand .ensures)
 
 -- the start, seen from where the sides are at hand
 abbrev start-of : (t : ℕ) → expand-lts.After-p0 (expand-claims t) (expand-at t) expand.Post → expand-lts.Start (expand-claims t) (expand-at t) expand.Post

@@ -1,14 +1,56 @@
--- `of_item` tests in document 01's order, then restricts and ends as every placing call does.
+-- `of_item` tests in document 01's order, then runs the recursion and ends as every placing call does.
 -- Each way out is one law of refusing, or of a call that ran to its end.
-use mathlib.Core.Path.{sym, ap, _∙_}
+use mathlib.Core.Path.{_≡_, sym, ap, _∙_}
 use native.Mathlib.Omega.{arith}
-use Rattle.store.specs.Tests.{testsOf}
+use Rattle.store.specs.Tests.{testNumber, testsOf}
 use Rattle.store.proofs.Growing.{kept-roomy}
-use Rattle.store.proofs.Testing.{item-passed, item-not-five, tested-clear, placing-refused}
+use Rattle.store.proofs.Plain.{plain-ran}
+use Rattle.store.proofs.Testing.{Tested, item-passed, item-not-five, tested-clear, placing-refused}
+use Rattle.op_cache.specs.Inner.{callOf}
+use Rattle.op_promise.specs.Promise.{operationRefusal}
 use Rattle.op_promise.proofs.Refusing.{item-number, refused-top, done}
+use Rattle.op_items.specs.Inner.{RestrictAsks}
 use borrow.Author.Needs.{needs}
 use Rattle.op_items.proofs.calls.of_item.Statement.{statement}
 use Rattle.op_items.proofs.calls.of_item.Tie as tie
+
+-- what stands before the tests passed
+abbrev start-of : tie.After-enum-told → tie.Start
+start-of c = search
+
+abbrev item-of : tie.After-enum-told → tie.After-item-test
+item-of c = search
+
+-- the tests passed
+passed : (c : tie.After-enum-told) → let a = (start-of c) .args in Tested (a .store) (a .nodes .now) (a .lookup .now) (a .p) 0 (testNumber ((item-of c) .item-test .result)) 0 0
+passed c =
+    let at-tested : tie.After-tested = search in
+    let a = (start-of c) .args in
+    tested-clear (a .nodes .now) (a .lookup .now) (at-tested .tested .ensures) (c .enum-told .given .1)
+
+none : (c : tie.After-enum-told) → let a = (start-of c) .args in operationRefusal (a .op) (a .store .count) (a .p) (a .item) ≡ 0
+none c =
+    let a = (start-of c) .args in
+    item-number (a .op) (a .store .count) (a .p) (a .item) (omega (arith, (start-of c) .pre .low))
+    ∙ ap (λ o. testsOf (a .store .count) (a .p) 0 o 0 0) (sym ((item-of c) .item-test .ensures)) ∙ passed c .number-is
+
+-- the level is known to be low
+abbrev told-of : tie.Else1 → tie.After-enum-told
+told-of c = search
+
+abbrev top-of : tie.Else1 → tie.After-top-of
+top-of c = search
+
+asks : (c : tie.Else1) → let a = (start-of (told-of c)) .args in RestrictAsks (callOf (a .op) (a .p) (a .item)) ((top-of c) .top-of .result) (a .store) (a .nodes .now) (a .lookup .now)
+asks c =
+    let a = (start-of (told-of c)) .args in
+    let P = passed (told-of c) in
+    let item = item-passed (a .item) (sym ((item-of (told-of c)) .item-test .ensures) ∙ P .passed .none) in
+    record {
+      taken = record { roomy = P .roomy; operation = (start-of (told-of c)) .pre; held = P .passed .first; item-some = item .0; item-low = item .1 };
+      level-is = (top-of c) .top-of .ensures;
+      level-low = omega (arith, c .if1 .left);
+    }
 
 item-test-requires : tie.Need-item-test-requires
 item-test-requires c κs = search needs
@@ -40,10 +82,7 @@ enum-told c = search needs
 top-of-requires : tie.Need-top-of-requires
 top-of-requires c κs =
     let at-told : tie.After-enum-told = search in
-    let at-tested : tie.After-tested = search in
-    let at-start : tie.Start = search in
-    let a = at-start .args in
-    let P = tested-clear (a .nodes .now) (a .lookup .now) (at-tested .tested .ensures) (at-told .enum-told .given .1) in
+    let P = passed at-told in
     record { held = P .passed .first; words = omega (arith, P .roomy .within, P .roomy .words) }
 
 refused-requires-2 : tie.Need-refused-requires-2
@@ -56,43 +95,22 @@ returns-2 : tie.Need-returns-2
 returns-2 c =
     let at-top-of : tie.After-top-of = search in
     let at-told : tie.After-enum-told = search in
-    let at-tested : tie.After-tested = search in
-    let at-start : tie.Start = search in
-    let a = at-start .args in
-    let P = tested-clear (a .nodes .now) (a .lookup .now) (at-tested .tested .ensures) (at-told .enum-told .given .1) in
+    let P = passed at-told in
     refused-top _ _ _ _ _ _ (P .fits) _ (P .passed .first) (omega (arith, at-top-of .top-of .ensures, (c .before) .if1 .taken)) (c .refused2 .result) (c .refused2 .ensures .0)
 
-restrict-requires : tie.Need-restrict-requires
-restrict-requires c κs =
+leaf-requires : tie.Need-leaf-requires
+leaf-requires c κs =
+    let at-if2 : tie.Then2 = search in
     let at-if1 : tie.Else1 = search in
-    let at-top-of : tie.After-top-of = search in
-    let at-told : tie.After-enum-told = search in
-    let at-tested : tie.After-tested = search in
-    let at-item : tie.After-item-test = search in
-    let at-start : tie.Start = search in
-    let a = at-start .args in
-    let P = tested-clear (a .nodes .now) (a .lookup .now) (at-tested .tested .ensures) (at-told .enum-told .given .1) in
-    let item = item-passed (a .item) (sym (at-item .item-test .ensures) ∙ P .passed .none) in
-    record {
-      taken = record { roomy = P .roomy; operation = at-start .pre; held = P .passed .first; item-some = item .0; item-low = item .1 };
-      level-is = at-top-of .top-of .ensures;
-      level-low = omega (arith, at-if1 .if1 .left);
-    }
+    let A = asks at-if1 in
+    record { taken = A .taken; level-is = A .level-is; not-below = at-if2 .if2 .taken }
 
-answered-requires : tie.Need-answered-requires
-answered-requires c κs = search needs
-
-finish-requires : tie.Need-finish-requires
-finish-requires c κs =
-    let at-answered : tie.After-answered = search in
-    let at-restrict : tie.After-restrict = search in
-    let at-told : tie.After-enum-told = search in
-    let at-tested : tie.After-tested = search in
-    let at-start : tie.Start = search in
-    let a = at-start .args in
-    let P = tested-clear (a .nodes .now) (a .lookup .now) (at-tested .tested .ensures) (at-told .enum-told .given .1) in
-    let K = at-restrict .restrict .ensures .kept in
-    rw (at-answered .answered .ensures) (record { roomy = kept-roomy K (P .roomy); fewer = K .grows })
+finish-coded-requires : tie.Need-finish-coded-requires
+finish-coded-requires c κs =
+    let at-leaf : tie.After-leaf = search in
+    let at-if1 : tie.Else1 = search in
+    let K = at-leaf .leaf .ensures .kept in
+    record { roomy = kept-roomy K (asks at-if1 .taken .roomy); fewer = K .grows }
 
 same-length-2 : tie.Need-same-length-2
 same-length-2 c = search needs
@@ -105,18 +123,42 @@ same-length-4 c = search needs
 
 returns-3 : tie.Need-returns-3
 returns-3 c =
-    let at-finish : tie.After-finish = search in
-    let at-answered : tie.After-answered = search in
-    let at-restrict : tie.After-restrict = search in
-    let at-told : tie.After-enum-told = search in
-    let at-tested : tie.After-tested = search in
-    let at-item : tie.After-item-test = search in
-    let at-start : tie.Start = search in
-    let a = at-start .args in
-    let P = tested-clear (a .nodes .now) (a .lookup .now) (at-tested .tested .ensures) (at-told .enum-told .given .1) in
-    let number = item-number (a .op) (a .store .count) (a .p) (a .item) (omega (arith, at-start .pre .low)) in
-    let none = number ∙ ap (λ o. testsOf (a .store .count) (a .p) 0 o 0 0) (sym (at-item .item-test .ensures)) ∙ P .number-is in
-    done _ _ _ _ _ _ (P .fits) _ none (at-restrict .restrict .ensures) (rw (at-answered .answered .ensures) at (at-finish .finish .ensures))
+    let at-finish : tie.After-finish-coded = search in
+    let at-leaf : tie.After-leaf = search in
+    let at-if1 : tie.Else1 = search in
+    let at-told = told-of at-if1 in
+    let a = (start-of at-told) .args in
+    done _ _ _ _ _ _ (passed at-told .fits) _ (none at-told) (plain-ran _ (a .store) (a .nodes .now) (a .lookup .now) (a .cache .now) (at-leaf .leaf .ensures)) (at-finish .finish-coded .ensures)
+
+expand-requires : tie.Need-expand-requires
+expand-requires c κs =
+    let at-if2 : tie.Else2 = search in
+    let at-if1 : tie.Else1 = search in
+    record { asks = asks at-if1; below = omega (arith, at-if2 .if2 .left) }
+
+finish-coded-requires-2 : tie.Need-finish-coded-requires-2
+finish-coded-requires-2 c κs =
+    let at-expand : tie.After-expand = search in
+    let at-if1 : tie.Else1 = search in
+    let K = at-expand .expand .ensures .kept in
+    record { roomy = kept-roomy K (asks at-if1 .taken .roomy); fewer = K .grows }
+
+same-length-5 : tie.Need-same-length-5
+same-length-5 c = search needs
+
+same-length-6 : tie.Need-same-length-6
+same-length-6 c = search needs
+
+same-length-7 : tie.Need-same-length-7
+same-length-7 c = search needs
+
+returns-4 : tie.Need-returns-4
+returns-4 c =
+    let at-finish : tie.After-finish-coded2 = search in
+    let at-expand : tie.After-expand = search in
+    let at-if1 : tie.Else1 = search in
+    let at-told = told-of at-if1 in
+    done _ _ _ _ _ _ (passed at-told .fits) _ (none at-told) (at-expand .expand .ensures) (at-finish .finish-coded2 .ensures)
 
 pub of-item-spec : {M : Type 1} → statement M
 of-item-spec =
@@ -132,10 +174,15 @@ of-item-spec =
     refused-requires-2
     same-length
     returns-2
-    restrict-requires
-    answered-requires
-    finish-requires
+    leaf-requires
+    finish-coded-requires
     same-length-2
     same-length-3
     same-length-4
-    returns-3)
+    returns-3
+    expand-requires
+    finish-coded-requires-2
+    same-length-5
+    same-length-6
+    same-length-7
+    returns-4)
