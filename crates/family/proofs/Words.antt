@@ -234,13 +234,13 @@ module _ (v : ℕ) (w : List ℕ) (n : 0 < v) (l : v ≤ 512) where
   bit-on e = holds-bit ∙ eq-eqb tested 1 (omega arith)
 
   -- the code's form of taking it out
-  pub removed : holds v (itemsOf w) ≡ true → itemsOf (set w ((v - 1) / 32) (getD w ((v - 1) / 32) 0 - (1 * 2 ^ ((v - 1) % 32)) % 2 ^ 32)) ≡ remove v (itemsOf w)
-  removed e = rw (shifted ((v - 1) % 32) (omega arith)) (items-cut w (v - 1) (sym holds-bit ∙ e) ∙ ap (λ x. remove x (itemsOf w)) one)
+  pub removed : (tested ≡ 0 → ⊥) → itemsOf (set w ((v - 1) / 32) (getD w ((v - 1) / 32) 0 - (1 * 2 ^ ((v - 1) % 32)) % 2 ^ 32)) ≡ remove v (itemsOf w)
+  removed e = rw (shifted ((v - 1) % 32) (omega arith)) (items-cut w (v - 1) (sym holds-bit ∙ bit-on e) ∙ ap (λ x. remove x (itemsOf w)) one)
 
   -- and its difference stands
-  pub bit-below : holds v (itemsOf w) ≡ true → (1 * 2 ^ ((v - 1) % 32)) % 2 ^ 32 ≤ getD w ((v - 1) / 32) 0
+  pub bit-below : (tested ≡ 0 → ⊥) → (1 * 2 ^ ((v - 1) % 32)) % 2 ^ 32 ≤ getD w ((v - 1) / 32) 0
   unfolding bitAt
-  bit-below e = rw (shifted ((v - 1) % 32) (omega arith)) (clear-bit ((v - 1) % 32) (getD w ((v - 1) / 32) 0) (eqb-true _ 1 (sym holds-bit ∙ e)) .0)
+  bit-below e = rw (shifted ((v - 1) % 32) (omega arith)) (clear-bit ((v - 1) % 32) (getD w ((v - 1) / 32) 0) (omega arith) .0)
 
 -- putting an item into a record
 pub items-put : (w : List ℕ) (n : ℕ) → length w ≡ 16 → n < 512 → holds (suc n) (itemsOf w) ≡ false → itemsOf (put w n) ≡ insert (suc n) (itemsOf w)

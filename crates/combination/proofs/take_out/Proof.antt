@@ -2,7 +2,7 @@
 -- The bit that it tests is the one that the definition reads, and an item outside 1 to 512 is in no combination of words.
 use Prim.Native.Nat.{ℕ}
 use mathlib.Core.Path.{_≡_, sym}
-use mathlib.Core.Bool.{true, false}
+use mathlib.Core.Bool.{false}
 use mathlib.Core.List.{List}
 use native.Mathlib.Omega.{arith}
 use borrow.Author.Needs.{needs}
@@ -45,9 +45,6 @@ returns-3 c =
     let a = at-start .args in
     stays (a .item) (itemsOf (a .words .now)) (bit-off (a .item) (a .words .now) (omega arith) (omega arith) (c .if3 .taken))
 
-held : (c : tie.Else3) → let at-start : tie.Start = search in holds (at-start .args .item) (itemsOf (at-start .args .words .now)) ≡ true
-held c = let at-start : tie.Start = search in bit-on (at-start .args .item) (at-start .args .words .now) (omega arith) (omega arith) (c .if3 .left)
-
 shl-words : tie.Need-shl-words
 shl-words c = search needs
 
@@ -55,7 +52,7 @@ sub-words : tie.Need-sub-words
 sub-words c =
     let at-start : tie.Start = search in
     let a = at-start .args in
-    bit-below (a .item) (a .words .now) (omega arith) (omega arith) (held c)
+    bit-below (a .item) (a .words .now) (omega arith) (omega arith) (c .if3 .left)
 
 mul-words : tie.Need-mul-words
 mul-words c = search needs
@@ -66,8 +63,10 @@ element-write-words c = search needs
 returns-4 : tie.Need-returns-4
 returns-4 c =
     let at-start : tie.Start = search in
-    let a = at-start .args in
-    (sym (held c), removed (a .item) (a .words .now) (omega arith) (omega arith) (held c))
+    let a = at-start .args in (
+      sym (bit-on (a .item) (a .words .now) (omega arith) (omega arith) (c .if3 .left)),
+      removed (a .item) (a .words .now) (omega arith) (omega arith) (c .if3 .left),
+    )
 
 pub take-out-spec : {M : Type 1} → statement M
 take-out-spec =
