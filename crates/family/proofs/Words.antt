@@ -237,9 +237,8 @@ module _ (v : ℕ) (w : List ℕ) (n : 0 < v) (l : v ≤ 512) where
   pub removed : (tested ≡ 0 → ⊥) → itemsOf (set w ((v - 1) / 32) (getD w ((v - 1) / 32) 0 - (1 * 2 ^ ((v - 1) % 32)) % 2 ^ 32)) ≡ remove v (itemsOf w)
   removed e = rw (shifted ((v - 1) % 32) (omega arith)) (items-cut w (v - 1) (sym holds-bit ∙ bit-on e) ∙ ap (λ x. remove x (itemsOf w)) one)
 
-  -- and its difference stands
+  -- and its difference does not go below 0
   pub bit-below : (tested ≡ 0 → ⊥) → (1 * 2 ^ ((v - 1) % 32)) % 2 ^ 32 ≤ getD w ((v - 1) / 32) 0
-  unfolding bitAt
   bit-below e = rw (shifted ((v - 1) % 32) (omega arith)) (clear-bit ((v - 1) % 32) (getD w ((v - 1) / 32) 0) (omega arith) .0)
 
 -- putting an item into a record
