@@ -87,11 +87,11 @@ place-eq n m p = by-eq n m (λ q e. rw e (eq-eqb (n % 32) (m % 32) (ap (λ x. x 
 bit-number : (x : ℕ) → eqb (x % 2) 1 ≡ false → x % 2 ≡ 0
 bit-number x e = omega (arith, eqb-false (x % 2) 1 e)
 
-pub bit-put : (w : List ℕ) (n m : ℕ) → length w ≡ 16 → n < 512 → bitAt w n ≡ false → bitAt (put w n) m ≡ eqb n m || bitAt w m
+pub bit-put : (w : List ℕ) (n m : ℕ) → n / 32 < length w → bitAt w n ≡ false → bitAt (put w n) m ≡ eqb n m || bitAt w m
 unfolding bitAt
-bit-put w n m s l h =
+bit-put w n m l h =
     by-eq (m / 32) (n / 32)
-    (λ p e. rw (p, getD-set-same w (n / 32) (getD w (n / 32) 0 + 2 ^ (n % 32)) 0 (omega arith), set-bit (n % 32) (m % 32) (getD w (n / 32) 0) (bit-number _ h), place-eq n m (sym p))
+    (λ p e. rw (p, getD-set-same w (n / 32) (getD w (n / 32) 0 + 2 ^ (n % 32)) 0 l, set-bit (n % 32) (m % 32) (getD w (n / 32) 0) (bit-number _ h), place-eq n m (sym p))
     (by-test (eqb n m) (λ d. rw d) (λ d. rw d)))
     (λ p e. rw (getD-set-other w (n / 32) (m / 32) (getD w (n / 32) 0 + 2 ^ (n % 32)) 0 p, ne-eqb n m (λ q. p (ap (λ x. x / 32) (sym q)))))
 
@@ -120,7 +120,7 @@ record-means (x ∷ c) k =
     let free : bitAt (recordOf c) (x - 1) ≡ false = q .bits (x - 1) ∙ ap (λ v. holds v c) one ∙ holds-high x c (k .falling .1) (k .falling .0) in
     record {
       words = words-put (recordOf c) (x - 1) (q .words) free;
-      bits = λ m. bit-put (recordOf c) (x - 1) m (q .words .sixteen) (omega arith) free ∙ ap₂ _||_ (sames m one) (q .bits m);
+      bits = λ m. bit-put (recordOf c) (x - 1) m (omega (arith, q .words .sixteen)) free ∙ ap₂ _||_ (sames m one) (q .bits m);
     }
   where
     sames : (m : ℕ) → suc (x - 1) ≡ x → eqb (x - 1) m ≡ eqb x (suc m)
@@ -165,9 +165,17 @@ cut-put : (w : List ℕ) (n : ℕ) → n / 32 < length w → 2 ^ (n % 32) ≤ ge
 cut-put w n l h =
     rw (getD-set-same w (n / 32) (getD w (n / 32) 0 - 2 ^ (n % 32)) 0 l, set-set) (ap (λ x. set w (n / 32) x) (omega arith) ∙ set-getD w (n / 32) 0)
 
-pub items-cut : (w : List ℕ) (n : ℕ) → length w ≡ 16 → n < 512 → bitAt w n ≡ true → itemsOf (cut w n) ≡ remove (suc n) (itemsOf w)
+-- a bit that stands lies in a word of the list
+bit-inside : (w : List ℕ) (n : ℕ) → bitAt w n ≡ true → n / 32 < length w
 unfolding bitAt
-items-cut w n s l e =
+bit-inside w n e =
+    by-lt (n / 32) (length w)
+    (λ l d. l)
+    (λ l d. clash e (rw (List·getD-eq-default w 0 {n = n / 32} l, zero-div (2 ^ (n % 32)))))
+
+pub items-cut : (w : List ℕ) (n : ℕ) → bitAt w n ≡ true → itemsOf (cut w n) ≡ remove (suc n) (itemsOf w)
+unfolding bitAt
+items-cut w n e =
     items-are (cut w n) (remove (suc n) (itemsOf w)) (record { falling = r .0; low = omega (arith, r .1, items-combined w .low) }) agree
   where
     r : Falling (remove (suc n) (itemsOf w)) × (largest (remove (suc n) (itemsOf w)) ≤ largest (itemsOf w))
@@ -177,10 +185,10 @@ items-cut w n s l e =
     q = clear-bit (n % 32) (getD w (n / 32) 0) (eqb-true _ 1 e)
 
     off : bitAt (cut w n) n ≡ false
-    off = rw (getD-set-same w (n / 32) (getD w (n / 32) 0 - 2 ^ (n % 32)) 0 (omega arith), q .1)
+    off = rw (getD-set-same w (n / 32) (getD w (n / 32) 0 - 2 ^ (n % 32)) 0 (bit-inside w n e), q .1)
 
     back : (m : ℕ) → bitAt w m ≡ eqb n m || bitAt (cut w n) m
-    back m = ap (λ x. bitAt x m) (sym (cut-put w n (omega arith) (q .0))) ∙ bit-put (cut w n) n m (length-set w (n / 32) _ ∙ s) l off
+    back m = ap (λ x. bitAt x m) (sym (cut-put w n (bit-inside w n e) (q .0))) ∙ bit-put (cut w n) n m (omega (arith, length-set w (n / 32) (getD w (n / 32) 0 - 2 ^ (n % 32)), bit-inside w n e)) off
 
     agree : (m : ℕ) → m < 512 → bitAt (cut w n) m ≡ holds (suc m) (remove (suc n) (itemsOf w))
     agree m h =
@@ -201,30 +209,37 @@ some-item w k h n = go (itemsOf w) refl
     go [] e = absurd (n (ap (λ v. getD v k 0) (one-record [] (record { falling = tt; low = omega arith }) .only w h e) ∙ blank k))
     go (x ∷ c) e = refl
 
--- an item that a record holds is one of 1 to 512, and its bit stands
-pub record Stands (v : ℕ) (w : List ℕ) : Type 0 where
-  pub one : suc (v - 1) ≡ v
-  pub low : v - 1 < 512
-  pub bit : bitAt w (v - 1) ≡ true
-
-pub held-stands : (v : ℕ) (w : List ℕ) → holds v (itemsOf w) ≡ true → Stands v w
-held-stands zero w e = clash e (holds-none w)
-held-stands (suc m) w e =
-    by-lt m 512
-    (λ l d. let p : suc m - 1 ≡ m = omega arith in record { one = omega arith; low = omega arith; bit = rw p (sym (holds-items m w l) ∙ e) })
-    (λ l d. clash e (holds-outside (suc m) w (omega arith)))
-
--- the same for the code's form of taking an item out, with the shifted bit kept to 32 bits
+-- the shifted bit of the code, kept to 32 bits
 pub shifted : (k : ℕ) → k < 32 → (1 * 2 ^ k) % 2 ^ 32 ≡ 2 ^ k
 shifted k l = shl-exact 1 k 32 (omega arith) (omega arith) ∙ omega arith
 
-pub removed : (v : ℕ) (w : List ℕ) → length w ≡ 16 → Stands v w
-    → itemsOf (set w ((v - 1) / 32) (getD w ((v - 1) / 32) 0 - (1 * 2 ^ ((v - 1) % 32)) % 2 ^ 32)) ≡ remove v (itemsOf w)
-removed v w s h = rw (shifted ((v - 1) % 32) (omega arith)) (items-cut w (v - 1) s (h .low) (h .bit) ∙ ap (λ x. remove x (itemsOf w)) (h .one))
+-- an item from 1 to 512
+module _ (v : ℕ) (w : List ℕ) (n : 0 < v) (l : v ≤ 512) where
+  one : suc (v - 1) ≡ v
+  one = omega arith
 
-pub bit-below : (v : ℕ) (w : List ℕ) → Stands v w → (1 * 2 ^ ((v - 1) % 32)) % 2 ^ 32 ≤ getD w ((v - 1) / 32) 0
-unfolding bitAt
-bit-below v w h = rw (shifted ((v - 1) % 32) (omega arith)) (clear-bit ((v - 1) % 32) (getD w ((v - 1) / 32) 0) (eqb-true _ 1 (h .bit)) .0)
+  -- its bit, and the number that the code tests for it
+  pub holds-bit : holds v (itemsOf w) ≡ bitAt w (v - 1)
+  holds-bit = ap (λ x. holds x (itemsOf w)) (sym one) ∙ holds-items (v - 1) w (omega arith)
+
+  abbrev pub tested : ℕ
+  tested = getD w ((v - 1) / 32) 0 / 2 ^ ((v - 1) % 32) % 2
+
+  pub bit-off : tested ≡ 0 → holds v (itemsOf w) ≡ false
+  unfolding bitAt
+  bit-off e = holds-bit ∙ ne-eqb tested 1 (omega arith)
+
+  pub bit-on : (tested ≡ 0 → ⊥) → holds v (itemsOf w) ≡ true
+  unfolding bitAt
+  bit-on e = holds-bit ∙ eq-eqb tested 1 (omega arith)
+
+  -- the code's form of taking it out
+  pub removed : (tested ≡ 0 → ⊥) → itemsOf (set w ((v - 1) / 32) (getD w ((v - 1) / 32) 0 - (1 * 2 ^ ((v - 1) % 32)) % 2 ^ 32)) ≡ remove v (itemsOf w)
+  removed e = rw (shifted ((v - 1) % 32) (omega arith)) (items-cut w (v - 1) (sym holds-bit ∙ bit-on e) ∙ ap (λ x. remove x (itemsOf w)) one)
+
+  -- and its difference does not go below 0
+  pub bit-below : (tested ≡ 0 → ⊥) → (1 * 2 ^ ((v - 1) % 32)) % 2 ^ 32 ≤ getD w ((v - 1) / 32) 0
+  bit-below e = rw (shifted ((v - 1) % 32) (omega arith)) (clear-bit ((v - 1) % 32) (getD w ((v - 1) / 32) 0) (omega arith) .0)
 
 -- putting an item into a record
 pub items-put : (w : List ℕ) (n : ℕ) → length w ≡ 16 → n < 512 → holds (suc n) (itemsOf w) ≡ false → itemsOf (put w n) ≡ insert (suc n) (itemsOf w)
@@ -236,7 +251,7 @@ items-put w n s l e =
 
     agree : (m : ℕ) → m < 512 → bitAt (put w n) m ≡ holds (suc m) (insert (suc n) (itemsOf w))
     agree m h =
-        bit-put w n m s l (sym (holds-items n w l) ∙ e)
+        bit-put w n m (omega arith) (sym (holds-items n w l) ∙ e)
         ∙ sym (holds-insert (suc n) (suc m) (itemsOf w) ∙ rw (eqb·suc-suc n m, holds-items m w h))
 
 module _ (v : ℕ) (c : List ℕ) where
@@ -276,6 +291,4 @@ module _ (v : ℕ) (w : List ℕ) where
   pub included-fits : Words w → 0 < v → v ≤ 512 → holds v (itemsOf w) ≡ false → getD w ((v - 1) / 32) 0 + (1 * 2 ^ ((v - 1) % 32)) % 2 ^ 32 < 2 ^ 32
   unfolding bitAt
   included-fits h n l e =
-      let one : suc (v - 1) ≡ v = omega arith in
-      let free : bitAt w (v - 1) ≡ false = sym (holds-items (v - 1) w (omega arith)) ∙ ap (λ x. holds x (itemsOf w)) one ∙ e in
-      rw (shifted ((v - 1) % 32) (omega arith)) (set-bit-fits 32 ((v - 1) % 32) (getD w ((v - 1) / 32) 0) (omega arith) (h .wide ((v - 1) / 32)) (bit-number _ free))
+      rw (shifted ((v - 1) % 32) (omega arith)) (set-bit-fits 32 ((v - 1) % 32) (getD w ((v - 1) / 32) 0) (omega arith) (h .wide ((v - 1) / 32)) (bit-number _ (sym (holds-bit v w n l) ∙ e)))

@@ -10,7 +10,7 @@ use lib.ListN.{getD}
 use Rattle.family.specs.Family.{Family, base, node, top, has, Ordered}
 use Rattle.family.specs.Combination.{largest, Falling, holds, remove, isNone}
 use Rattle.family.specs.Book.{at}
-use Rattle.family.proofs.Falling.{holds-high}
+use Rattle.family.proofs.Falling.{holds-high, remove-absent}
 use Rattle.family.proofs.Laws.{top-bounds}
 use Rattle.words.proofs.Cases.{by-test, by-eq, by-lt, clash}
 use Rattle.store.specs.Inner.{Holds}
@@ -108,10 +108,10 @@ module _ (nodes : List ℕ) (n p : ℕ) (c : List ℕ) where
                 );
           })
 
--- one step
-pub step-met : (nodes : List ℕ) (from : ℕ) (c : List ℕ) (next : ℕ) (rest : List ℕ) {x : Bool} → x ≡ holds (getD nodes from 0) c → x ≡ true → next ≡ getD nodes (from + 2) 0 → rest ≡ remove (getD nodes from 0) c
-    → Stepped nodes from c next rest
-step-met nodes from c next rest e d p q = record { met = λ m. (p, q); passed = λ m. clash (sym e ∙ d) m }
+-- one step, from what taking its item out of the combination says
+module _ (nodes : List ℕ) (from : ℕ) (c : List ℕ) (next : ℕ) (rest : List ℕ) {x : Bool} (t : (x ≡ holds (getD nodes from 0) c) × (rest ≡ remove (getD nodes from 0) c)) where
+  pub step-met : x ≡ true → next ≡ getD nodes (from + 2) 0 → Stepped nodes from c next rest
+  step-met d p = record { met = λ m. (p, t .1); passed = λ m. clash (sym (t .0) ∙ d) m }
 
-pub step-passed : (nodes : List ℕ) (from : ℕ) (c : List ℕ) (next : ℕ) {x : Bool} → x ≡ holds (getD nodes from 0) c → x ≡ false → next ≡ getD nodes (from + 1) 0 → Stepped nodes from c next c
-step-passed nodes from c next e d p = record { met = λ m. clash m (sym e ∙ d); passed = λ m. (p, refl) }
+  pub step-passed : x ≡ false → next ≡ getD nodes (from + 1) 0 → Stepped nodes from c next rest
+  step-passed d p = record { met = λ m. clash m (sym (t .0) ∙ d); passed = λ m. (p, t .1 ∙ remove-absent (getD nodes from 0) c m) }

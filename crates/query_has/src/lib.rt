@@ -8,6 +8,7 @@ ghost use Rattle.family.specs.Combination.{isNone, itemsOf};
 ghost use Rattle.query_has.specs.Promise.{HasCall};
 ghost use Rattle.query_has.specs.Inner.{Memberly, Stepped};
 use combination::Combination;
+use combination::take_out;
 use store::record::Refusal;
 use store::record::Store;
 use store::tests::Test;
@@ -26,29 +27,16 @@ pub struct Asked {
     pub answer: HasAnswer,
 }
 
-// A handle on the way down, and the items still to be met.
-pub struct Way {
-    pub at: u32,
-    pub rest: Combination,
-}
-
-// The way from the node whose words start at `base`: to its one child where the item is to be met, else to its zero
-// child.
-fn step(nodes: &[u32], base: usize, rest: Combination) -> Way
+// A step down from the node whose words start at `base`: to its one child where its item is to be met, which is then
+// taken out of the rest, else to its zero child.
+fn step(nodes: &[u32], base: usize, rest: &mut [u32; 16]) -> u32
     requires { ⌜ base + 3 ≤ length (now nodes) ⌝ }
-    ensures { λ r. ⌜ Stepped (now (nodes .entry)) base (itemsOf (rest .words)) (r .at) (itemsOf (r .rest .words)) ⌝ }
+    ensures { λ r. ⌜ Stepped (now (nodes .entry)) base (itemsOf (now (rest .entry))) r (itemsOf (now (rest .exit))) ⌝ }
 {
-    let item = nodes[base];
-    if rest.contains(item) {
-        return Way {
-            at: nodes[base + 2],
-            rest: rest.without(item),
-        };
+    if take_out(rest, nodes[base]) {
+        return nodes[base + 2];
     }
-    Way {
-        at: nodes[base + 1],
-        rest: rest,
-    }
+    nodes[base + 1]
 }
 
 // Whether the end of a way is {{}} with no item left to be met.
@@ -66,15 +54,12 @@ fn is_member(nodes: &[u32], count: u32, p: u32, combination: Combination) -> boo
     requires { ⌜ HandleAsks (now nodes) count p ⌝ }
     ensures { λ r. ⌜ Memberly (now (nodes .entry)) count p (itemsOf (combination .words)) r ⌝ }
 {
-    let mut way = Way {
-        at: p,
-        rest: combination,
-    };
+    let mut at = p;
+    let mut rest = combination.words;
     let mut left: u32 = 512;
     loop {
-        let at = way.at;
         if at < 2 {
-            break ends(at, way.rest);
+            break ends(at, Combination { words: rest });
         }
         if left == 0 {
             break false;
@@ -82,7 +67,7 @@ fn is_member(nodes: &[u32], count: u32, p: u32, combination: Combination) -> boo
         if count + 1 < at {
             break false;
         }
-        way = step(nodes, 3 * (at - 2) as usize, way.rest);
+        at = step(nodes, 3 * (at - 2) as usize, &mut rest);
         left = left - 1;
     }
 }

@@ -1,12 +1,11 @@
 -- `contains` tells whether the record's combination holds the item: the bit that it tests is the one that the
 -- definition reads.
 -- An item outside 1 to 512 is in no combination of a record.
-use Prim.Native.Nat.{suc, _-_, _<_}
-use mathlib.Core.Path.{_≡_, sym, ap, _∙_}
+use mathlib.Core.Path.{sym}
 use native.Mathlib.Omega.{arith}
 use borrow.Author.Needs.{needs}
-use Rattle.family.specs.Combination.{holds, bitAt, itemsOf}
-use Rattle.family.proofs.Words.{holds-items, holds-outside, holds-none}
+use Rattle.family.specs.Combination.{bitAt}
+use Rattle.family.proofs.Words.{holds-outside, holds-none, holds-bit}
 use Rattle.combination.proofs.Combination.contains.Statement.{statement}
 use Rattle.combination.proofs.Combination.contains.Tie as tie
 
@@ -34,10 +33,9 @@ shr-result c = search needs
 returns-3 : tie.Need-returns-3
 unfolding bitAt
 returns-3 c =
-    let s = c .before .before .before .args in
-    let one : suc (s .item - 1) ≡ s .item = omega arith in
-    let low : s .item - 1 < 512 = omega arith in
-    sym (holds-items (s .item - 1) (s .t1 .words) low) ∙ ap (λ v. holds v (itemsOf (s .t1 .words))) one
+    let at-start : tie.Start = search in
+    let a = at-start .args in
+    sym (holds-bit (a .item) (a .t1 .words) (omega arith) (omega arith))
 
 pub contains-spec : {M : Type 1} → statement M
 contains-spec =
