@@ -203,7 +203,8 @@ expand-node-of-requires t c κs =
     let at-start = start-of t at-p0 in
     let p = at-start .pre in
     let K = fork-two (at-p0 .p0 .given .1) (at-fork-at .fork-at .ensures) in
-    node-asks (p .1 .asks .taken .roomy) (at-apply .apply .ensures) (coded-handle _ (at-if1 .if1 .left)) (at-apply2 .apply2 .ensures) (coded-handle _ (at-if2 .if2 .left)) (omega (arith, K .some)) (p .1 .asks .level-low)
+    let N = node-asks (p .1 .asks .taken .roomy) (at-apply .apply .ensures) (coded-handle _ (at-if1 .if1 .left)) (at-apply2 .apply2 .ensures) (coded-handle _ (at-if2 .if2 .left)) (omega (arith, K .some)) (p .1 .asks .level-low) in
+    search needs
 
 expand-returns-5 : (t : ℕ) → expand-lts.Need-returns-5 (expand-claims t) (expand-at t) expand.Post
 expand-returns-5 t c =

@@ -165,7 +165,8 @@ expand-node-of-requires t c κs =
     let at-p0 : expand-lts.After-p0 (expand-claims t) (expand-at t) expand.Post = search (at-restrict) in
     let at-start = start-of t at-p0 in
     let p = at-start .pre in
-    node-asks (p .1 .asks .taken .roomy) (at-restrict .restrict .ensures) (coded-handle _ (at-if1 .if1 .left)) (at-restrict2 .restrict2 .ensures) (coded-handle _ (at-if2 .if2 .left)) (omega (arith, p .1 .below)) (p .1 .asks .level-low)
+    let N = node-asks (p .1 .asks .taken .roomy) (at-restrict .restrict .ensures) (coded-handle _ (at-if1 .if1 .left)) (at-restrict2 .restrict2 .ensures) (coded-handle _ (at-if2 .if2 .left)) (omega (arith, p .1 .below)) (p .1 .asks .level-low) in
+    search needs
 
 expand-returns-5 : (t : ℕ) → expand-lts.Need-returns-5 (expand-claims t) (expand-at t) expand.Post
 expand-returns-5 t c =
