@@ -7,7 +7,7 @@ ghost use Rattle.file_trail.specs.Inner.{metIn, linked, firstOf, trailOf
 use file_record::write::length_of;
 
 // The first part and the last one by their handles, the item of the last, how many there are, and the length of the
-// file so far.
+// file so far. The walk carries them as five words in this order.
 pub struct Trail {
     pub first: u32,
     pub last: u32,

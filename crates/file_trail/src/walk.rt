@@ -1,5 +1,5 @@
 // The walk over the parts of a family, without-side first, then with-side, then the part itself; the top item falls
-// at each call.
+// from a part to its children.
 ghost use Rattle.file_trail.specs.Inner.{ChildrenAsks, SplitOf, trailOf, walkedOf, WalkAsks, DescendAsks, WalkOf};
 use crate::trail::Trail;
 use crate::trail::is_met;
@@ -24,7 +24,7 @@ fn children(nodes: &[u32], count: u32, p: u32, top: u32) -> Sides
     sides_at(nodes, count, p, top)
 }
 
-// Meets the parts of p, which was not met yet; false on words that no sound store has.
+// Meets the parts of p that were not met yet, p among them; false on words that no sound store has.
 fn descend(
     p: u32,
     top: u32,
@@ -58,7 +58,7 @@ fn descend(
     true
 }
 
-// The same, where p may have been met.
+// The same, where p may have been met. It is inlined: a child that was met costs no call.
 fn reach(
     p: u32,
     top: u32,
