@@ -4,7 +4,7 @@
 -- nothing is broken.
 use Prim.Native.Nat.{ℕ, _+_, _-_, _≤_, _<_}
 use mathlib.Core.Path.{_≡_, refl, sym, ap, _∙_}
-use mathlib.Core.Bool.{Bool, true, false}
+use mathlib.Core.Bool.{Bool, true, false, not}
 use mathlib.Core.List.{List}
 use native.Mathlib.Omega.{arith}
 use lib.ListN.{length, getD}
@@ -14,7 +14,7 @@ use Rattle.family.specs.Operation.{lacking, holding}
 use Rattle.family.specs.Book.{at, number, Held, place}
 use Rattle.family.proofs.Books.{add-new, grown-held}
 use Rattle.family.proofs.Placing.{book-place, place-grown, place-held, held-below}
-use Rattle.words.proofs.Cases.{by-lt}
+use Rattle.words.proofs.Cases.{by-lt, clash}
 use Rattle.store_sides.specs.declared.Sides.{Sides}
 use Rattle.store_sides.specs.declared.Sides.the-variants.{Two, Broken}
 use Rattle.store.specs.Words.{itemLimit, topAt}
@@ -24,7 +24,7 @@ use Rattle.store.proofs.Held.{top-at, top-node, within, held, at-node}
 use Rattle.file_trail.specs.declared.trail.Trail.{Trail}
 use Rattle.file_trail.specs.declared.walk.Walked.{Walked}
 use Rattle.file_trail.specs.declared.walk.Walked.the-variants.{Went, Broken as NoWay}
-use Rattle.file_trail.specs.Inner.{metIn, Lent, Visited, SplitOf, two, broken, TrailFits, WalkAsks, Trailed, Came, came, WalkOf}
+use Rattle.file_trail.specs.Inner.{metIn, trailOf, walkedOf, Lent, Visited, SplitOf, two, broken, TrailFits, WalkAsks, Trailed, Came, came, WalkOf}
 use Rattle.file_trail.proofs.Links.{behind-long, behind-other}
 use Rattle.file_trail.proofs.Trails.{met-held, unmet-two, unmet-not, few-parts, trail-visit}
 
@@ -110,6 +110,26 @@ went-is e = cc
 broken-not : {A : Type 0} {t : Trail} → NoWay ≡ Went t → A
 broken-not e = absurd (let z : _≡_ {A = ℕ} 0 1 = cc in omega arith)
 
+-- what the answer of a walk over five words stands for
+pub words-went : (b : Bool) (w : List ℕ) → not b ≡ false → walkedOf b w ≡ Went (trailOf w)
+unfolding walkedOf
+words-went true w e = refl
+words-went false w e = clash refl e
+
+pub words-broken : (b : Bool) (w : List ℕ) → not b ≡ true → walkedOf b w ≡ NoWay
+unfolding walkedOf
+words-broken true w e = clash e refl
+words-broken false w e = refl
+
+module _ {t : Trail} {p : ℕ} {nodes : List ℕ} {n : ℕ} {links links′ : List ℕ} (w : List ℕ) where
+  pub answer-true : WalkOf t p nodes n links (Went (trailOf w)) links′ → WalkOf t p nodes n links (walkedOf true w) links′
+  unfolding walkedOf
+  answer-true R = R
+
+  pub answer-false : WalkOf t p nodes n links NoWay links′ → WalkOf t p nodes n links (walkedOf false w) links′
+  unfolding walkedOf
+  answer-false R = R
+
 -- a walk that is broken, with the links that it came to
 pub walk-broken : (t : Trail) (p : ℕ) (nodes : List ℕ) (n : ℕ) (links links′ : List ℕ) → length links′ ≡ length links → ((k : ℕ) → n ≤ k → getD links′ k 0 ≡ getD links k 0)
     → ((B C : List Family) (lookup : List ℕ) → Holds B n nodes lookup → Trailed B C n t links → ⊥) → WalkOf t p nodes n links NoWay links′
@@ -148,11 +168,11 @@ module _ (t : Trail) (p : ℕ) (nodes : List ℕ) (n : ℕ) (links : List ℕ) w
         trail₂ : {B C : List Family} {lookup : List ℕ} (H : Holds B n nodes lookup) (T : Trailed B C n t links) → Trailed B (place (place C (at B q₁)) (at B q₂)) n second links₂
         trail₂ H T = came-to second e₂ (second-came H T)
 
-        module _ {y : Bool} (em : y ≡ metIn links p) (unmet : y ≡ false) {level : ℕ} (lp : p ≤ n + 1) (is-level : level ≡ topAt nodes p) (S₁ : Side nodes n level q₁) (S₂ : Side nodes n level q₂) where
+        module _ (unmet : metIn links p ≡ false) {level : ℕ} (lp : p ≤ n + 1) (is-level : level ≡ topAt nodes p) (S₁ : Side nodes n level q₁) (S₂ : Side nodes n level q₂) where
           -- neither handle's walk meets p, whose top is larger
           lacks : {B C : List Family} {lookup : List ℕ} (H : Holds B n nodes lookup) (T : Trailed B C n t links) → Held (place (place C (at B q₁)) (at B q₂)) (at B p) → ⊥
           lacks {B} {C} H T h =
-              unmet-not H T p (omega arith) (sym em ∙ unmet)
+              unmet-not H T p (omega arith) unmet
               (held-below C (at B q₁) (at B p) (within H q₁ (omega (arith, S₁ .inside)) .ordered)
               (omega (arith, S₁ .below, top-at H q₁ (omega (arith, S₁ .inside)), top-at H p (omega arith)))
               (held-below (place C (at B q₁)) (at B q₂) (at B p) (within H q₂ (omega (arith, S₂ .inside)) .ordered)
@@ -163,9 +183,9 @@ module _ (t : Trail) (p : ℕ) (nodes : List ℕ) (n : ℕ) (links : List ℕ) w
               walk-broken t p nodes n links links₂ long₂ rest₂
               (λ B C lookup H T. let f = few-parts H (trail₂ H T) (at B p) (held H p (omega arith)) (lacks H T) in omega arith)
 
-  module _ {y : Bool} (em : y ≡ metIn links p) (unmet : y ≡ false) (lp : p ≤ n + 1) (level : ℕ) (is-level : level ≡ topAt nodes p) {x : Sides} (S : SplitOf nodes n p level x) where
+  module _ (unmet : metIn links p ≡ false) (lp : p ≤ n + 1) (level : ℕ) (is-level : level ≡ topAt nodes p) {x : Sides} (S : SplitOf nodes n p level x) where
     pub walk-no-children : x ≡ Broken → WalkOf t p nodes n links NoWay links
-    walk-no-children e = walk-broken t p nodes n links links refl (λ k l. refl) (λ B C lookup H T. split-broken e S (unmet-two H T p (sym em ∙ unmet)) B lookup H)
+    walk-no-children e = walk-broken t p nodes n links links refl (λ k l. refl) (λ B C lookup H T. split-broken e S (unmet-two H T p unmet) B lookup H)
 
     -- the without-side, then the with-side, then p itself
     module _ (z o zt ot : ℕ) (ex : x ≡ Two z o zt ot) {r₁ : Walked} {links₁ : List ℕ} (R : WalkOf t z nodes n links r₁ links₁)
@@ -188,10 +208,11 @@ module _ (t : Trail) (p : ℕ) (nodes : List ℕ) (n : ℕ) (links : List ℕ) w
                 rw (ej, ez, eo)
 
         new : Held (place (place C (at B z)) (at B o)) (node level (at B z) (at B o)) → ⊥
-        new h = lacks R first e₁ Q second e₂ em unmet lp is-level (child-side (K .sides) zero-child) (child-side (K .sides) one-child) H T (rw is-node h)
+        new h = lacks R first e₁ Q second e₂ unmet lp is-level (child-side (K .sides) zero-child) (child-side (K .sides) one-child) H T (rw is-node h)
 
-      pub walk-done : TrailFits n second → level ≤ itemLimit → second .parts < 1000000 → n ≤ length links → {t′ : Trail} {links₃ : List ℕ} → Visited second links₂ p level z o t′ links₃ → WalkOf t p nodes n links (Went t′) links₃
-      walk-done F low few room {t′} {links₃} W =
+      pub walk-done : level ≤ itemLimit → second .parts < 1000000 → n ≤ length links → {t′ : Trail} {links₃ : List ℕ} → Visited second links₂ p level z o t′ links₃ → WalkOf t p nodes n links (Went t′) links₃
+      walk-done low few room {t′} {links₃} W =
+          let F = Q .trail-fits second e₂ in
           record {
             long = ap length (W .links-are) ∙ behind-long links₂ (second .last) p ∙ long₂ R first e₁ Q;
             rest = λ k l. ap (λ X. getD X k 0) (W .links-are) ∙ behind-other links₂ (second .last) p k (omega arith) (omega (arith, F .last-held)) ∙ rest₂ R first e₁ Q k l;

@@ -2,7 +2,7 @@
 -- pass this page over.
 use Prim.Native.Nat.{ℕ, _+_, _*_, _-_, _≤_, _<_}
 use mathlib.Core.Path.{_≡_}
-use mathlib.Core.Bool.{Bool, true, cond, not}
+use mathlib.Core.Bool.{Bool, true, false, cond, not}
 use mathlib.Core.List.{List}
 use lib.Dec.{eqb, ltb}
 use lib.ListN.{length, getD, set, drop}
@@ -18,7 +18,7 @@ use Rattle.store_sides.specs.Inner.{TwoSides}
 use Rattle.file_record.specs.Widths.{widths}
 use Rattle.file_trail.specs.declared.trail.Trail.{Trail}
 use Rattle.file_trail.specs.declared.walk.Walked.{Walked}
-use Rattle.file_trail.specs.declared.walk.Walked.the-variants.{Went}
+use Rattle.file_trail.specs.declared.walk.Walked.the-variants.{Went, Broken as NoWay}
 
 -- whether a handle has a link, or is {} or {{}}
 unfoldable pub metIn : List ℕ → ℕ → Bool
@@ -31,6 +31,14 @@ linked links p next = cond (ltb p 2) links (set links (p - 2) next)
 -- the first part once p is met
 unfoldable pub firstOf : Trail → ℕ → ℕ
 firstOf t p = cond (eqb (t .parts) 0) p (t .first)
+
+-- the trail that five words stand for
+abbrev pub trailOf : List ℕ → Trail
+trailOf w = record { first = getD w 0 0; last = getD w 1 0; item = getD w 2 0; parts = getD w 3 0; bytes = getD w 4 0 }
+
+-- a walk's answer: whether it came to its end, and the words of its trail
+unfoldable pub walkedOf : Bool → List ℕ → Walked
+walkedOf b w = cond b (Went (trailOf w)) NoWay
 
 -- the words of n nodes, and a link for each of them
 pub record Lent (nodes : List ℕ) (n : ℕ) (links : List ℕ) : Type 0 where
@@ -83,6 +91,11 @@ pub record WalkAsks (t : Trail) (p level : ℕ) (nodes : List ℕ) (n : ℕ) (li
   pub level-is : level ≡ topAt nodes p
   pub level-low : level ≤ itemLimit
   pub trail-fits : TrailFits n t
+
+-- what `descend` is asked with: the handle was not met
+pub record DescendAsks (t : Trail) (p level : ℕ) (nodes : List ℕ) (n : ℕ) (links : List ℕ) : Type 0 where
+  pub asks : WalkAsks t p level nodes n links
+  pub unmet : metIn links p ≡ false
 
 -- The trail over the families of a local book C, whose handles are their numbers in the book B that the store holds.
 pub record Trailed (B C : List Family) (n : ℕ) (t : Trail) (links : List ℕ) : Type 0 where

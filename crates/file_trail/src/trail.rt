@@ -3,11 +3,11 @@
 ghost use mathlib.Core.Path.{_≡_};
 ghost use Prim.Native.Nat.{_+_, _≤_};
 ghost use lib.ListN.{length};
-ghost use Rattle.file_trail.specs.Inner.{metIn, linked, firstOf, VisitAsks, Visited};
+ghost use Rattle.file_trail.specs.Inner.{metIn, linked, firstOf, trailOf, VisitAsks, Visited};
 use file_record::write::length_of;
 
 // The first part and the last one by their handles, the item of the last, how many there are, and the length of the
-// file so far.
+// file so far. The walk carries them as five words in this order.
 pub struct Trail {
     pub first: u32,
     pub last: u32,
@@ -39,25 +39,26 @@ fn put_link(links: &mut [u32], p: u32, next: u32)
 }
 
 // The first part once p is met.
-fn first_of(trail: Trail, p: u32) -> u32
-    ensures { λ r. ⌜ r ≡ firstOf trail p ⌝ }
+fn first_of(trail: &[u32; 5], p: u32) -> u32
+    ensures { λ r. ⌜ r ≡ firstOf (trailOf (now (trail .entry))) p ⌝ }
 {
-    if trail.parts == 0 { p } else { trail.first }
+    if trail[3] == 0 { p } else { trail[0] }
 }
 
 // Puts the part p, of this item and these children, behind the last one.
-pub fn visit(trail: Trail, links: &mut [u32], p: u32, item: u32, zero: u32, one: u32) -> Trail
-    requires { ⌜ VisitAsks trail (now links) p ⌝ }
-    ensures { λ r. ⌜ Visited trail (now (links .entry)) p item zero one r (now (links .exit)) ⌝ }
+pub fn visit(trail: &mut [u32; 5], links: &mut [u32], p: u32, item: u32, zero: u32, one: u32)
+    requires { ⌜ VisitAsks (trailOf (now trail)) (now links) p ⌝ }
+    ensures { λ _. ⌜ Visited (trailOf (now (trail .entry))) (now (links .entry)) p item zero one (trailOf (now (trail .exit))) (now (links .exit)) ⌝ }
 {
-    let record = length_of(item != trail.item + 1, zero != 0, one != trail.last);
-    put_link(links, trail.last, p);
+    let last = trail[1];
+    let record = length_of(item != trail[2] + 1, zero != 0, one != last);
+    put_link(links, last, p);
     put_link(links, p, p);
-    Trail {
-        first: first_of(trail, p),
-        last: p,
-        item: item,
-        parts: trail.parts + 1,
-        bytes: trail.bytes + record,
-    }
+    *trail = [
+        first_of(trail, p),
+        p,
+        item,
+        trail[3] + 1,
+        trail[4] + record as u32,
+    ];
 }
