@@ -1,6 +1,7 @@
 /* A store in plain C, the benchmark's yardstick: the calls of zdd.h on the same lent words, by the same procedures, so that
  * a list of calls leaves the same words. It makes the same tests before a call; then it trusts its words: on a damaged
- * store it may read and write anywhere. Nothing of it is proved, and nothing but the benchmark uses it. */
+ * store it may read and write anywhere. Lengths are below 2^32. Nothing of it is proved, and nothing but the benchmark
+ * uses it. */
 #include <string.h>
 
 #include "../include/zdd.h"
@@ -163,8 +164,9 @@ static uint32_t family_step(context *c, uint32_t op, uint32_t p, uint32_t q) {
 #define READ zdd_store s, const uint32_t *nodes, size_t node_words, const uint32_t *lookup, size_t lookup_words
 #define CACHE uint32_t *cache, size_t cache_words
 
-static context opened(zdd_store s, uint32_t *nodes, uint32_t *lookup, size_t lookup_words, CACHE) {
-    return (context){nodes, lookup, cache, (uint32_t)lookup_words, (uint32_t)(cache_words / 4), s.capacity, s.count, {0}};
+static void open_store(context *c, zdd_store s, uint32_t *nodes, uint32_t *lookup, size_t lookup_words, CACHE) {
+    *c = (context){nodes, lookup, cache, (uint32_t)lookup_words, (uint32_t)(cache_words / 4), s.capacity, s.count, {0}};
+    if (c->groups == 0) c->cache = c->own, c->groups = 1;
 }
 
 /* The end of a call that places: after no room everything is as before, and the cache is 0. */
@@ -179,16 +181,16 @@ static inline zdd_placed item_call(uint32_t op, STORE, CACHE, uint32_t p, uint32
     if (!fits(s, node_words, lookup_words)) return refused(s, ZDD_DAMAGED);
     if (!holds(s, p)) return refused(s, ZDD_HANDLE);
     if (item - 1 >= ZDD_LARGEST_ITEM) return refused(s, ZDD_ITEM);
-    context c = opened(s, nodes, lookup, lookup_words, cache, cache_words);
-    if (c.groups == 0) c.cache = c.own, c.groups = 1;
+    context c;
+    open_store(&c, s, nodes, lookup, lookup_words, cache, cache_words);
     return placed(&c, s, of_item(&c, op, p, item), cache, cache_words);
 }
 
 static inline zdd_placed family_call(uint32_t op, STORE, CACHE, uint32_t p, uint32_t q) {
     if (!fits(s, node_words, lookup_words)) return refused(s, ZDD_DAMAGED);
     if (!holds(s, p) || !holds(s, q)) return refused(s, ZDD_HANDLE);
-    context c = opened(s, nodes, lookup, lookup_words, cache, cache_words);
-    if (c.groups == 0) c.cache = c.own, c.groups = 1;
+    context c;
+    open_store(&c, s, nodes, lookup, lookup_words, cache, cache_words);
     return placed(&c, s, of_families(&c, op, p, q), cache, cache_words);
 }
 
@@ -241,6 +243,12 @@ zdd_measured plain_size(READ, uint32_t p, uint64_t *sizes, size_t scratch_words)
     return (zdd_measured){s, 0, size};
 }
 
+static inline bool is_empty(const uint32_t words[16]) {
+    uint32_t left = 0;
+    for (int k = 0; k < 16; k++) left |= words[k];
+    return left == 0;
+}
+
 /* One way down: each item of the combination that is met is taken out of it, and none may be left over. */
 static bool is_member(const uint32_t *nodes, uint32_t p, uint32_t words[16]) {
     while (p >= 2) {
@@ -249,9 +257,7 @@ static bool is_member(const uint32_t *nodes, uint32_t p, uint32_t words[16]) {
         p = *word & bit ? node[2] : node[1];
         *word &= ~bit;
     }
-    uint32_t left = 0;
-    for (int k = 0; k < 16; k++) left |= words[k];
-    return p == 1 && left == 0;
+    return p == 1 && is_empty(words);
 }
 
 zdd_asked plain_has(READ, uint32_t p, zdd_combination combination) {
@@ -316,7 +322,10 @@ zdd_saved plain_save(READ, uint32_t p, uint32_t *links, size_t scratch_words, ui
     if (!holds(s, p)) return (zdd_saved){s, ZDD_HANDLE, 0};
     if (scratch_words < s.count) return (zdd_saved){s, ZDD_SCRATCH, 0};
     trail t = {nodes, links, 0, 1, 0, 0, p < 2 ? 1 : 5};
-    if (p >= 2) memset(links, 0, s.count * sizeof *links), walk(&t, p);
+    if (p >= 2) {
+        memset(links, 0, s.count * sizeof *links);
+        walk(&t, p);
+    }
     if (out_bytes < t.bytes) return (zdd_saved){s, ZDD_OUTPUT, 0};
     out[0] = p < 2 ? 2 * (uint8_t)p : 1;
     if (p >= 2) write_parts(&t, put(out + 1, t.parts, 4));
@@ -397,11 +406,11 @@ zdd_placed plain_load(STORE, CACHE, const uint8_t *file, size_t file_bytes, uint
     if (scratch_words / 6 < file_bytes) return refused(s, ZDD_SCRATCH);
     if (file_bytes == 1 && (file[0] == 0 || file[0] == 2)) return (zdd_placed){s, 0, file[0] / 2};
     if (file_bytes == 0 || file[0] != 1) return refused(s, ZDD_NO_FILE);
-    zdd_store empty = {(uint32_t)file_bytes, 0};
-    context table = opened(empty, scratch, scratch + 3 * file_bytes, 2 * file_bytes, NULL, 0);
+    context table, c;
+    open_store(&table, (zdd_store){(uint32_t)file_bytes, 0}, scratch, scratch + 3 * file_bytes, 2 * file_bytes, NULL, 0);
     uint32_t parts = read_parts((input){file, file + file_bytes}, &table);
     if (parts == 0) return refused(s, ZDD_NO_FILE);
-    context c = opened(s, nodes, lookup, lookup_words, cache, cache_words);
+    open_store(&c, s, nodes, lookup, lookup_words, cache, cache_words);
     return placed(&c, s, place_parts(&c, &table, scratch + 5 * file_bytes, parts), cache, cache_words);
 }
 
@@ -419,20 +428,25 @@ static bool obeys(const context *c, uint32_t k) {
     return left > 0 && c->lookup[slot] == k + 2;
 }
 
-static bool is_sound(zdd_store s, uint32_t *nodes, uint32_t *lookup, size_t lookup_words) {
-    context c = opened(s, nodes, lookup, lookup_words, NULL, 0);
-    size_t used = 0;
-    uint32_t blank = 0;
-    for (size_t slot = 0; slot < lookup_words; slot++) used += lookup[slot] != 0;
-    for (size_t k = 3 * (size_t)s.count; k < 3 * (size_t)s.capacity; k++) blank |= nodes[k];
-    if (used != s.count || blank != 0) return false;
-    for (uint32_t k = 0; k < s.count; k++)
-        if (!obeys(&c, k)) return false;
+static bool all_obey(const context *c) {
+    for (uint32_t k = 0; k < c->count; k++)
+        if (!obeys(c, k)) return false;
     return true;
+}
+
+/* How many words are not 0. */
+static size_t used(const uint32_t *words, size_t length) {
+    size_t number = 0;
+    for (size_t k = 0; k < length; k++) number += words[k] != 0;
+    return number;
 }
 
 zdd_audited plain_audit(READ, CACHE) {
     zero_groups(cache, cache_words);
     if (!fits(s, node_words, lookup_words)) return (zdd_audited){s, false};
-    return (zdd_audited){s, is_sound(s, (uint32_t *)nodes, (uint32_t *)lookup, lookup_words)};
+    if (used(lookup, lookup_words) != s.count) return (zdd_audited){s, false};
+    if (used(nodes + 3 * (size_t)s.count, 3 * (size_t)(s.capacity - s.count)) != 0) return (zdd_audited){s, false};
+    context c;
+    open_store(&c, s, (uint32_t *)nodes, (uint32_t *)lookup, lookup_words, cache, cache_words);
+    return (zdd_audited){s, all_obey(&c)};
 }
