@@ -1,18 +1,25 @@
 // Rounds of what is compared, and the tables of their times.
 #pragma once
 #include <algorithm>
-#include <chrono>
 #include <cstdio>
+#include <ctime>
 #include <functional>
 #include <string>
 #include <vector>
 
 #include "packages.h"
 
+// The processor's time of this thread, in seconds: what else runs on the machine does not count.
+inline double now() {
+    timespec t;
+    clock_gettime(CLOCK_THREAD_CPUTIME_ID, &t);
+    return double(t.tv_sec) + 1e-9 * double(t.tv_nsec);
+}
+
 inline double seconds(const std::function<void()> &work) {
-    auto start = std::chrono::steady_clock::now();
+    double start = now();
     work();
-    return std::chrono::duration<double>(std::chrono::steady_clock::now() - start).count();
+    return now() - start;
 }
 
 // The seconds that one package took in each round.
