@@ -37,7 +37,7 @@ struct Chart {
     // Title, legend and the lines of the scale, down to the end of the bars.
     void frame(int bottom) const {
         const char *style = "font-family=\"sans-serif\" font-size=\"12\" fill=\"#1f2328\"";
-        std::fprintf(out, "<svg xmlns=\"http://www.w3.org/2000/svg\" width=\"%d\" height=\"%d\" %s>\n", width, bottom + 16, style);
+        std::fprintf(out, "<svg xmlns=\"http://www.w3.org/2000/svg\" viewBox=\"0 0 %d %d\" %s>\n", width, bottom + 16, style);
         box(0, 0, width, bottom + 16, "#ffffff");
         text(20, 28, "start", "font-size=\"17\" font-weight=\"bold\"", "Time relative to a plain C store: shorter is faster");
         const char *names[] = {"this library", "plain C store", "CUDD"};
