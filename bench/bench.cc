@@ -1,86 +1,28 @@
-// The same lists of calls on this library, on an earlier build of it where one is given, and on CUDD's zero-suppressed diagrams, in
-// turn, with the ratios and their spread.
-#include <algorithm>
-#include <chrono>
-#include <cstdio>
-#include <functional>
-#include <memory>
-#include <string>
-#include <vector>
+// The same lists of calls on this library, on a store in plain C, on an earlier build of this library where one is given, and on
+// CUDD's zero-suppressed diagrams. First all must come to the same; then they are timed in turn. Prints tables of Markdown, and
+// draws the picture into the file that is named.
+#include <utility>
 
+#include "chart.h"
+#include "measure.h"
 #include "packages.h"
 #include "workloads.h"
 
 static const size_t largest_capacity = 1000000;
 static const unsigned cudd_cache = 1 << 18;
 
-// The builds of this library that are timed: an earlier revision's first, where there is one. Their columns: times, and the newest's
-// by the eldest's.
-#ifdef BEFORE
-static const std::vector<const Library *> builds = {&before, &here};
-static const char *heads = " ms before | ms here | here by before |", *rule = "---|---|---|";
-#else
-static const std::vector<const Library *> builds = {&here};
-static const char *heads = " ms here |", *rule = "---|";
-#endif
-
-static double seconds(const std::function<void()> &work) {
-    auto start = std::chrono::steady_clock::now();
-    work();
-    return std::chrono::duration<double>(std::chrono::steady_clock::now() - start).count();
-}
-
-// Runs rounds for a second, 20 at least and 100 at most.
-static void rounds(const std::function<void()> &round) {
-    double spent = 0;
-    for (int i = 0; i < 20 || (i < 100 && spent < 1); i++) spent += seconds(round);
-}
-
-static double smallest(const std::vector<double> &v) { return *std::min_element(v.begin(), v.end()); }
-static double largest(const std::vector<double> &v) { return *std::max_element(v.begin(), v.end()); }
-
-// What a package took in each round, and the members and parts of the family that it came to.
-struct Timed {
-    std::vector<double> seconds;
-    uint64_t members = 0;
-    size_t parts = 0;
-    double ms() const { return 1e3 * smallest(seconds); }
+// The words of the caches, and whether a store has room for twice the nodes that a workload makes, or for 1,000,000.
+struct Setting {
+    const char *title;
+    size_t cache_words;
+    bool fitted;
 };
-
-static void times(const std::vector<Timed> &ours) {
-    for (const Timed &t : ours) std::printf(" %.2f |", t.ms());
-    if (ours.size() > 1) std::printf(" %.2f |", ours.back().ms() / ours.front().ms());
-}
-
-static void row(const char *name, const Words &words, const std::vector<Timed> &ours, const Timed &cudd) {
-    bool same = true;
-    std::vector<double> speed;
-    for (const Timed &t : ours) same = same && t.members == cudd.members && t.parts == cudd.parts;
-    for (size_t i = 0; i < cudd.seconds.size(); i++) speed.push_back(cudd.seconds[i] / ours.back().seconds[i]);
-    std::printf("| %s | %zu | %zu |", name, words.nodes.size() / 3, words.cache.size() / 4);
-    times(ours);
-    std::printf(" %.2f | %.2f | %.2f to %.2f | %zu | %llu | %s |\n", cudd.ms(), cudd.ms() / ours.back().ms(), smallest(speed),
-                largest(speed), cudd.parts, (unsigned long long)cudd.members, same ? "yes" : "NO");
-    std::fflush(stdout);
-    if (!same) std::exit(1);
-}
-
-// One line: the packages in turn; `prepare` is not timed, `work` is.
-template <class Prepare, class Work> static void compare(const char *name, Words &words, Prepare prepare, Work work) {
-    std::vector<Timed> ours(builds.size());
-    Timed cudd;
-    auto round = [&](auto &&p, Timed &t) {
-        auto given = prepare(p);
-        auto family = p.empty();
-        t.seconds.push_back(seconds([&] { family = work(p, given); }));
-        t.members = p.size(family), t.parts = p.parts(family);
-    };
-    rounds([&] {
-        for (size_t k = 0; k < ours.size(); k++) round(Ours(*builds[k], words), ours[k]);
-        round(Cudd(cudd_cache), cudd);
-    });
-    row(name, words, ours, cudd);
-}
+static const Setting settings[] = {
+    {"65,536 cache groups, stores for twice the nodes", 262144, true},
+    {"4,096 cache groups, stores for twice the nodes", 16384, true},
+    {"256 cache groups, stores for twice the nodes", 1024, true},
+    {"65,536 cache groups, stores for 1,000,000 nodes", 262144, false},
+};
 
 // Two large families that share half of their combinations.
 template <class P> static std::pair<typename P::F, typename P::F> two(P &p) {
@@ -93,13 +35,6 @@ template <class P> static typename P::F three(P &p, std::pair<typename P::F, typ
     return p.subtract(p.unite(f.first, f.second), p.intersect(f.first, f.second));
 }
 
-static std::vector<uint8_t> file_of(Ours &p, uint32_t f) {
-    std::vector<uint32_t> links(p.store.count);
-    std::vector<uint8_t> out(11 * size_t(p.store.count) + 5);
-    out.resize(p.save(f, links, out));
-    return out;
-}
-
 // The two families before the operations on them are timed: built in CUDD, loaded from files here.
 static std::pair<Cudd::F, Cudd::F> there(Cudd &q) { return two(q); }
 static std::pair<Ours::F, Ours::F> there(Ours &p) {
@@ -108,39 +43,99 @@ static std::pair<Ours::F, Ours::F> there(Ours &p) {
         Words words(largest_capacity, 1 << 18);
         Ours source(here, words);
         auto built = two(source);
-        left = file_of(source, built.first), right = file_of(source, built.second);
+        left = source.file(built.first), right = source.file(built.second);
     }
     std::vector<uint32_t> scratch(6 * std::max(left.size(), right.size()));
     auto first = p.load(left, scratch);
     return {first, p.load(right, scratch)};
 }
 
-// The workloads with so many cache words, each in a store for twice the nodes that it makes, or in the largest.
-static void workloads(size_t cache_words, bool fitted) {
-    auto run = [&](const char *name, auto prepare, auto work) {
-        Words most(largest_capacity, cache_words);
-        if (!fitted) return compare(name, most, prepare, work);
-        Ours p(here, most);
-        work(p, prepare(p));
-        Words words(std::min(largest_capacity, 2 * size_t(p.store.count)), cache_words);
-        compare(name, words, prepare, work);
-    };
+static int grid_order(int row, int column) { return row * 10 + column + 1; }
+static int bad_order(int row, int column) { return split_order(7, row, column); }
+
+// Every workload: its name, what is there before it, which is not timed, and its calls.
+template <class Visit> static void each_workload(Visit visit) {
     auto build = [&](const char *name, auto work) {
-        run(name, [](auto &) { return 0; }, [&](auto &p, int) { return work(p); });
+        visit(name, [](auto &) { return 0; }, [work](auto &p, int) { return work(p); });
     };
     build("2,000 random combinations", [](auto &p) { return random_family(p, 2000, 1); });
     build("10,000 random combinations", [](auto &p) { return random_family(p, 10000, 1); });
     build("8 queens", [](auto &p) { return queens(p, 8); });
     build("10 queens", [](auto &p) { return queens(p, 10); });
-    build("independent sets, 10 x 10 grid, rows in order",
-          [](auto &p) { return independent_sets(p, 10, [](int row, int column) { return row * 10 + column + 1; }); });
-    build("independent sets, 7 x 7 grid, even columns first",
-          [](auto &p) { return independent_sets(p, 7, [](int row, int column) { return split_order(7, row, column); }); });
-    run("Union, Intsec, Diff of large families", [](auto &p) { return there(p); },
-        [](auto &p, auto families) { return three(p, families); });
+    build("independent sets, 10 x 10 grid, rows in order", [](auto &p) { return independent_sets(p, 10, grid_order); });
+    build("independent sets, 7 x 7 grid, even columns first", [](auto &p) { return independent_sets(p, 7, bad_order); });
+    visit("Union, Intsec, Diff of large families", [](auto &p) { return there(p); }, [](auto &p, auto f) { return three(p, f); });
 }
 
-// The parts of a store of so many nodes, by one random family.
+[[noreturn]] static void differ(const std::string &name, const char *what) {
+    std::fprintf(stderr, "bench: %s: %s\n", name.c_str(), what);
+    std::exit(1);
+}
+
+// Stops where another library leaves other words than this one.
+static void same_words(const std::string &name, const Ours &p, const Ours &q) {
+    if (p.store.count != q.store.count) differ(name, "other counts");
+    if (p.words.nodes != q.words.nodes) differ(name, "other node words");
+    if (p.words.lookup != q.words.lookup) differ(name, "other lookup words");
+    if (&q.library == &plain && p.words.cache != q.words.cache) differ(name, "other cache words: is group_of in plain.c the library's?");
+}
+
+// Stops unless all come to the same family in the same words; gives the nodes that the workload makes.
+template <class Prepare, class Work>
+static size_t check(const std::string &name, size_t capacity, size_t cache_words, Prepare prepare, Work work) {
+    Words words(capacity, cache_words), others(capacity, cache_words);
+    Ours p(here, words);
+    auto family = work(p, prepare(p));
+    for (size_t k = 1; k < libraries.size(); k++) {
+        Ours q(*libraries[k], others);
+        auto other = work(q, prepare(q));
+        if (family != other || p.file(family) != q.file(other)) differ(name, "other families");
+        same_words(name, p, q);
+    }
+    Cudd q(cudd_cache);
+    auto other = work(q, prepare(q));
+    if (p.size(family) != q.size(other) || p.parts(family) != q.parts(other)) differ(name, "CUDD has another family");
+    return p.store.count;
+}
+
+// One row: all packages in turn, this library and the C store on the same words.
+template <class Prepare, class Work>
+static Row timed(const char *name, size_t nodes, size_t capacity, size_t cache_words, Prepare prepare, Work work) {
+    Words words(capacity, cache_words);
+    auto once = [&](auto &&p) {
+        auto given = prepare(p);
+        return seconds([&] { work(p, given); });
+    };
+    std::vector<std::function<double()>> runs;
+    for (const Library *library : libraries) runs.push_back([&, library] { return once(Ours(*library, words)); });
+    runs.push_back([&] { return once(Cudd(cudd_cache)); });
+    return {name, nodes, rounds(runs)};
+}
+
+static size_t capacity_in(const Setting &s, size_t nodes) { return s.fitted ? std::min(largest_capacity, 2 * nodes) : largest_capacity; }
+
+// The nodes that each workload makes, in their order; all are checked in all settings.
+static std::vector<size_t> check_workloads() {
+    std::vector<size_t> nodes;
+    each_workload([&](const char *name, auto prepare, auto work) {
+        nodes.push_back(check(name, largest_capacity, settings[0].cache_words, prepare, work));
+        for (const Setting &s : settings) check(name, capacity_in(s, nodes.back()), s.cache_words, prepare, work);
+    });
+    return nodes;
+}
+
+static std::vector<Row> time_workloads(const Setting &s, const std::vector<size_t> &nodes) {
+    std::printf("\n### %s\n", s.title);
+    Table table("Workload", "nodes made", true);
+    size_t next = 0;
+    each_workload([&](const char *name, auto prepare, auto work) {
+        size_t made = nodes[next++];
+        table.add(timed(name, made, capacity_in(s, made), s.cache_words, prepare, work));
+    });
+    return table.rows;
+}
+
+// Makes so many nodes by one random family, as far as there is room.
 static uint32_t grown(Ours &p, size_t nodes) {
     Random r{5};
     uint32_t family = 0;
@@ -153,68 +148,161 @@ static uint32_t grown(Ours &p, size_t nodes) {
     return family;
 }
 
-// One line: what each build does in turn to a store that it is given, and the time of each of `units`.
-static void line(const char *name, size_t units, const std::function<Ours(const Library &)> &store, const std::function<void(Ours &)> &work) {
-    std::vector<Timed> t(builds.size());
-    rounds([&] {
-        for (size_t k = 0; k < t.size(); k++) {
-            Ours p = store(*builds[k]);
-            t[k].seconds.push_back(seconds([&] { work(p); }));
-        }
-    });
-    std::printf("| %s |", name);
-    times(t);
-    std::printf(" %.2f | %.1f |\n", 1e3 * largest(t.back().seconds), 1e6 * t.back().ms() / units);
-    std::fflush(stdout);
+// All subsets of the items 1 to 512.
+static uint32_t all_subsets(Ours &p) {
+    uint32_t family = 1;
+    for (int item = 1; item <= 512; item++) family = p.unite(family, p.change(family, item));
+    return family;
 }
 
-// Size, Save, Load, Audit and Has on a store of 500,000 nodes.
-static void queries() {
-    Words words(largest_capacity, 1 << 18);
-    Ours p(here, words);
-    uint32_t family = grown(p, 500000);
-    size_t nodes = p.store.count, parts = p.parts(family);
-    std::vector<uint8_t> file = file_of(p, family), out(11 * nodes + 5);
-    std::vector<uint32_t> links(nodes), scratch(6 * file.size());
-    Words fresh(2 * parts, 0);
-    std::printf("\nA store of %zu nodes; the family has %zu parts, its file %zu bytes.\n\n", nodes, parts, file.size());
-    std::printf("| Call |%s largest | ns per node |\n|---|%s---|---|\n", heads, rule);
-    auto full = [&](const Library &library) { return Ours(library, p); };
-    auto empty = [&](const Library &library) { return Ours(library, fresh); };
-    line("Size", nodes, full, [&](Ours &q) { q.size(family); });
-    line("Save", nodes, full, [&](Ours &q) { q.save(family, links, out); });
-    line("Load into an empty store", parts, empty, [&](Ours &q) { q.load(file, scratch); });
-    line("Load of what is held", parts, full, [&](Ours &q) { q.load(file, scratch); });
-    line("Audit", nodes, full, [&](Ours &q) {
-        if (!q.audit()) stop("audit", 0);
-    });
-    line("Has, 100,000 times", 100000, full, [&](Ours &q) {
-        Random r{9};
-        for (int i = 0; i < 100000; i++) {
-            zdd_combination c = {};
-            for (int k = 0; k < 8; k++) c.words[r.next() % 16] |= 1u << (r.next() % 32);
-            q.has(family, c);
+static std::vector<zdd_combination> combinations(int number, int items) {
+    Random r{9};
+    std::vector<zdd_combination> all(number);
+    for (zdd_combination &c : all)
+        for (int k = 0; k < items; k++) {
+            uint32_t word = r.next() % 16;
+            c.words[word] |= 1u << (r.next() % 32);
         }
-    });
+    return all;
+}
+
+// A store, a family in it, and the lent memory of the calls on it.
+struct Shelf {
+    Words words;
+    Ours p;
+    uint32_t family;
+    std::vector<uint32_t> links, scratch;
+    std::vector<uint64_t> sizes;
+    std::vector<uint8_t> file, out;
+    template <class Build> Shelf(size_t capacity, Build build) : words(capacity, 1 << 18), p(here, words), family(build(p)) {
+        file = p.file(family);
+        links.resize(p.store.count), sizes.resize(p.store.count), out.resize(11 * size_t(p.store.count) + 5);
+        scratch.resize(6 * file.size());
+    }
+};
+
+// A row of calls on a shelf: they give a number, and all libraries must give the same and leave the same output and sizes.
+struct Calls {
+    const char *name;
+    size_t units;
+    Shelf &shelf;
+    std::function<Ours(const Library &)> store;
+    std::function<uint64_t(Ours &)> work;
+
+    Row timed() const {
+        std::vector<std::function<double()>> runs;
+        for (const Library *library : libraries)
+            runs.push_back([this, library] {
+                Ours p = store(*library);
+                return seconds([&] { work(p); });
+            });
+        return {name, units, rounds(runs)};
+    }
+    void check() const {
+        Ours p = store(here);
+        uint64_t answer = work(p);
+        Words words = p.words;
+        auto sizes = shelf.sizes;
+        auto out = shelf.out;
+        for (size_t k = 1; k < libraries.size(); k++) {
+            Ours q = store(*libraries[k]);
+            if (work(q) != answer || shelf.sizes != sizes || shelf.out != out) differ(name, "other answers");
+            same_words(name, Ours(p, words), q);
+        }
+    }
+};
+
+static Calls has(const char *name, Shelf &s, std::function<Ours(const Library &)> store, int number, int items) {
+    auto all = combinations(number, items);
+    return {name, all.size(), s, store, [&s, all](Ours &q) {
+                uint64_t members = 0;
+                for (const zdd_combination &c : all) members += q.has(s.family, c);
+                return members;
+            }};
+}
+
+static Calls save(const char *name, size_t units, Shelf &s, std::function<Ours(const Library &)> store) {
+    return {name, units, s, store, [&s](Ours &q) { return q.save(s.family, s.links, s.out); }};
+}
+
+// Size, Save, Load, Audit and Has.
+static std::vector<Row> time_calls() {
+    Shelf s(largest_capacity, [](Ours &p) { return grown(p, 500000); });
+    Shelf grid(largest_capacity, [](Ours &p) { return independent_sets(p, 7, bad_order); });
+    Shelf deep(2000, all_subsets);
+    size_t nodes = s.p.store.count, parts = s.p.parts(s.family), grid_parts = grid.p.parts(grid.family);
+    Words fresh(2 * parts, 0);
+    auto at = [](Shelf &shelf) { return [&shelf](const Library &library) { return Ours(library, shelf.p); }; };
+    auto empty = [&](const Library &library) { return Ours(library, fresh); };
+    auto load = [&](Ours &q) { return q.load(s.file, s.scratch); };
+    std::vector<Calls> calls = {
+        {"Size", nodes, s, at(s), [&](Ours &q) { return q.size(s.family, s.sizes); }},
+        save("Save", parts, s, at(s)),
+        save("Save, 7 x 7 grid", grid_parts, grid, at(grid)),
+        {"Load into an empty store", parts, s, empty, load},
+        {"Load of what is held", parts, s, at(s), load},
+        has("Has, 8 items", s, at(s), 100000, 8),
+        has("Has, 512 items deep", deep, at(deep), 10000, 256),
+        {"Audit", nodes, s, at(s), [](Ours &q) { return uint64_t(q.audit()); }},
+    };
+    for (const Calls &c : calls) c.check();
+    std::printf("\n### Calls on a store of %zu nodes\n", nodes);
+    Table table("Call", "nodes, parts or times", false);
+    for (const Calls &c : calls) table.add(c.timed());
+    return table.rows;
 }
 
 // Time as a store grows.
-static void growth() {
-    std::printf("\n| Nodes made |%s largest | ns per node |\n|---|%s---|---|\n", heads, rule);
-    Words words(largest_capacity, 1 << 18);
+static void time_growth() {
+    std::printf("\n### Growth\n");
+    Table table("Building", "nodes made", false);
+    Shelf s(largest_capacity, [](Ours &) { return 0; });
     for (size_t nodes : {size_t(10000), size_t(100000), size_t(1000000)}) {
-        Ours p(here, words);
-        grown(p, nodes);
-        line(std::to_string(p.store.count).c_str(), p.store.count, [&](const Library &library) { return Ours(library, words); },
-             [&](Ours &q) { grown(q, nodes); });
+        auto work = [nodes](Ours &q) { return grown(q, nodes); };
+        Ours p(here, s.words);
+        work(p);
+        Calls c = {"one random family", p.store.count, s, [&](const Library &library) { return Ours(library, s.words); }, work};
+        c.check();
+        table.add(c.timed());
     }
 }
 
-int main() {
-    std::printf("| Workload | capacity | groups |%s ms CUDD | times CUDD's speed | spread | parts | members | same |\n", heads);
-    std::printf("|---|---|---|%s---|---|---|---|---|---|\n", rule);
-    for (size_t cache_words : {size_t(262144), size_t(16384), size_t(1024)}) workloads(cache_words, true);
-    workloads(262144, false);
-    queries();
-    growth();
+static void line(const std::string &what, const char *asked, double found, const std::string &where) {
+    std::printf("| %s | %s | %.2f | %s |\n", what.c_str(), asked, found, where.c_str());
+}
+
+static double slowest(const std::vector<Row> &rows) {
+    double least = rows[0].cudd_by_ours();
+    for (const Row &row : rows) least = std::min(least, row.cudd_by_ours());
+    return least;
+}
+
+// What is asked, and what came out.
+static void summary(const std::vector<std::vector<Row>> &tables, const std::vector<Row> &calls) {
+    std::printf("\n### Summary\n\n| What | asked | found | where |\n|---|---|---|---|\n");
+    const char *most[] = {"at most 1.10", "at most 1.25", "-", "-"}, *means[] = {"1.0", "-", "-", "-"};
+    for (size_t k = 0; k < tables.size(); k++) {
+        line("largest time by the C store's", most[k], largest(tables[k]).by_plain(), settings[k].title + (": " + largest(tables[k]).name));
+        line("mean time by the C store's", means[k], mean(tables[k]), settings[k].title);
+    }
+    for (const char *call : {"Save", "Has"}) {
+        Row row = largest(named(calls, call));
+        line(std::string(call) + ", largest time by the C store's", "at most 1.05", row.by_plain(), row.name);
+    }
+    line("times CUDD's speed", "at least 1.5", slowest(named(tables[0], "random combinations")), "building from random combinations");
+    line("times CUDD's speed", "at least 2", slowest(named(tables[0], "large families")), "Union, Intsec, Diff of large families");
+    line("times CUDD's speed", "-", slowest(tables[0]), "the slowest of all workloads");
+}
+
+int main(int arguments, char **argument) {
+    std::vector<size_t> nodes = check_workloads();
+    std::vector<std::vector<Row>> tables;
+    for (const Setting &s : settings) tables.push_back(time_workloads(s, nodes));
+    std::vector<Row> calls = time_calls();
+    time_growth();
+    summary(tables, calls);
+    if (arguments < 2) return 0;
+    std::vector<Row> shown = tables[0];
+    shown.insert(shown.end(), calls.begin(), calls.end());
+    Chart(argument[1]).draw(shown);
 }

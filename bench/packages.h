@@ -1,4 +1,5 @@
-// The two packages that are compared: this library, and CUDD's zero-suppressed diagrams.
+// The packages that are compared: this library and the store in plain C, which have the same calls, and CUDD's zero-suppressed
+// diagrams.
 #pragma once
 #include <cstdio>
 #include <cstdlib>
@@ -14,8 +15,9 @@
     std::exit(1);
 }
 
-// The calls of one build of this library.
+// The calls of this library, or of what has the same ones.
 struct Library {
+    const char *name;
     decltype(&zdd_fresh) fresh;
     decltype(&zdd_change) change;
     decltype(&zdd_subset0) subset0;
@@ -29,27 +31,33 @@ struct Library {
     decltype(&zdd_save) save;
 };
 
-#define LIBRARY(name)                                                                                                              \
-    Library {                                                                                                                      \
-        name##fresh, name##change, name##subset0, name##union, name##intsec, name##diff, name##load, name##audit, name##size,      \
-            name##has, name##save                                                                                                  \
+#define LIBRARY(name, p)                                                                                                            \
+    Library {                                                                                                                       \
+        name, p##fresh, p##change, p##subset0, p##union, p##intsec, p##diff, p##load, p##audit, p##size, p##has, p##save            \
+    }
+#define DECLARE(p)                                                                                                                  \
+    extern "C" {                                                                                                                    \
+    decltype(zdd_fresh) p##fresh;                                                                                                   \
+    decltype(zdd_change) p##change, p##subset0;                                                                                     \
+    decltype(zdd_union) p##union, p##intsec, p##diff;                                                                               \
+    decltype(zdd_load) p##load;                                                                                                     \
+    decltype(zdd_audit) p##audit;                                                                                                   \
+    decltype(zdd_size) p##size;                                                                                                     \
+    decltype(zdd_has) p##has;                                                                                                       \
+    decltype(zdd_save) p##save;                                                                                                     \
     }
 
-// this tree's library, and with BEFORE that of an earlier revision, whose names `bench/run` gives a prefix
-static const Library here = LIBRARY(zdd_);
+// this tree's library, the store in plain C, and with BEFORE an earlier revision's library, whose names `bench/run` gives a prefix
+DECLARE(plain_)
+static const Library here = LIBRARY("this library", zdd_), plain = LIBRARY("C store", plain_);
 #ifdef BEFORE
-extern "C" {
-decltype(zdd_fresh) before_zdd_fresh;
-decltype(zdd_change) before_zdd_change, before_zdd_subset0;
-decltype(zdd_union) before_zdd_union, before_zdd_intsec, before_zdd_diff;
-decltype(zdd_load) before_zdd_load;
-decltype(zdd_audit) before_zdd_audit;
-decltype(zdd_size) before_zdd_size;
-decltype(zdd_has) before_zdd_has;
-decltype(zdd_save) before_zdd_save;
-}
-static const Library before = LIBRARY(before_zdd_);
+DECLARE(before_zdd_)
+static const Library before = LIBRARY("earlier", before_zdd_);
+static const std::vector<const Library *> libraries = {&here, &plain, &before};
+#else
+static const std::vector<const Library *> libraries = {&here, &plain};
 #endif
+#undef DECLARE
 #undef LIBRARY
 
 // The words lent to a store.
@@ -70,8 +78,9 @@ struct Ours {
         if (r.refusal) stop("fresh", r.refusal);
         store = r.store;
     }
-    // the store of another build, as it is
+    // the store of another library, as it is; and the same record over other words
     Ours(const Library &library, const Ours &other) : library(library), words(other.words), store(other.store) {}
+    Ours(const Ours &other, Words &words) : library(other.library), words(words), store(other.store) {}
     F take(const char *what, zdd_placed r) {
         if (r.refusal) stop(what, r.refusal);
         store = r.store;
@@ -91,8 +100,10 @@ struct Ours {
     }
     bool audit() { return library.audit(LENT).sound; }
     uint64_t size(F p) {
-        static std::vector<uint64_t> scratch;
-        scratch.resize(store.count);
+        std::vector<uint64_t> scratch(store.count);
+        return size(p, scratch);
+    }
+    uint64_t size(F p, std::vector<uint64_t> &scratch) {
         auto r = library.size(READ, p, scratch.data(), scratch.size());
         if (r.refusal) stop("size", r.refusal);
         return r.size;
@@ -105,13 +116,17 @@ struct Ours {
     }
 #undef LENT
 #undef READ
+    std::vector<uint8_t> file(F p) {
+        std::vector<uint32_t> scratch(store.count);
+        std::vector<uint8_t> out(11 * size_t(store.count) + 5);
+        out.resize(save(p, scratch, out));
+        return out;
+    }
     // the number of parts of p, read off the head of its file
     size_t parts(F p) {
         if (p < 2) return 0;
-        std::vector<uint32_t> scratch(store.count);
-        std::vector<uint8_t> out(11 * size_t(store.count) + 5);
-        save(p, scratch, out);
-        return out[1] | size_t(out[2]) << 8 | size_t(out[3]) << 16 | size_t(out[4]) << 24;
+        auto head = file(p);
+        return head[1] | size_t(head[2]) << 8 | size_t(head[3]) << 16 | size_t(head[4]) << 24;
     }
 };
 

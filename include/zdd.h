@@ -20,6 +20,9 @@
  * lookup is not longer than the capacity, or the count is above the capacity. On a store that is unsound in another way
  * a call may give 10 or any other answer, and what it leaves in the lent words is free. On a sound store 10 never comes.
  *
+ * Stack. ZDD_STACK_BYTES of stack below the caller are enough for any call on any words: a recursion goes at most 512 items
+ * deep. Union, Intsec and Diff use the most, and only on families that nest so deep; tests/link/stack.c measures each call.
+ *
  * Link with libzdd_c.a (docs/LINKING.md). What each call promises is proved of its source; crates/zdd_c has the contracts.
  */
 #ifndef ZDD_H
@@ -46,6 +49,7 @@ extern "C" {
 
 #define ZDD_LARGEST_ITEM 512u
 #define ZDD_LARGEST_CAPACITY 1000000u
+#define ZDD_STACK_BYTES 196608u /* 192 KiB */
 
 /* The record of a store: room for so many nodes, and so many held. */
 typedef struct {

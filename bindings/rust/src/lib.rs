@@ -28,3 +28,6 @@ pub use answer::{Asked, Audited, Freshened, Measured, Placed, Record, Saved};
 pub use combination::Combination;
 pub use refusal::Refusal;
 pub use store::Store;
+
+/// So many bytes of stack below the caller are enough for any call on any words.
+pub const STACK_BYTES: usize = 196_608;

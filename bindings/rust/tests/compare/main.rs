@@ -13,5 +13,6 @@ mod random;
 mod shelf;
 mod sizes;
 mod sound_stores;
+mod stack;
 mod tally;
 mod worked;
