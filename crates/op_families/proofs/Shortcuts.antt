@@ -9,7 +9,7 @@ use Rattle.family.specs.Book.{at}
 use Rattle.store.specs.declared.record.Store.{Store}
 use Rattle.store.specs.declared.record.PlaceAnswer.the-variants.{Handle}
 use Rattle.store.specs.declared.record.Placed.{Placed}
-use Rattle.store.specs.Coded.{placedOf}
+use Rattle.store.specs.Coded.{placedAs}
 use Rattle.store.specs.Words.{topAt}
 use Rattle.store.specs.Inner.{Ran}
 use Rattle.store.proofs.Codes.{coded-held}
@@ -71,5 +71,5 @@ module _ {asked call : Call} (O : OrderedAs asked call) {level : ℕ} {s : Store
         ran-ordered cache (plain-ran (of call) s nodes lookup cache (plain-handle (of call) s nodes lookup (I .roomy) r h es ea terminal-held
         (λ B H. shortcut-known e S .means B (at-0 H) (within H (call .p) (omega (arith, I .first)) .ordered) (within H (call .q) (omega (arith, I .second)) .ordered))))
 
-    pub coded-terminal : Ran (of asked) s nodes lookup cache (placedOf (s .capacity) (s .count) h) nodes lookup cache
-    coded-terminal = ran-terminal (placedOf (s .capacity) (s .count) h) refl (coded-held h (A .taken .roomy) (A .taken .roomy .within) terminal-held)
+    pub coded-terminal : Ran (of asked) s nodes lookup cache (placedAs (s .capacity) (s .count) h) nodes lookup cache
+    coded-terminal = ran-terminal (placedAs (s .capacity) (s .count) h) refl (coded-held h (A .taken .roomy) (A .taken .roomy .within) terminal-held)

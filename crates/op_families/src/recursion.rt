@@ -2,7 +2,7 @@
 ghost use mathlib.Core.Path.{_≡_};
 ghost use Prim.Native.Nat.{max};
 ghost use Rattle.op_cache.specs.Inner.{callOf};
-ghost use Rattle.store.specs.Coded.{storeOf, placedOf};
+ghost use Rattle.store.specs.Coded.{storeOf, placedAs};
 ghost use Rattle.store.specs.Operations.{named};
 ghost use Rattle.store.specs.Inner.{Ran};
 ghost use Rattle.op_families.specs.Inner.{ForkAsks, ApplyAsks, FamilyStepAsks, ForkOf};
@@ -86,7 +86,7 @@ fn apply(
     cache: &mut [u32],
 ) -> u32
     requires { ⌜ ApplyAsks (callOf op p q) level (storeOf capacity (now count)) (now nodes) (now lookup) ⌝ }
-    ensures { λ r. ⌜ Ran (λ B. named op B p q) (storeOf capacity (now (count .entry))) (now (nodes .entry)) (now (lookup .entry)) (now (cache .entry)) (placedOf capacity (now (count .exit)) r) (now (nodes .exit)) (now (lookup .exit)) (now (cache .exit)) ⌝ }
+    ensures { λ r. ⌜ Ran (λ B. named op B p q) (storeOf capacity (now (count .entry))) (now (nodes .entry)) (now (lookup .entry)) (now (cache .entry)) (placedAs capacity (now (count .exit)) r) (now (nodes .exit)) (now (lookup .exit)) (now (cache .exit)) ⌝ }
 {
     let call = ordered(Call { op: op, p: p, q: q });
     if let Recalled::Hit(handle) = shortcut(call) {
@@ -118,7 +118,7 @@ pub fn expand(
     cache: &mut [u32],
 ) -> u32
     requires { ⌜ FamilyStepAsks (callOf op p q) level (storeOf capacity (now count)) (now nodes) (now lookup) ⌝ }
-    ensures { λ r. ⌜ Ran (λ B. named op B p q) (storeOf capacity (now (count .entry))) (now (nodes .entry)) (now (lookup .entry)) (now (cache .entry)) (placedOf capacity (now (count .exit)) r) (now (nodes .exit)) (now (lookup .exit)) (now (cache .exit)) ⌝ }
+    ensures { λ r. ⌜ Ran (λ B. named op B p q) (storeOf capacity (now (count .entry))) (now (nodes .entry)) (now (lookup .entry)) (now (cache .entry)) (placedAs capacity (now (count .exit)) r) (now (nodes .exit)) (now (lookup .exit)) (now (cache .exit)) ⌝ }
 {
     let call = Call { op: op, p: p, q: q };
     let group = group_of(call, cache.len());

@@ -1,7 +1,7 @@
 // Subset1 (1), Subset0 (2) and Change (3): the recursion on the two sides; the top item falls at each call.
 ghost use Rattle.op_items.specs.Inner.{RestrictAsks, ItemStepAsks};
 ghost use Rattle.op_cache.specs.Inner.{callOf};
-ghost use Rattle.store.specs.Coded.{storeOf, placedOf};
+ghost use Rattle.store.specs.Coded.{storeOf, placedAs};
 ghost use Rattle.store.specs.Operations.{named};
 ghost use Rattle.store.specs.Inner.{Ran};
 use op_cache::Call;
@@ -29,7 +29,7 @@ fn restrict(
     cache: &mut [u32],
 ) -> u32
     requires { ⌜ RestrictAsks (callOf op p item) level (storeOf capacity (now count)) (now nodes) (now lookup) ⌝ }
-    ensures { λ r. ⌜ Ran (λ B. named op B p item) (storeOf capacity (now (count .entry))) (now (nodes .entry)) (now (lookup .entry)) (now (cache .entry)) (placedOf capacity (now (count .exit)) r) (now (nodes .exit)) (now (lookup .exit)) (now (cache .exit)) ⌝ }
+    ensures { λ r. ⌜ Ran (λ B. named op B p item) (storeOf capacity (now (count .entry))) (now (nodes .entry)) (now (lookup .entry)) (now (cache .entry)) (placedAs capacity (now (count .exit)) r) (now (nodes .exit)) (now (lookup .exit)) (now (cache .exit)) ⌝ }
 {
     if level <= item {
         return leaf(op, p, item, level, capacity, count, nodes, lookup);
@@ -50,7 +50,7 @@ pub fn expand(
     cache: &mut [u32],
 ) -> u32
     requires { ⌜ ItemStepAsks (callOf op p item) level (storeOf capacity (now count)) (now nodes) (now lookup) ⌝ }
-    ensures { λ r. ⌜ Ran (λ B. named op B p item) (storeOf capacity (now (count .entry))) (now (nodes .entry)) (now (lookup .entry)) (now (cache .entry)) (placedOf capacity (now (count .exit)) r) (now (nodes .exit)) (now (lookup .exit)) (now (cache .exit)) ⌝ }
+    ensures { λ r. ⌜ Ran (λ B. named op B p item) (storeOf capacity (now (count .entry))) (now (nodes .entry)) (now (lookup .entry)) (now (cache .entry)) (placedAs capacity (now (count .exit)) r) (now (nodes .exit)) (now (lookup .exit)) (now (cache .exit)) ⌝ }
 {
     let call = Call {
         op: op,

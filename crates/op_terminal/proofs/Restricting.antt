@@ -9,7 +9,7 @@ use Rattle.family.specs.Family.{Family, top, mk}
 use Rattle.family.specs.Book.{at}
 use Rattle.store.specs.declared.record.Store.{Store}
 use Rattle.store.specs.declared.record.Placed.{Placed}
-use Rattle.store.specs.Coded.{placedOf}
+use Rattle.store.specs.Coded.{placedAs}
 use Rattle.store.specs.Words.{topAt}
 use Rattle.store.specs.Operations.{restrict, named}
 use Rattle.store_node.specs.Inner.{NodeIt}
@@ -34,11 +34,11 @@ module _ (call : Call) (s : Store) (nodes lookup : List ℕ) (I : ItemCall call 
     low : {B : List Family} → Holds B (s .count) nodes lookup → top (at B (call .p)) < call .q
     low H = omega (arith, top-at H (call .p) (omega arith))
 
-    pub above-none : call .op ≡ 1 → RanPlain (λ B. named (call .op) B (call .p) (call .q)) s nodes lookup (placedOf (s .capacity) (s .count) 0) nodes lookup
+    pub above-none : call .op ≡ 1 → RanPlain (λ B. named (call .op) B (call .p) (call .q)) s nodes lookup (placedAs (s .capacity) (s .count) 0) nodes lookup
     above-none e =
         plain-coded F s nodes lookup (I .roomy) 0 (omega arith) (λ B H. at-0 H ∙ sym (item B ∙ above-subset1 (call .op) (call .q) (at B (call .p)) (low H) e))
 
-    pub above-same : call .op ≡ 2 → RanPlain (λ B. named (call .op) B (call .p) (call .q)) s nodes lookup (placedOf (s .capacity) (s .count) (call .p)) nodes lookup
+    pub above-same : call .op ≡ 2 → RanPlain (λ B. named (call .op) B (call .p) (call .q)) s nodes lookup (placedAs (s .capacity) (s .count) (call .p)) nodes lookup
     above-same e =
         plain-coded F s nodes lookup (I .roomy) (call .p) (I .held) (λ B H. sym (item B ∙ above-subset0 (call .op) (call .q) (at B (call .p)) (low H) e))
 
@@ -53,11 +53,11 @@ module _ (call : Call) (s : Store) (nodes lookup : List ℕ) (I : ItemCall call 
     is-top : {B : List Family} → Holds B (s .count) nodes lookup → top (at B (call .p)) ≡ call .q
     is-top H = sym (top-at H (call .p) (omega arith)) ∙ here
 
-    pub top-one : call .op ≡ 1 → RanPlain (λ B. named (call .op) B (call .p) (call .q)) s nodes lookup (placedOf (s .capacity) (s .count) o) nodes lookup
+    pub top-one : call .op ≡ 1 → RanPlain (λ B. named (call .op) B (call .p) (call .q)) s nodes lookup (placedAs (s .capacity) (s .count) o) nodes lookup
     top-one e =
         plain-coded F s nodes lookup (I .roomy) o (T .one-within) (λ B H. T .holds B lookup H ∙ sym (item B ∙ at-subset1 (call .op) (call .q) (at B (call .p)) (I .item-some) (is-top H) e))
 
-    pub top-zero : call .op ≡ 2 → RanPlain (λ B. named (call .op) B (call .p) (call .q)) s nodes lookup (placedOf (s .capacity) (s .count) z) nodes lookup
+    pub top-zero : call .op ≡ 2 → RanPlain (λ B. named (call .op) B (call .p) (call .q)) s nodes lookup (placedAs (s .capacity) (s .count) z) nodes lookup
     top-zero e =
         plain-coded F s nodes lookup (I .roomy) z (T .zero-within) (λ B H. T .lacks B lookup H ∙ sym (item B ∙ at-subset0 (call .op) (call .q) (at B (call .p)) (I .item-some) (is-top H) e))
 

@@ -1,7 +1,7 @@
 // Subset1 (1), Subset0 (2) and Change (3): an item above the top, and the top itself.
 ghost use Rattle.op_terminal.specs.Inner.{AboveAsks, AtAsks, LeafAsks};
 ghost use Rattle.op_cache.specs.Inner.{callOf};
-ghost use Rattle.store.specs.Coded.{storeOf, placedOf};
+ghost use Rattle.store.specs.Coded.{storeOf, placedAs};
 ghost use Rattle.store.specs.Operations.{named};
 ghost use Rattle.store.specs.Inner.{RanPlain};
 use store::coded::DAMAGED;
@@ -20,7 +20,7 @@ fn above_top(
     lookup: &mut [u32],
 ) -> u32
     requires { ⌜ AboveAsks (callOf op p item) (storeOf capacity (now count)) (now nodes) (now lookup) ⌝ }
-    ensures { λ r. ⌜ RanPlain (λ B. named op B p item) (storeOf capacity (now (count .entry))) (now (nodes .entry)) (now (lookup .entry)) (placedOf capacity (now (count .exit)) r) (now (nodes .exit)) (now (lookup .exit)) ⌝ }
+    ensures { λ r. ⌜ RanPlain (λ B. named op B p item) (storeOf capacity (now (count .entry))) (now (nodes .entry)) (now (lookup .entry)) (placedAs capacity (now (count .exit)) r) (now (nodes .exit)) (now (lookup .exit)) ⌝ }
 {
     if op == 1 {
         return 0;
@@ -42,7 +42,7 @@ fn at_top(
     lookup: &mut [u32],
 ) -> u32
     requires { ⌜ AtAsks (callOf op p item) (storeOf capacity (now count)) (now nodes) (now lookup) ⌝ }
-    ensures { λ r. ⌜ RanPlain (λ B. named op B p item) (storeOf capacity (now (count .entry))) (now (nodes .entry)) (now (lookup .entry)) (placedOf capacity (now (count .exit)) r) (now (nodes .exit)) (now (lookup .exit)) ⌝ }
+    ensures { λ r. ⌜ RanPlain (λ B. named op B p item) (storeOf capacity (now (count .entry))) (now (nodes .entry)) (now (lookup .entry)) (placedAs capacity (now (count .exit)) r) (now (nodes .exit)) (now (lookup .exit)) ⌝ }
 {
     match sides_at(nodes, *count, p, item) {
         Sides::Broken => DAMAGED,
@@ -75,7 +75,7 @@ pub fn leaf(
     lookup: &mut [u32],
 ) -> u32
     requires { ⌜ LeafAsks (callOf op p item) level (storeOf capacity (now count)) (now nodes) (now lookup) ⌝ }
-    ensures { λ r. ⌜ RanPlain (λ B. named op B p item) (storeOf capacity (now (count .entry))) (now (nodes .entry)) (now (lookup .entry)) (placedOf capacity (now (count .exit)) r) (now (nodes .exit)) (now (lookup .exit)) ⌝ }
+    ensures { λ r. ⌜ RanPlain (λ B. named op B p item) (storeOf capacity (now (count .entry))) (now (nodes .entry)) (now (lookup .entry)) (placedAs capacity (now (count .exit)) r) (now (nodes .exit)) (now (lookup .exit)) ⌝ }
 {
     if level < item {
         return above_top(op, p, item, capacity, count, nodes, lookup);

@@ -13,7 +13,7 @@ use Rattle.store.specs.declared.record.PlaceAnswer.{PlaceAnswer}
 use Rattle.store.specs.declared.record.PlaceAnswer.the-variants.{Handle, Refused}
 use Rattle.store.specs.declared.record.Placed.{Placed}
 use Rattle.store.specs.Inner.{Roomy}
-use Rattle.store.specs.Coded.{answerOf, storeOf, placedOf}
+use Rattle.store.specs.Coded.{answerOf, storeOf, placedAs}
 
 pub coded-handle : (r : ℕ) → r < 4294967294 → answerOf r ≡ Handle r
 unfolding answerOf
@@ -35,7 +35,7 @@ pub coded-refused : (r : ℕ) → 4294967294 ≤ r → (x : Refusal) × (answerO
 coded-refused r l = by-eq r 4294967294 (λ e d. (Full, coded-full r e)) (λ n d. (Damaged, coded-damaged r l n))
 
 -- an answer of a record, with the number that stands for it
-pub coded-placed : {capacity n : ℕ} {a : PlaceAnswer} (r : ℕ) (x : Placed) → x .store ≡ storeOf capacity n → x .answer ≡ a → answerOf r ≡ a → x ≡ placedOf capacity n r
+pub coded-placed : {capacity n : ℕ} {a : PlaceAnswer} (r : ℕ) (x : Placed) → x .store ≡ storeOf capacity n → x .answer ≡ a → answerOf r ≡ a → x ≡ placedAs capacity n r
 coded-placed r x es ea er = joined (x .store) (x .answer) es (ea ∙ sym er)
   where
     joined : (s : Store) {s′ : Store} (a : PlaceAnswer) {a′ : PlaceAnswer} → s ≡ s′ → a ≡ a′ → _≡_ {A = Placed} record { store = s; answer = a } record { store = s′; answer = a′ }

@@ -17,5 +17,5 @@ abbrev pub storeOf : ℕ → ℕ → Store
 storeOf capacity n = record { capacity = capacity; count = n }
 
 -- what a call gives back: the record of so many nodes, and the answer that a number stands for
-abbrev pub placedOf : ℕ → ℕ → ℕ → Placed
-placedOf capacity n r = record { store = storeOf capacity n; answer = answerOf r }
+abbrev pub placedAs : ℕ → ℕ → ℕ → Placed
+placedAs capacity n r = record { store = storeOf capacity n; answer = answerOf r }

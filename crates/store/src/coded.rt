@@ -1,6 +1,6 @@
 // An answer as one number, as the inner functions hand it up: a handle, or one of two numbers past every handle.
 ghost use mathlib.Core.Path.{_≡_};
-ghost use Rattle.store.specs.Coded.{placedOf};
+ghost use Rattle.store.specs.Coded.{placedAs};
 use crate::record::Placed;
 use crate::record::Refusal;
 use crate::record::Store;
@@ -13,7 +13,7 @@ pub const DAMAGED: u32 = 4294967295;
 
 // The answer that a number stands for, with the record of so many nodes.
 pub fn answered(capacity: u32, count: u32, coded: u32) -> Placed
-    ensures { λ r. ⌜ r ≡ placedOf capacity count coded ⌝ }
+    ensures { λ r. ⌜ r ≡ placedAs capacity count coded ⌝ }
 {
     let store = Store {
         capacity: capacity,

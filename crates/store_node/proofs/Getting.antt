@@ -17,7 +17,7 @@ use Rattle.store_node.specs.declared.unique.Made.{Made}
 use Rattle.store_node.specs.declared.unique.Made.the-variants.{Found, New, Full as NoRoom, Damaged as Bad}
 use Rattle.store_node.specs.declared.unique.Making.{Making}
 use Rattle.store.specs.Words.{itemLimit}
-use Rattle.store.specs.Coded.{answerOf, storeOf, placedOf}
+use Rattle.store.specs.Coded.{answerOf, storeOf, placedAs}
 use Rattle.store.specs.Inner.{Roomy, Holds, Handed, Outcome, gave, full, Kept}
 use Rattle.store_node.specs.Inner.{NodeAsks, MadeOf, found, new, MadeIt, NodeIt}
 use Rattle.store.proofs.Held.{at-0, within, positive-one, held}
@@ -53,7 +53,7 @@ not-bad e (MadeOf.full l k H) = let z : _≡_ {A = ℕ} 0 1 = cc in omega arith
 
 module _ (s : Store) (nodes lookup : List ℕ) (i z o : ℕ) (A : NodeAsks s nodes lookup i z o) where
   -- the one side is {}
-  pub node-zero : o ≡ 0 → NodeIt s nodes lookup i z o (placedOf (s .capacity) (s .count) z) nodes lookup
+  pub node-zero : o ≡ 0 → NodeIt s nodes lookup i z o (placedAs (s .capacity) (s .count) z) nodes lookup
   node-zero e =
       let ea : answerOf z ≡ Handle z = coded-held z (A .roomy) (A .roomy .within) (A .zero-held) in
       record {
@@ -89,26 +89,26 @@ module _ (s : Store) (nodes lookup : List ℕ) (i z o : ℕ) (A : NodeAsks s nod
     -- a handle that is held, with what it means
     node-handle : (h : ℕ) → h ≤ m .store .count + 1 → ((B : List Family) → Holds B (s .count) nodes lookup → top (at B z) < i → top (at B o) < i
         → Outcome (made B i (at B z) (at B o)) (mk i (at B z) (at B o)) (s .capacity) (m .store .count) nodes′ lookup′ (Handle h))
-        → NodeIt s nodes lookup i z o (placedOf (s .capacity) (m .store .count) h) nodes′ lookup′
+        → NodeIt s nodes lookup i z o (placedAs (s .capacity) (m .store .count) h) nodes′ lookup′
     node-handle h l f =
         let ea : answerOf h ≡ Handle h = coded-held h (A .roomy) (M .kept .fits) l in
         record { kept = kept; handle = λ g d. omega (arith, handle-is (sym ea ∙ d)); sound = λ B H tz to. rw ea (f B H tz to) }
 
-    pub node-found : (h : ℕ) → m .made ≡ Found h → NodeIt s nodes lookup i z o (placedOf (s .capacity) (m .store .count) h) nodes′ lookup′
+    pub node-found : (h : ℕ) → m .made ≡ Found h → NodeIt s nodes lookup i z o (placedAs (s .capacity) (m .store .count) h) nodes′ lookup′
     node-found h em =
         node-handle h (M .found-within h em)
         (λ B H tz to.
         let G = found-handed (rw em at (got H tz to)) in
         as-node H B (add-same B (node i (at B z) (at B o)) (rw (G .means) at (held (G .holds) h (G .within)))) (gave G))
 
-    pub node-new : (h : ℕ) → m .made ≡ New h → NodeIt s nodes lookup i z o (placedOf (s .capacity) (m .store .count) h) nodes′ lookup′
+    pub node-new : (h : ℕ) → m .made ≡ New h → NodeIt s nodes lookup i z o (placedAs (s .capacity) (m .store .count) h) nodes′ lookup′
     node-new h em =
         node-handle h (M .new-within h em)
         (λ B H tz to.
         let G = rw em at (got H tz to) in
         as-node H (B ++ (node i (at B z) (at B o) ∷ [])) (add-new B (node i (at B z) (at B o)) (new-lacks G)) (gave (new-handed G)))
 
-    pub node-full : m .made ≡ NoRoom → NodeIt s nodes lookup i z o (placedOf (s .capacity) (m .store .count) 4294967294) nodes′ lookup′
+    pub node-full : m .made ≡ NoRoom → NodeIt s nodes lookup i z o (placedAs (s .capacity) (m .store .count) 4294967294) nodes′ lookup′
     node-full em =
         let ea = coded-full 4294967294 refl in
         record {
@@ -120,7 +120,7 @@ module _ (s : Store) (nodes lookup : List ℕ) (i z o : ℕ) (A : NodeAsks s nod
               (full B (full-holds G) (rw length-append (omega (arith, full-lacks G .1)))));
         }
 
-    pub node-damaged : m .made ≡ Bad → NodeIt s nodes lookup i z o (placedOf (s .capacity) (m .store .count) 4294967295) nodes′ lookup′
+    pub node-damaged : m .made ≡ Bad → NodeIt s nodes lookup i z o (placedAs (s .capacity) (m .store .count) 4294967295) nodes′ lookup′
     node-damaged em =
         record {
           kept = kept;

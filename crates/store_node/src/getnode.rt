@@ -1,5 +1,5 @@
 // Getnode of document 001: the family of an item and two sides.
-ghost use Rattle.store.specs.Coded.{storeOf, placedOf};
+ghost use Rattle.store.specs.Coded.{storeOf, placedAs};
 ghost use Rattle.store_node.specs.Inner.{NodeAsks, NodeIt};
 use crate::unique::Made;
 use crate::unique::make;
@@ -21,7 +21,7 @@ pub fn node_of(
     one: u32,
 ) -> u32
     requires { ⌜ NodeAsks (storeOf capacity (now count)) (now nodes) (now lookup) item zero one ⌝ }
-    ensures { λ r. ⌜ NodeIt (storeOf capacity (now (count .entry))) (now (nodes .entry)) (now (lookup .entry)) item zero one (placedOf capacity (now (count .exit)) r) (now (nodes .exit)) (now (lookup .exit)) ⌝ }
+    ensures { λ r. ⌜ NodeIt (storeOf capacity (now (count .entry))) (now (nodes .entry)) (now (lookup .entry)) item zero one (placedAs capacity (now (count .exit)) r) (now (nodes .exit)) (now (lookup .exit)) ⌝ }
 {
     if one == 0 {
         return zero;

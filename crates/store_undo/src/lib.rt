@@ -1,5 +1,5 @@
 // Taking back the newest nodes.
-ghost use Rattle.store.specs.Coded.{storeOf, placedOf};
+ghost use Rattle.store.specs.Coded.{storeOf, placedAs};
 ghost use Rattle.store_undo.specs.Inner.{UndoAsks, RolledBack, Finished};
 use store::coded::answered;
 use store::record::PlaceAnswer;
@@ -54,7 +54,7 @@ pub fn finish_coded(
     cache: &mut [u32],
 ) -> Placed
     requires { ⌜ UndoAsks (storeOf (store .capacity) held) (now nodes) (now lookup) (store .count) ⌝ }
-    ensures { λ r. ⌜ Finished (placedOf (store .capacity) held coded) (store .count) (now (nodes .entry)) (now (lookup .entry)) (now (cache .entry)) r (now (nodes .exit)) (now (lookup .exit)) (now (cache .exit)) ⌝ }
+    ensures { λ r. ⌜ Finished (placedAs (store .capacity) held coded) (store .count) (now (nodes .entry)) (now (lookup .entry)) (now (cache .entry)) r (now (nodes .exit)) (now (lookup .exit)) (now (cache .exit)) ⌝ }
 {
     let placed = answered(store.capacity, held, coded);
     finish(placed, store.count, nodes, lookup, cache)
