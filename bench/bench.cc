@@ -1,4 +1,4 @@
-// The same lists of calls on this library, on a store in plain C, on an earlier build of this library where one is given, and on
+// The same lists of calls on this library, on two stores in C, on an earlier build of this library where one is given, and on
 // CUDD's zero-suppressed diagrams. First all must come to the same; then they are timed in turn. Prints tables of Markdown, and
 // draws the picture into the file that is named.
 #include <utility>
@@ -77,7 +77,8 @@ static void same_words(const std::string &name, const Ours &p, const Ours &q) {
     if (p.store.count != q.store.count) differ(name, "other counts");
     if (p.words.nodes != q.words.nodes) differ(name, "other node words");
     if (p.words.lookup != q.words.lookup) differ(name, "other lookup words");
-    if (&q.library == &plain && p.words.cache != q.words.cache) differ(name, "other cache words: is group_of in plain.c the library's?");
+    bool in_c = &q.library == &plain || &q.library == &tuned;
+    if (in_c && p.words.cache != q.words.cache) differ(name, "other cache words: is group_of in plain.c and tuned.c the library's?");
 }
 
 // Stops unless all come to the same family in the same words; gives the nodes that the workload makes.
@@ -283,7 +284,8 @@ static void summary(const std::vector<std::vector<Row>> &tables, const std::vect
     const char *most[] = {"at most 1.10", "at most 1.25", "-", "-"}, *means[] = {"1.0", "-", "-", "-"};
     for (size_t k = 0; k < tables.size(); k++) {
         line("largest time by the C store's", most[k], largest(tables[k]).by_plain(), settings[k].title + (": " + largest(tables[k]).name));
-        line("mean time by the C store's", means[k], mean(tables[k]), settings[k].title);
+        line("mean time by the C store's", means[k], mean(tables[k], &Row::by_plain), settings[k].title);
+        line("mean time by tuned C's", "-", mean(tables[k], &Row::by_tuned), settings[k].title);
     }
     for (const char *call : {"Save", "Has"}) {
         Row row = largest(named(calls, call));

@@ -32,7 +32,7 @@ struct Chart {
         std::snprintf(digits, sizeof digits, format, value);
         return digits;
     }
-    static int height(const Row &row) { return bar * (row.has_cudd() ? 3 : 2) + gap; }
+    static int height(const Row &row) { return bar * (row.has_cudd() ? 4 : 3) + gap; }
 
     // Title, legend and the lines of the scale, down to the end of the bars.
     void frame(int bottom) const {
@@ -40,8 +40,8 @@ struct Chart {
         std::fprintf(out, "<svg xmlns=\"http://www.w3.org/2000/svg\" viewBox=\"0 0 %d %d\" %s>\n", width, bottom + 16, style);
         box(0, 0, width, bottom + 16, "#ffffff");
         text(20, 28, "start", "font-size=\"17\" font-weight=\"bold\"", "Time relative to a plain C store: shorter is faster");
-        const char *names[] = {"this library", "plain C store", "CUDD"};
-        for (int k = 0; k < 3; k++) {
+        const char *names[] = {"this library", "plain C store", "tuned C store", "CUDD"};
+        for (int k = 0; k < 4; k++) {
             box(20 + 130 * k, 44, 12, 12, colour(k));
             text(38 + 130 * k, 54, "start", "", names[k]);
         }
@@ -52,7 +52,10 @@ struct Chart {
     }
     // the words of a value keep off the lines of the scale
     static constexpr const char *value = "font-size=\"10\" stroke=\"#ffffff\" stroke-width=\"3\" paint-order=\"stroke\"";
-    static const char *colour(int package) { return package == 0 ? "#0969da" : package == 1 ? "#8c959f" : "#bc4c00"; }
+    static const char *colour(int package) {
+        const char *colours[] = {"#0969da", "#8c959f", "#c9d1d9", "#bc4c00"};
+        return colours[package];
+    }
 
     void one(int package, double ratio) {
         box(x(0), y, x(ratio) - x(0), bar - 1, colour(package));
@@ -64,7 +67,8 @@ struct Chart {
         text(left - 10, middle, "end", "", row.name + " (" + number("%.2f", 1e3 * row.plain()) + " ms)");
         one(0, row.by_plain());
         one(1, 1);
-        if (row.has_cudd()) one(2, row.cudd() / row.plain());
+        one(2, row.by_plain() / row.by_tuned());
+        if (row.has_cudd()) one(3, row.cudd() / row.plain());
         y += gap;
     }
     void draw(const std::vector<Row> &rows) {

@@ -59,6 +59,7 @@ struct Row {
     double plain() const { return times[1].least(); }
     double cudd() const { return times.back().least(); }
     double by_plain() const { return ours() / plain(); }
+    double by_tuned() const { return ours() / times[2].least(); }
     double cudd_by_ours() const { return cudd() / ours(); }
 };
 
@@ -68,12 +69,12 @@ struct Table {
     bool cudd;
     std::vector<Row> rows;
     Table(const char *what, const char *units, bool cudd) : what(what), units(units), cudd(cudd) {
-        size_t columns = 4;
+        size_t columns = 5;
         std::printf("\n| %s | %s |", what, units);
         for (const Library *l : libraries) std::printf(" %s, ms |", l->name), columns++;
         if (cudd) std::printf(" CUDD, ms |"), columns++;
-        std::printf(" by C store |");
-        if (libraries.size() > 2) std::printf(" by earlier |"), columns++;
+        std::printf(" by C store | by tuned C |");
+        if (libraries.size() > 3) std::printf(" by earlier |"), columns++;
         std::printf(cudd ? " times CUDD's speed |\n|" : " ns each |\n|");
         for (size_t k = 0; k < columns; k++) std::printf("---|");
         std::printf("\n");
@@ -81,8 +82,8 @@ struct Table {
     void add(const Row &row) {
         std::printf("| %s | %zu |", row.name.c_str(), row.units);
         for (const Times &t : row.times) std::printf(" %.2f (%.0f %%) |", 1e3 * t.least(), 100 * t.spread());
-        std::printf(" %.2f |", row.by_plain());
-        if (libraries.size() > 2) std::printf(" %.2f |", row.ours() / row.times[2].least());
+        std::printf(" %.2f | %.2f |", row.by_plain(), row.by_tuned());
+        if (libraries.size() > 3) std::printf(" %.2f |", row.ours() / row.times[3].least());
         if (cudd) std::printf(" %.2f |\n", row.cudd_by_ours());
         else std::printf(" %.1f |\n", 1e9 * row.ours() / double(row.units));
         std::fflush(stdout);
@@ -94,9 +95,9 @@ inline Row largest(const std::vector<Row> &rows) {
     return *std::max_element(rows.begin(), rows.end(), [](const Row &a, const Row &b) { return a.by_plain() < b.by_plain(); });
 }
 
-inline double mean(const std::vector<Row> &rows) {
+inline double mean(const std::vector<Row> &rows, double (Row::*ratio)() const) {
     double sum = 0;
-    for (const Row &row : rows) sum += row.by_plain();
+    for (const Row &row : rows) sum += (row.*ratio)();
     return sum / double(rows.size());
 }
 

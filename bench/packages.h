@@ -1,4 +1,4 @@
-// The packages that are compared: this library and the store in plain C, which have the same calls, and CUDD's zero-suppressed
+// The packages that are compared: this library and the two stores in C, which have the same calls, and CUDD's zero-suppressed
 // diagrams.
 #pragma once
 #include <cstdio>
@@ -47,15 +47,20 @@ struct Library {
     decltype(zdd_save) p##save;                                                                                                     \
     }
 
-// this tree's library, the store in plain C, and with BEFORE an earlier revision's library, whose names `bench/run` gives a prefix
+// this tree's library, the stores in plain and in tuned C, and with BEFORE an earlier revision's library, whose names `bench/run`
+// gives a prefix; the plain store has Load, Audit and Size of the tuned one
 DECLARE(plain_)
-static const Library here = LIBRARY("this library", zdd_), plain = LIBRARY("C store", plain_);
+DECLARE(tuned_)
+#define plain_load tuned_load
+#define plain_audit tuned_audit
+#define plain_size tuned_size
+static const Library here = LIBRARY("this library", zdd_), plain = LIBRARY("C store", plain_), tuned = LIBRARY("tuned C", tuned_);
 #ifdef BEFORE
 DECLARE(before_zdd_)
 static const Library before = LIBRARY("earlier", before_zdd_);
-static const std::vector<const Library *> libraries = {&here, &plain, &before};
+static const std::vector<const Library *> libraries = {&here, &plain, &tuned, &before};
 #else
-static const std::vector<const Library *> libraries = {&here, &plain};
+static const std::vector<const Library *> libraries = {&here, &plain, &tuned};
 #endif
 #undef DECLARE
 #undef LIBRARY
