@@ -1,7 +1,7 @@
 -- A terminal case of two families runs as the call that it answers, and so does a call with its operands in order.
 -- A terminal case gives a handle that is in the book already; an order that names the same family runs the same.
 use Prim.Native.Nat.{ℕ, _+_, _≤_}
-use mathlib.Core.Path.{_≡_, refl, sym, ap}
+use mathlib.Core.Path.{_≡_, refl, sym, ap, _∙_}
 use mathlib.Core.List.{List}
 use mathlib.Core.Logic.{_⊎_, ⊎-elim}
 use native.Mathlib.Omega.{arith}
@@ -18,7 +18,7 @@ use Rattle.op_cache.specs.declared.Call.{Call}
 use Rattle.op_cache.specs.declared.Recalled.{Recalled}
 use Rattle.op_cache.specs.declared.Recalled.the-variants.{Hit, Miss}
 use Rattle.op_terminal.specs.Inner.{OrderedAs, Shortcut, Proper, ShortcutOf, known, unknown}
-use Rattle.op_families.specs.Inner.{ApplyAsks}
+use Rattle.op_families.specs.Inner.{ApplyAsks, FamilyStepAsks}
 use Rattle.store.proofs.Plain.{plain-handle, plain-ran}
 use Rattle.op_step.proofs.Steps.{of}
 use Rattle.op_step.proofs.Outcomes.{ran-same}
@@ -29,15 +29,28 @@ shortcut-known e S = out (rw e at S)
     out : {call : Call} {h : ℕ} → ShortcutOf call (Hit h) → Shortcut call h
     out (known K) = K
 
-pub shortcut-proper : {call : Call} {x : Recalled} → x ≡ Miss → ShortcutOf call x → Proper call
+shortcut-proper : {call : Call} {x : Recalled} → x ≡ Miss → ShortcutOf call x → Proper call
 shortcut-proper e S = out (rw e at S)
   where
     out : {call : Call} → ShortcutOf call Miss → Proper call
     out (unknown K) = K
 
+-- a terminal case, as an answer and as a number
+module _ {call : Call} {level : ℕ} {s : Store} {nodes lookup : List ℕ} (A : ApplyAsks call level s nodes lookup) (cache : List ℕ) {h : ℕ} {x : Recalled} (e : x ≡ Hit h) (S : ShortcutOf call x) where
+  terminal-held : h ≤ s .count + 1
+  terminal-held = ⊎-elim (λ d. omega arith) (λ d. ⊎-elim (λ c. omega (arith, A .taken .first)) (λ c. omega (arith, A .taken .second)) d) (shortcut-known e S .one-of)
+
+  pub ran-terminal : (r : Placed) → r .store ≡ s → r .answer ≡ Handle h → Ran (of call) s nodes lookup cache r nodes lookup cache
+  ran-terminal r es ea =
+      plain-ran (of call) s nodes lookup cache (plain-handle (of call) s nodes lookup (A .taken .roomy) r h es ea terminal-held
+      (λ B H. shortcut-known e S .means B (at-0 H) (within H (call .p) (omega (arith, A .taken .first)) .ordered) (within H (call .q) (omega (arith, A .taken .second)) .ordered)))
+
+  pub coded-terminal : Ran (of call) s nodes lookup cache (placedAs (s .capacity) (s .count) h) nodes lookup cache
+  coded-terminal = ran-terminal (placedAs (s .capacity) (s .count) h) refl (coded-held h (A .taken .roomy) (A .taken .roomy .within) terminal-held)
+
 -- a call, and the same with its operands in order
 module _ {asked call : Call} (O : OrderedAs asked call) {level : ℕ} {s : Store} {nodes lookup : List ℕ} (A : ApplyAsks asked level s nodes lookup) where
-  pub ordered-asks : ApplyAsks call level s nodes lookup
+  ordered-asks : ApplyAsks call level s nodes lookup
   ordered-asks =
       let I = A .taken in
       let e = O .op-is in
@@ -58,18 +71,15 @@ module _ {asked call : Call} (O : OrderedAs asked call) {level : ℕ} {s : Store
       ran-same s nodes lookup cache
       (λ B H. sym (O .named-is B (within H (asked .p) (omega (arith, A .taken .first)) .ordered) (within H (asked .q) (omega (arith, A .taken .second)) .ordered))) R
 
-  -- a terminal case, as an answer and as a number
-  module _ (cache : List ℕ) {h : ℕ} {x : Recalled} (e : x ≡ Hit h) (S : ShortcutOf call x) where
-    terminal-held : h ≤ s .count + 1
-    terminal-held =
-        let I = ordered-asks .taken in
-        ⊎-elim (λ d. omega arith) (λ d. ⊎-elim (λ c. omega (arith, I .first)) (λ c. omega (arith, I .second)) d) (shortcut-known e S .one-of)
-
-    pub ran-terminal : (r : Placed) → r .store ≡ s → r .answer ≡ Handle h → Ran (of asked) s nodes lookup cache r nodes lookup cache
-    ran-terminal r es ea =
-        let I = ordered-asks .taken in
-        ran-ordered cache (plain-ran (of call) s nodes lookup cache (plain-handle (of call) s nodes lookup (I .roomy) r h es ea terminal-held
-        (λ B H. shortcut-known e S .means B (at-0 H) (within H (call .p) (omega (arith, I .first)) .ordered) (within H (call .q) (omega (arith, I .second)) .ordered))))
-
-    pub coded-terminal : Ran (of asked) s nodes lookup cache (placedAs (s .capacity) (s .count) h) nodes lookup cache
-    coded-terminal = ran-terminal (placedAs (s .capacity) (s .count) h) refl (coded-held h (A .taken .roomy) (A .taken .roomy .within) terminal-held)
+  -- no terminal case
+  pub ordered-step : {x : Recalled} → x ≡ Miss → ShortcutOf asked x → FamilyStepAsks call level s nodes lookup
+  ordered-step e S =
+      let P = shortcut-proper e S in
+      record {
+        asks = ordered-asks;
+        proper = record {
+          apart = λ d. ⊎-elim (λ c. P .apart (sym (c .0) ∙ d ∙ c .1)) (λ c. P .apart (sym (c .1) ∙ sym d ∙ c .0)) (O .operands);
+          first = λ d. ⊎-elim (λ c. P .first (sym (c .0) ∙ d)) (λ c. P .second (sym (c .0) ∙ d)) (O .operands);
+          second = λ d. ⊎-elim (λ c. P .second (sym (c .1) ∙ d)) (λ c. P .first (sym (c .1) ∙ d)) (O .operands);
+        };
+      }

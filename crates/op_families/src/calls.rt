@@ -37,10 +37,11 @@ fn of_families(
     if 512 < level {
         return store.refused(Refusal::Damaged);
     }
-    let call = ordered(Call { op: op, p: p, q: q });
-    if let Recalled::Hit(handle) = shortcut(call) {
+    let asked = Call { op: op, p: p, q: q };
+    if let Recalled::Hit(handle) = shortcut(asked) {
         return store.placed(handle);
     }
+    let call = ordered(asked);
     let mut held = count;
     let coded = expand(
         call.op,

@@ -88,10 +88,11 @@ fn apply(
     requires { ⌜ ApplyAsks (callOf op p q) level (storeOf capacity (now count)) (now nodes) (now lookup) ⌝ }
     ensures { λ r. ⌜ Ran (λ B. named op B p q) (storeOf capacity (now (count .entry))) (now (nodes .entry)) (now (lookup .entry)) (now (cache .entry)) (placedAs capacity (now (count .exit)) r) (now (nodes .exit)) (now (lookup .exit)) (now (cache .exit)) ⌝ }
 {
-    let call = ordered(Call { op: op, p: p, q: q });
-    if let Recalled::Hit(handle) = shortcut(call) {
+    let asked = Call { op: op, p: p, q: q };
+    if let Recalled::Hit(handle) = shortcut(asked) {
         return handle;
     }
+    let call = ordered(asked);
     expand(
         call.op,
         call.p,

@@ -9,7 +9,7 @@ use Rattle.op_cache.specs.Inner.{callOf}
 use Rattle.op_promise.specs.Promise.{operationRefusal}
 use Rattle.op_promise.proofs.Refusing.{family-number, refused-tops, done}
 use Rattle.op_families.specs.Inner.{ApplyAsks}
-use Rattle.op_families.proofs.Shortcuts.{shortcut-proper, ordered-asks, ran-ordered, ran-terminal}
+use Rattle.op_families.proofs.Shortcuts.{ran-terminal, ordered-step, ran-ordered}
 use borrow.Author.Needs.{needs}
 use Rattle.op_families.proofs.calls.of_families.Statement.{statement}
 use Rattle.op_families.proofs.calls.of_families.Tie as tie
@@ -101,9 +101,6 @@ returns-2 c =
     refused-tops _ _ _ _ _ _ (P .fits) _ (P .passed .first) (P .passed .second)
     (omega (arith, at-first .top-of .ensures, at-second .top-of2 .ensures, at-larger .larger .ensures, (c .before) .if1 .taken)) (c .refused2 .result) (c .refused2 .ensures .0)
 
-ordered-requires : tie.Need-ordered-requires
-ordered-requires c κs = search needs
-
 shortcut-requires : tie.Need-shortcut-requires
 shortcut-requires c κs = search needs
 
@@ -120,27 +117,26 @@ returns-3 : tie.Need-returns-3
 returns-3 c =
     let at-handle : tie.After-handle = search in
     let at-shortcut : tie.After-shortcut = search in
-    let at-ordered : tie.After-ordered = search in
     let at-if1 : tie.Else1 = search in
     let at-told = told-of at-if1 in
     let a = (start-of at-told) .args in
     done _ _ _ _ _ _ (passed at-told .fits) _ (none at-told)
-    (ran-terminal (at-ordered .ordered .ensures) (asks at-if1) (a .cache .now) (at-handle .handle .given .1) (at-shortcut .shortcut .ensures) (c .placed .result) (c .placed .ensures .0) (c .placed .ensures .1))
+    (ran-terminal (asks at-if1) (a .cache .now) (at-handle .handle .given .1) (at-shortcut .shortcut .ensures) (c .placed .result) (c .placed .ensures .0) (c .placed .ensures .1))
     (finished-gave (c .placed .result) (a .store .count) (a .nodes .now) (a .lookup .now) (a .cache .now) _ (c .placed .ensures .1))
 
 enum-told-2 : tie.Need-enum-told-2
 enum-told-2 c = search needs
 
+ordered-requires : tie.Need-ordered-requires
+ordered-requires c κs = search needs
+
 expand-requires : tie.Need-expand-requires
 expand-requires c κs =
+    let at-ordered : tie.After-ordered = search in
     let at-told2 : tie.After-enum-told2 = search in
     let at-shortcut : tie.After-shortcut = search in
-    let at-ordered : tie.After-ordered = search in
     let at-if1 : tie.Else1 = search in
-    record {
-      asks = ordered-asks (at-ordered .ordered .ensures) (asks at-if1);
-      proper = shortcut-proper (at-told2 .enum-told2 .given .1) (at-shortcut .shortcut .ensures);
-    }
+    ordered-step (at-ordered .ordered .ensures) (asks at-if1) (at-told2 .enum-told2 .given .1) (at-shortcut .shortcut .ensures)
 
 finish-coded-requires : tie.Need-finish-coded-requires
 finish-coded-requires c κs =
@@ -183,13 +179,13 @@ of-families-spec =
     refused-requires-2
     same-length
     returns-2
-    ordered-requires
     shortcut-requires
     enum-known-handle
     placed-requires
     same-length-2
     returns-3
     enum-told-2
+    ordered-requires
     expand-requires
     finish-coded-requires
     same-length-3

@@ -11,7 +11,7 @@ use Rattle.op_step.proofs.Steps.{node-asks, step-first, step-second, step-done}
 use Rattle.op_step.proofs.Outcomes.{ran-broken, ran-recalled}
 use Rattle.op_families.proofs.Forks.{fork-two, fork-broken}
 use Rattle.op_families.proofs.Splits.{split-families}
-use Rattle.op_families.proofs.Shortcuts.{shortcut-proper, ordered-asks, ran-ordered, coded-terminal}
+use Rattle.op_families.proofs.Shortcuts.{coded-terminal, ordered-step, ran-ordered}
 use borrow.Author.Needs.{needs}
 use borrow.Fn.Kinds.{In}
 use borrow.Fn.PlainCycle.{Measures, is, falls, and}
@@ -50,39 +50,26 @@ abbrev expand-below : ℕ → In 4 expand-kinds.ps
 expand-below t = and 4 expand-kinds.ps (falls 4 expand-kinds.ps _<_ μ-expand t) expand.Pre
 
 abbrev apply-claims : ℕ → apply-lts.Claims
-apply-claims t = (ordered-reads.Asked, ordered-reads.Learnt, shortcut-reads.Asked, shortcut-reads.Learnt, expand-below t, expand.Post)
+apply-claims t = (shortcut-reads.Asked, shortcut-reads.Learnt, ordered-reads.Asked, ordered-reads.Learnt, expand-below t, expand.Post)
 
 abbrev expand-claims : ℕ → expand-lts.Claims
 expand-claims t = (group-of-reads.Asked, group-of-reads.Learnt, recall-reads.Asked, recall-reads.Learnt, fork-at-reads.Asked, fork-at-reads.Learnt, apply-below t, apply.Post, node-of-reads.Asked, node-of-reads.Learnt, keep-reads.Asked, keep-reads.Learnt)
-
-apply-shortcut-requires : (t : ℕ) → apply-lts.Need-shortcut-requires (apply-claims t) (apply-at t) apply.Post
-apply-shortcut-requires t c κs =
-    let at-start : apply-lts.Start (apply-claims t) (apply-at t) apply.Post = search in
-    let p = at-start .pre in
-    let e = c .ordered .ensures .op-is in
-    record { some = omega (arith, p .1 .taken .operation .some); low = omega (arith, p .1 .taken .operation .low) }
 
 apply-returns : (t : ℕ) → apply-lts.Need-returns (apply-claims t) (apply-at t) apply.Post
 apply-returns t c =
     let at-handle : apply-lts.After-handle (apply-claims t) (apply-at t) apply.Post = search in
     let at-shortcut : apply-lts.After-shortcut (apply-claims t) (apply-at t) apply.Post = search in
-    let at-ordered : apply-lts.After-ordered (apply-claims t) (apply-at t) apply.Post = search in
     let at-start : apply-lts.Start (apply-claims t) (apply-at t) apply.Post = search in
-    coded-terminal (at-ordered .ordered .ensures) (at-start .pre .1) (at-start .args .cache .now) (at-handle .handle .given .1) (at-shortcut .shortcut .ensures)
+    coded-terminal (at-start .pre .1) (at-start .args .cache .now) (at-handle .handle .given .1) (at-shortcut .shortcut .ensures)
 
 apply-expand-requires : (t : ℕ) → apply-lts.Need-expand-requires (apply-claims t) (apply-at t) apply.Post
 apply-expand-requires t c κs =
+    let at-ordered : apply-lts.After-ordered (apply-claims t) (apply-at t) apply.Post = search in
     let at-enum-told : apply-lts.After-enum-told (apply-claims t) (apply-at t) apply.Post = search in
     let at-shortcut : apply-lts.After-shortcut (apply-claims t) (apply-at t) apply.Post = search in
-    let at-ordered : apply-lts.After-ordered (apply-claims t) (apply-at t) apply.Post = search in
     let at-start : apply-lts.Start (apply-claims t) (apply-at t) apply.Post = search in
-    let p = at-start .pre in (
-      omega (arith, p .0),
-      record {
-        asks = ordered-asks (at-ordered .ordered .ensures) (p .1);
-        proper = shortcut-proper (at-enum-told .enum-told .given .1) (at-shortcut .shortcut .ensures);
-      },
-    )
+    let p = at-start .pre in
+    (omega (arith, p .0), ordered-step (at-ordered .ordered .ensures) (p .1) (at-enum-told .enum-told .given .1) (at-shortcut .shortcut .ensures))
 
 apply-returns-2 : (t : ℕ) → apply-lts.Need-returns-2 (apply-claims t) (apply-at t) apply.Post
 apply-returns-2 t c =
@@ -227,10 +214,10 @@ pub +apply+expand-spec : {M : Type 1} → statement M
     (apply-at t)
     apply.Post
     (λ c κs. search needs)
-    (apply-shortcut-requires t)
     (λ c. search needs)
     (apply-returns t)
     (λ c. search needs)
+    (λ c κs. search needs)
     (apply-expand-requires t)
     (λ c. search needs)
     (λ c. search needs)
