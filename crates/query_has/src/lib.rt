@@ -33,10 +33,12 @@ fn step(nodes: &[u32], base: usize, rest: &mut [u32; 16]) -> u32
     requires { ⌜ base + 3 ≤ length (now nodes) ⌝ }
     ensures { λ r. ⌜ Stepped (now (nodes .entry)) base (itemsOf (now (rest .entry))) r (itemsOf (now (rest .exit))) ⌝ }
 {
+    let zero = nodes[base + 1];
+    let one = nodes[base + 2];
     if take_out(rest, nodes[base]) {
-        return nodes[base + 2];
+        return one;
     }
-    nodes[base + 1]
+    zero
 }
 
 // Whether the end of a way is {{}} with no item left to be met.
