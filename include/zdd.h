@@ -49,7 +49,7 @@ extern "C" {
 
 #define ZDD_LARGEST_ITEM 512u
 #define ZDD_LARGEST_CAPACITY 1000000u
-#define ZDD_STACK_BYTES 196608u /* 192 KiB */
+#define ZDD_STACK_BYTES 131072u /* 128 KiB */
 
 /* The record of a store: room for so many nodes, and so many held. */
 typedef struct {

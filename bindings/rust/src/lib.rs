@@ -30,4 +30,4 @@ pub use refusal::Refusal;
 pub use store::Store;
 
 /// So many bytes of stack below the caller are enough for any call on any words.
-pub const STACK_BYTES: usize = 196_608;
+pub const STACK_BYTES: usize = 131_072;
