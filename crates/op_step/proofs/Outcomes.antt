@@ -10,7 +10,7 @@ use Rattle.family.specs.Family.{Family}
 use Rattle.family.proofs.Placing.{place-grown}
 use Rattle.store.specs.declared.record.Store.{Store}
 use Rattle.store.specs.declared.record.Placed.{Placed}
-use Rattle.store.specs.Coded.{placedAs}
+use Rattle.store.specs.Coded.{damagedNumber, placedAs}
 use Rattle.store.specs.Inner.{Roomy, Holds, gave, Ran}
 use Rattle.store.proofs.Answers.{handle-is}
 use Rattle.store.proofs.Codes.{coded-held}
@@ -39,7 +39,7 @@ module _ (s : Store) (nodes lookup cache : List ℕ) where
       }
 
   module _ (roomy : Roomy s nodes lookup) (call : Call) where
-    pub ran-broken : ((B : List Family) → Holds B (s .count) nodes lookup → ⊥) → Ran (of call) s nodes lookup cache (placedAs (s .capacity) (s .count) 4294967295) nodes lookup cache
+    pub ran-broken : ((B : List Family) → Holds B (s .count) nodes lookup → ⊥) → Ran (of call) s nodes lookup cache (placedAs (s .capacity) (s .count) damagedNumber) nodes lookup cache
     ran-broken f = plain-ran (of call) s nodes lookup cache (plain-broken (of call) s nodes lookup roomy f)
 
     pub ran-recalled : (h : ℕ) {x : Recalled} → 1 ≤ call .op → x ≡ Hit h → RecallOf cache (s .count) call x → Ran (of call) s nodes lookup cache (placedAs (s .capacity) (s .count) h) nodes lookup cache

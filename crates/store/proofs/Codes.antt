@@ -13,26 +13,26 @@ use Rattle.store.specs.declared.record.PlaceAnswer.{PlaceAnswer}
 use Rattle.store.specs.declared.record.PlaceAnswer.the-variants.{Handle, Refused}
 use Rattle.store.specs.declared.record.Placed.{Placed}
 use Rattle.store.specs.Inner.{Roomy}
-use Rattle.store.specs.Coded.{answerOf, storeOf, placedAs}
+use Rattle.store.specs.Coded.{fullNumber, answerOf, storeOf, placedAs}
 
-pub coded-handle : (r : ℕ) → r < 4294967294 → answerOf r ≡ Handle r
+pub coded-handle : (r : ℕ) → r < fullNumber → answerOf r ≡ Handle r
 unfolding answerOf
-coded-handle r l = rw (lt-ltb r 4294967294 l)
+coded-handle r l = rw (lt-ltb r fullNumber l)
 
 -- a handle held
 pub coded-held : {s : Store} {nodes lookup : List ℕ} {n : ℕ} (h : ℕ) → Roomy s nodes lookup → n ≤ s .capacity → h ≤ n + 1 → answerOf h ≡ Handle h
 coded-held h R l m = coded-handle h (omega (arith, R .small))
 
-pub coded-full : (r : ℕ) → r ≡ 4294967294 → answerOf r ≡ Refused Full
+pub coded-full : (r : ℕ) → r ≡ fullNumber → answerOf r ≡ Refused Full
 unfolding answerOf
 coded-full r e = rw e
 
-pub coded-damaged : (r : ℕ) → 4294967294 ≤ r → (r ≡ 4294967294 → ⊥) → answerOf r ≡ Refused Damaged
+pub coded-damaged : (r : ℕ) → fullNumber ≤ r → (r ≡ fullNumber → ⊥) → answerOf r ≡ Refused Damaged
 unfolding answerOf
-coded-damaged r l n = rw (le-ltb r 4294967294 l, ne-eqb r 4294967294 n)
+coded-damaged r l n = rw (le-ltb r fullNumber l, ne-eqb r fullNumber n)
 
-pub coded-refused : (r : ℕ) → 4294967294 ≤ r → (x : Refusal) × (answerOf r ≡ Refused x)
-coded-refused r l = by-eq r 4294967294 (λ e d. (Full, coded-full r e)) (λ n d. (Damaged, coded-damaged r l n))
+pub coded-refused : (r : ℕ) → fullNumber ≤ r → (x : Refusal) × (answerOf r ≡ Refused x)
+coded-refused r l = by-eq r fullNumber (λ e d. (Full, coded-full r e)) (λ n d. (Damaged, coded-damaged r l n))
 
 -- an answer of a record, with the number that stands for it
 pub coded-placed : {capacity n : ℕ} {a : PlaceAnswer} (r : ℕ) (x : Placed) → x .store ≡ storeOf capacity n → x .answer ≡ a → answerOf r ≡ a → x ≡ placedAs capacity n r

@@ -11,7 +11,7 @@ use Rattle.family.proofs.Placing.{place-grown, place-held}
 use Rattle.store.specs.declared.record.Store.{Store}
 use Rattle.store.specs.declared.record.PlaceAnswer.the-variants.{Handle}
 use Rattle.store.specs.declared.record.Placed.{Placed}
-use Rattle.store.specs.Coded.{placedAs}
+use Rattle.store.specs.Coded.{damagedNumber, placedAs}
 use Rattle.store.specs.Inner.{Roomy, Holds, gave, Ran, RanPlain}
 use Rattle.store.proofs.Held.{held}
 use Rattle.store.proofs.Answers.{handle-is, damaged-not}
@@ -40,11 +40,11 @@ module _ (F : List Family → Family) (s : Store) (nodes lookup : List ℕ) wher
   plain-coded R h l means = plain-handle R (placedAs (s .capacity) (s .count) h) h refl (coded-held h R (R .within) l) l means
 
   -- words that hold no book
-  pub plain-broken : Roomy s nodes lookup → ((B : List Family) → Holds B (s .count) nodes lookup → ⊥) → RanPlain F s nodes lookup (placedAs (s .capacity) (s .count) 4294967295) nodes lookup
+  pub plain-broken : Roomy s nodes lookup → ((B : List Family) → Holds B (s .count) nodes lookup → ⊥) → RanPlain F s nodes lookup (placedAs (s .capacity) (s .count) damagedNumber) nodes lookup
   plain-broken R f =
       record {
         kept = kept-self s nodes lookup (R .within);
-        handle = λ h e. damaged-not h (coded-damaged 4294967295 (omega arith) (omega arith)) e;
+        handle = λ h e. damaged-not h (coded-damaged damagedNumber (omega arith) (omega arith)) e;
         sound = λ B H. absurd (f B H);
       }
 

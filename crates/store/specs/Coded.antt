@@ -8,9 +8,16 @@ use Rattle.store.specs.declared.record.PlaceAnswer.{PlaceAnswer}
 use Rattle.store.specs.declared.record.PlaceAnswer.the-variants.{Handle, Refused}
 use Rattle.store.specs.declared.record.Placed.{Placed}
 
--- what a number says: a handle, but for the two largest numbers of a word, which are full and damaged
+-- the numbers for full and damaged, the two largest of a word
+abbrev pub fullNumber : ℕ
+fullNumber = 4294967294
+
+abbrev pub damagedNumber : ℕ
+damagedNumber = 4294967295
+
+-- what a number says: full or damaged, and below them a handle
 unfoldable pub answerOf : ℕ → PlaceAnswer
-answerOf r = cond (ltb r 4294967294) (Handle r) (cond (eqb r 4294967294) (Refused Full) (Refused Damaged))
+answerOf r = cond (ltb r fullNumber) (Handle r) (cond (eqb r fullNumber) (Refused Full) (Refused Damaged))
 
 -- the record of a capacity and a count
 abbrev pub storeOf : ℕ → ℕ → Store

@@ -17,7 +17,7 @@ use Rattle.store_node.specs.declared.unique.Made.{Made}
 use Rattle.store_node.specs.declared.unique.Made.the-variants.{Found, New, Full as NoRoom, Damaged as Bad}
 use Rattle.store_node.specs.declared.unique.Making.{Making}
 use Rattle.store.specs.Words.{itemLimit}
-use Rattle.store.specs.Coded.{answerOf, storeOf, placedAs}
+use Rattle.store.specs.Coded.{fullNumber, damagedNumber, answerOf, storeOf, placedAs}
 use Rattle.store.specs.Inner.{Roomy, Holds, Handed, Outcome, gave, full, Kept}
 use Rattle.store_node.specs.Inner.{NodeAsks, MadeOf, found, new, MadeIt, NodeIt}
 use Rattle.store.proofs.Held.{at-0, within, positive-one, held}
@@ -108,9 +108,9 @@ module _ (s : Store) (nodes lookup : List ℕ) (i z o : ℕ) (A : NodeAsks s nod
         let G = rw em at (got H tz to) in
         as-node H (B ++ (node i (at B z) (at B o) ∷ [])) (add-new B (node i (at B z) (at B o)) (new-lacks G)) (gave (new-handed G)))
 
-    pub node-full : m .made ≡ NoRoom → NodeIt s nodes lookup i z o (placedAs (s .capacity) (m .store .count) 4294967294) nodes′ lookup′
+    pub node-full : m .made ≡ NoRoom → NodeIt s nodes lookup i z o (placedAs (s .capacity) (m .store .count) fullNumber) nodes′ lookup′
     node-full em =
-        let ea = coded-full 4294967294 refl in
+        let ea = coded-full fullNumber refl in
         record {
           kept = kept;
           handle = λ h d. refused-not h ea d;
@@ -120,10 +120,10 @@ module _ (s : Store) (nodes lookup : List ℕ) (i z o : ℕ) (A : NodeAsks s nod
               (full B (full-holds G) (rw length-append (omega (arith, full-lacks G .1)))));
         }
 
-    pub node-damaged : m .made ≡ Bad → NodeIt s nodes lookup i z o (placedAs (s .capacity) (m .store .count) 4294967295) nodes′ lookup′
+    pub node-damaged : m .made ≡ Bad → NodeIt s nodes lookup i z o (placedAs (s .capacity) (m .store .count) damagedNumber) nodes′ lookup′
     node-damaged em =
         record {
           kept = kept;
-          handle = λ h d. damaged-not h (coded-damaged 4294967295 (omega arith) (omega arith)) d;
+          handle = λ h d. damaged-not h (coded-damaged damagedNumber (omega arith) (omega arith)) d;
           sound = λ B H tz to. absurd (not-bad em (got H tz to));
         }
