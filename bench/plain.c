@@ -37,7 +37,9 @@ static bool holds(zdd_store s, uint32_t p) { return p < 2 || p - 2 < s.count; }
 
 static zdd_placed refused(zdd_store s, uint32_t refusal) { return (zdd_placed){s, refusal, 0}; }
 
-static void zero_groups(words cache) { memset(cache.at, 0, cache.length / 4 * 4 * sizeof *cache.at); }
+static void zero_groups(words cache) {
+    if (4 <= cache.length) memset(cache.at, 0, cache.length / 4 * 4 * sizeof *cache.at);
+}
 
 /* ---- reading nodes ---- */
 

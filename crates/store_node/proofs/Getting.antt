@@ -18,7 +18,7 @@ use Rattle.store_node.specs.declared.unique.Made.the-variants.{Found, Ne
 use Rattle.store_node.specs.declared.unique.Making.{Making}
 use Rattle.store.specs.Words.{itemLimit}
 use Rattle.store.specs.Coded.{fullNumber, damagedNumber, answerOf, storeOf, placedAs}
-use Rattle.store.specs.Inner.{Roomy, Holds, Handed, Outcome, gave, full, Kept}
+use Rattle.store.specs.Inner.{Holds, Handed, Outcome, gave, full, Kept}
 use Rattle.store_node.specs.Inner.{NodeAsks, MadeOf, found, new, MadeIt, NodeIt}
 use Rattle.store.proofs.Held.{at-0, within, positive-one, held}
 use Rattle.store.proofs.Growing.{kept-self}
