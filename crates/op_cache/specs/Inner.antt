@@ -1,5 +1,4 @@
--- What recalling, remembering and a call that leaves the cache alone promise. A reader of the public promises can
--- pass this page over.
+-- What recalling and remembering promise. A reader of the public promises can pass this page over.
 use Prim.Native.Nat.{ℕ, _+_, _*_, _/_, _≤_}
 use mathlib.Core.Path.{_≡_}
 use mathlib.Core.List.{List}

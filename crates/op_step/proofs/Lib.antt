@@ -1,4 +1,4 @@
 -- The laws of the recursions, lowest first.
-pub mod Joining
+pub mod Keeping
 pub mod Steps
 pub mod Outcomes

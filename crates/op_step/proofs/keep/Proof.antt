@@ -1,7 +1,7 @@
 -- `keep` remembers a handle, and nothing of a refusal.
 -- The number says which of them it is.
 use Rattle.store.proofs.Codes.{coded-handle, coded-refused}
-use Rattle.op_step.proofs.Joining.{remembered-gave, remembered-refused}
+use Rattle.op_step.proofs.Keeping.{remembered-gave, remembered-refused}
 use borrow.Author.Needs.{needs}
 use Rattle.op_step.proofs.keep.Statement.{statement}
 use Rattle.op_step.proofs.keep.Tie as tie
