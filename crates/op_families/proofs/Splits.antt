@@ -6,6 +6,7 @@ use mathlib.Core.List.{List}
 use native.Mathlib.Omega.{arith}
 use Rattle.family.specs.Family.{top}
 use Rattle.family.specs.Book.{at}
+use Rattle.store.specs.Words.{itemLimit}
 use Rattle.op_cache.specs.declared.Call.{Call}
 use Rattle.op_families.specs.Inner.{Forked}
 use Rattle.store.proofs.Naming.{named-families, families-step, families-within}
@@ -13,8 +14,9 @@ use Rattle.store.specs.declared.record.Store.{Store}
 use Rattle.op_families.specs.Inner.{FamilyCall, ApplyAsks}
 use Rattle.op_step.proofs.Steps.{of, Taken, Split}
 use Rattle.store.proofs.Held.{low-at}
+use Rattle.store_sides.proofs.Splitting.{low-now}
 
-module _ {call : Call} {level : ℕ} {s : Store} {nodes lookup : List ℕ} (A : ApplyAsks call level s nodes lookup) where
+module _ {call : Call} {limit : ℕ} {s : Store} {nodes lookup : List ℕ} (A : ApplyAsks call limit s nodes lookup) where
   I : FamilyCall call s nodes lookup
   I = A .taken
 
@@ -24,22 +26,26 @@ module _ {call : Call} {level : ℕ} {s : Store} {nodes lookup : List ℕ} (A : 
   pub taken-families : Taken call (s .count)
   taken-families = record { operation = (omega arith, omega arith); first = omega arith; second = (λ k. absurd (omega arith), λ k. omega arith) }
 
-  pub split-families : {p₀ q₀ top₀ p₁ q₁ top₁ : ℕ} → Forked nodes (s .count) call level p₀ q₀ top₀ p₁ q₁ top₁
+  -- the level is an item
+  pub level-item : {level p₀ q₀ p₁ q₁ : ℕ} → Forked nodes (s .count) call limit level p₀ q₀ p₁ q₁ → (1 ≤ level) × (level ≤ itemLimit)
+  level-item K = (omega (arith, K .some), omega (arith, K .lower, A .limit-low))
+
+  pub split-families : {level p₀ q₀ p₁ q₁ : ℕ} → Forked nodes (s .count) call limit level p₀ q₀ p₁ q₁
       → Split call (record { op = call .op; p = p₀; q = q₀ }) (record { op = call .op; p = p₁; q = q₁ }) level (s .count) nodes lookup
-  split-families {p₀} {q₀} {top₀} {p₁} {q₁} {top₁} K =
+  split-families {level} {p₀} {q₀} {p₁} {q₁} K =
       record {
         taken = taken-families;
         other = record { operation = (omega arith, omega arith); first = omega (arith, K .first .one-within); second = (λ k. absurd (omega arith), λ k. omega (arith, K .second .one-within)) };
         is = λ B H.
             named-families (call .op) B (call .p) (call .q) l
-            ∙ families-step (call .op) level (at B (call .p)) (at B (call .q)) (low-at H (call .p) level (I .first) (omega (arith, A .level-is))) (low-at H (call .q) level (I .second) (omega (arith, A .level-is))) (K .some)
+            ∙ families-step (call .op) level (at B (call .p)) (at B (call .q)) (low-at H (call .p) level (I .first) (omega (arith, K .level-is))) (low-at H (call .q) level (I .second) (omega (arith, K .level-is))) (K .some)
             ∙ rw (← K .first .lacks B lookup H, ← K .first .holds B lookup H, ← K .second .lacks B lookup H, ← K .second .holds B lookup H, named-families (call .op) B p₀ q₀ l, named-families (call .op) B p₁ q₁ l);
         low = λ B H.
-            let w = families-within (call .op) (at B p₀) (at B q₀) (low-at H p₀ (level - 1) (K .first .zero-within) (omega (arith, K .first .zero-below, K .first .ztop)))
-            (low-at H q₀ (level - 1) (K .second .zero-within) (omega (arith, K .second .zero-below, K .second .ztop))) in
+            let w = families-within (call .op) (at B p₀) (at B q₀) (low-at H p₀ (level - 1) (K .first .zero-within) (omega (arith, low-now (K .first .zero-low) H)))
+            (low-at H q₀ (level - 1) (K .second .zero-within) (omega (arith, low-now (K .second .zero-low) H))) in
             omega (arith, ap top (named-families (call .op) B p₀ q₀ l), w .low, K .some);
         high = λ B H.
-            let w = families-within (call .op) (at B p₁) (at B q₁) (low-at H p₁ (level - 1) (K .first .one-within) (omega (arith, K .first .one-below, K .first .otop)))
-            (low-at H q₁ (level - 1) (K .second .one-within) (omega (arith, K .second .one-below, K .second .otop))) in
+            let w = families-within (call .op) (at B p₁) (at B q₁) (low-at H p₁ (level - 1) (K .first .one-within) (omega (arith, low-now (K .first .one-low) H)))
+            (low-at H q₁ (level - 1) (K .second .one-within) (omega (arith, low-now (K .second .one-low) H))) in
             omega (arith, ap top (named-families (call .op) B p₁ q₁ l), w .low, K .some);
       }

@@ -7,7 +7,7 @@ use Rattle.family.specs.Family.{Family}
 use Rattle.store.specs.declared.record.Store.{Store}
 use Rattle.store.specs.Words.{itemLimit, topAt}
 use Rattle.store.specs.Inner.{Roomy, Holds}
-use Rattle.store_sides.specs.Inner.{TwoSides}
+use Rattle.store_sides.specs.Inner.{Low, Halves}
 use Rattle.op_cache.specs.declared.Call.{Call}
 use Rattle.op_terminal.specs.Inner.{FamilyOperation, Proper}
 use Rattle.op_families.specs.declared.recursion.Fork.{Fork}
@@ -20,39 +20,37 @@ pub record FamilyCall (call : Call) (s : Store) (nodes lookup : List ℕ) : Type
   pub first : call .p ≤ s .count + 1
   pub second : call .q ≤ s .count + 1
 
--- a call with the larger of the two tops
-pub record ApplyAsks (call : Call) (level : ℕ) (s : Store) (nodes lookup : List ℕ) : Type 0 where
+-- a call with a limit that no sound store's tops of its operands reach
+pub record ApplyAsks (call : Call) (limit : ℕ) (s : Store) (nodes lookup : List ℕ) : Type 0 where
   pub taken : FamilyCall call s nodes lookup
-  pub level-is : level ≡ max (topAt nodes (call .p)) (topAt nodes (call .q))
-  pub level-low : level ≤ itemLimit
+  pub first-low : Low nodes (s .count) limit (call .p)
+  pub second-low : Low nodes (s .count) limit (call .q)
+  pub limit-low : limit ≤ itemLimit + 1
 
 -- a call that is no terminal case
-pub record FamilyStepAsks (call : Call) (level : ℕ) (s : Store) (nodes lookup : List ℕ) : Type 0 where
-  pub asks : ApplyAsks call level s nodes lookup
+pub record FamilyStepAsks (call : Call) (limit : ℕ) (s : Store) (nodes lookup : List ℕ) : Type 0 where
+  pub asks : ApplyAsks call limit s nodes lookup
   pub proper : Proper call
 
--- the words of two handles that are no terminal case, and the larger of their tops
-pub record ForkAsks (nodes : List ℕ) (n : ℕ) (call : Call) (level : ℕ) : Type 0 where
+-- the words of two handles that are no terminal case, and the limit
+pub record ForkAsks (nodes : List ℕ) (n : ℕ) (call : Call) (limit : ℕ) : Type 0 where
   pub first : call .p ≤ n + 1
   pub second : call .q ≤ n + 1
   pub words : 3 * n ≤ length nodes
   pub small : n ≤ 1000000
-  pub level-is : level ≡ max (topAt nodes (call .p)) (topAt nodes (call .q))
+  pub first-low : Low nodes n limit (call .p)
+  pub second-low : Low nodes n limit (call .q)
   pub proper : Proper call
 
--- the sides of both operands at their level, with the larger tops of the two calls
-pub record Forked (nodes : List ℕ) (n : ℕ) (call : Call) (level p₀ q₀ top₀ p₁ q₁ top₁ : ℕ) : Type 0 where
+-- the level, which is the larger of the two tops and below the limit, and the sides of both operands at it
+pub record Forked (nodes : List ℕ) (n : ℕ) (call : Call) (limit level p₀ q₀ p₁ q₁ : ℕ) : Type 0 where
   pub some : 0 < level
-  pub a₀ : ℕ
-  pub a₁ : ℕ
-  pub b₀ : ℕ
-  pub b₁ : ℕ
-  pub first : TwoSides nodes n (call .p) level p₀ p₁ a₀ a₁
-  pub second : TwoSides nodes n (call .q) level q₀ q₁ b₀ b₁
-  pub top₀-is : top₀ ≡ max a₀ b₀
-  pub top₁-is : top₁ ≡ max a₁ b₁
+  pub lower : level < limit
+  pub level-is : level ≡ max (topAt nodes (call .p)) (topAt nodes (call .q))
+  pub first : Halves nodes n (call .p) level p₀ p₁
+  pub second : Halves nodes n (call .q) level q₀ q₁
 
 -- the two sides of both operands, or words that no sound store has
-pub data ForkOf (nodes : List ℕ) (n : ℕ) (call : Call) (level : ℕ) : Fork → Type 0 where
-  two : {p₀ q₀ top₀ p₁ q₁ top₁ : ℕ} → Forked nodes n call level p₀ q₀ top₀ p₁ q₁ top₁ → ForkOf nodes n call level (Two p₀ q₀ top₀ p₁ q₁ top₁)
-  broken : ((B : List Family) (lookup : List ℕ) → Holds B n nodes lookup → ⊥) → ForkOf nodes n call level Broken
+pub data ForkOf (nodes : List ℕ) (n : ℕ) (call : Call) (limit : ℕ) : Fork → Type 0 where
+  two : {level p₀ q₀ p₁ q₁ : ℕ} → Forked nodes n call limit level p₀ q₀ p₁ q₁ → ForkOf nodes n call limit (Two level p₀ q₀ p₁ q₁)
+  broken : ((B : List Family) (lookup : List ℕ) → Holds B n nodes lookup → ⊥) → ForkOf nodes n call limit Broken

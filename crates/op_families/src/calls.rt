@@ -2,17 +2,14 @@
 ghost use Rattle.op_terminal.specs.Inner.{FamilyOperation};
 ghost use Rattle.op_promise.specs.Promise.{OperationCall};
 use crate::recursion::expand;
-use crate::recursion::larger;
 use op_cache::Call;
 use op_cache::Recalled;
 use op_terminal::families::ordered;
 use op_terminal::families::shortcut;
 use store::record::Placed;
-use store::record::Refusal;
 use store::record::Store;
 use store::tests::Test;
 use store::tests::tested;
-use store_sides::top_of;
 use store_undo::finish_coded;
 
 // An operation on two families.
@@ -32,22 +29,17 @@ fn of_families(
     if let Test::Refuses(refusal) = found {
         return store.refused(refusal);
     }
-    let count = store.count;
-    let level = larger(top_of(nodes, count, p), top_of(nodes, count, q));
-    if 512 < level {
-        return store.refused(Refusal::Damaged);
-    }
     let asked = Call { op: op, p: p, q: q };
     if let Recalled::Hit(handle) = shortcut(asked) {
         return store.placed(handle);
     }
     let call = ordered(asked);
-    let mut held = count;
+    let mut held = store.count;
     let coded = expand(
         call.op,
         call.p,
         call.q,
-        level,
+        513,
         store.capacity,
         &mut held,
         nodes,

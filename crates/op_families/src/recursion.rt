@@ -1,4 +1,5 @@
-// Union (4), Intsec (5) and Diff (6): the recursion on the two sides; the larger top item falls at each call.
+// Union (4), Intsec (5) and Diff (6): the recursion on the two sides; the larger top item falls at each call. The tops
+// are read only where neither a terminal case nor the cache answers.
 ghost use mathlib.Core.Path.{_≡_};
 ghost use Prim.Native.Nat.{max};
 ghost use Rattle.op_cache.specs.Inner.{callOf};
@@ -16,8 +17,9 @@ use op_terminal::families::shortcut;
 use store::coded::DAMAGED;
 use store::coded::FULL;
 use store_node::getnode::node_of;
-use store_sides::Sides;
-use store_sides::sides_at;
+use store_sides::Cofactors;
+use store_sides::cofactors_at;
+use store_sides::top_of;
 
 // The larger number.
 pub fn larger(a: u32, b: u32) -> u32
@@ -26,66 +28,62 @@ pub fn larger(a: u32, b: u32) -> u32
     if a < b { b } else { a }
 }
 
-// The two calls on the sides, each with its larger top, which is below the level; or words that no sound store has.
+// The larger top of two families with the sides of both at it; or words that no sound store has.
 pub enum Fork {
     Two {
+        level: u32,
         p0: u32,
         q0: u32,
-        top0: u32,
         p1: u32,
         q1: u32,
-        top1: u32,
     },
     Broken,
 }
 
-// The sides of both operands at their larger top.
-fn fork_at(nodes: &[u32], count: u32, call: Call, level: u32) -> Fork
-    requires { ⌜ ForkAsks (now nodes) count call level ⌝ }
-    ensures { λ r. ⌜ ForkOf (now (nodes .entry)) count call level r ⌝ }
+// The sides of both operands at their larger top, an item below the limit.
+fn fork_at(nodes: &[u32], count: u32, call: Call, limit: u32) -> Fork
+    requires { ⌜ ForkAsks (now nodes) count call limit ⌝ }
+    ensures { λ r. ⌜ ForkOf (now (nodes .entry)) count call limit r ⌝ }
 {
+    let ptop = top_of(nodes, count, call.p);
+    let qtop = top_of(nodes, count, call.q);
+    let level = larger(ptop, qtop);
     if level == 0 {
         return Fork::Broken;
     }
-    match sides_at(nodes, count, call.p, level) {
-        Sides::Broken => Fork::Broken,
-        Sides::Two {
-            zero: p0,
-            one: p1,
-            ztop: a0,
-            otop: a1,
-        } => match sides_at(nodes, count, call.q, level) {
-            Sides::Broken => Fork::Broken,
-            Sides::Two {
-                zero: q0,
-                one: q1,
-                ztop: b0,
-                otop: b1,
-            } => Fork::Two {
-                p0: p0,
-                q0: q0,
-                top0: larger(a0, b0),
-                p1: p1,
-                q1: q1,
-                top1: larger(a1, b1),
-            },
-        },
+    if limit <= level {
+        return Fork::Broken;
+    }
+    let Cofactors::Two { zero: p0, one: p1 } = cofactors_at(nodes, count, call.p, ptop, level)
+    else {
+        return Fork::Broken;
+    };
+    let Cofactors::Two { zero: q0, one: q1 } = cofactors_at(nodes, count, call.q, qtop, level)
+    else {
+        return Fork::Broken;
+    };
+    Fork::Two {
+        level: level,
+        p0: p0,
+        q0: q0,
+        p1: p1,
+        q1: q1,
     }
 }
 
-// The operation on two families whose larger top is the level: terminal cases at once, else by the two sides.
+// The operation on two families whose tops are below the limit: terminal cases at once, else by the two sides.
 fn apply(
     op: u32,
     p: u32,
     q: u32,
-    level: u32,
+    limit: u32,
     capacity: u32,
     count: &mut u32,
     nodes: &mut [u32],
     lookup: &mut [u32],
     cache: &mut [u32],
 ) -> u32
-    requires { ⌜ ApplyAsks (callOf op p q) level (storeOf capacity (now count)) (now nodes) (now lookup) ⌝ }
+    requires { ⌜ ApplyAsks (callOf op p q) limit (storeOf capacity (now count)) (now nodes) (now lookup) ⌝ }
     ensures { λ r. ⌜ Ran (λ B. named op B p q) (storeOf capacity (now (count .entry))) (now (nodes .entry)) (now (lookup .entry)) (now (cache .entry)) (placedAs capacity (now (count .exit)) r) (now (nodes .exit)) (now (lookup .exit)) (now (cache .exit)) ⌝ }
 {
     let asked = Call { op: op, p: p, q: q };
@@ -97,7 +95,7 @@ fn apply(
         call.op,
         call.p,
         call.q,
-        level,
+        limit,
         capacity,
         count,
         nodes,
@@ -111,14 +109,14 @@ pub fn expand(
     op: u32,
     p: u32,
     q: u32,
-    level: u32,
+    limit: u32,
     capacity: u32,
     count: &mut u32,
     nodes: &mut [u32],
     lookup: &mut [u32],
     cache: &mut [u32],
 ) -> u32
-    requires { ⌜ FamilyStepAsks (callOf op p q) level (storeOf capacity (now count)) (now nodes) (now lookup) ⌝ }
+    requires { ⌜ FamilyStepAsks (callOf op p q) limit (storeOf capacity (now count)) (now nodes) (now lookup) ⌝ }
     ensures { λ r. ⌜ Ran (λ B. named op B p q) (storeOf capacity (now (count .entry))) (now (nodes .entry)) (now (lookup .entry)) (now (cache .entry)) (placedAs capacity (now (count .exit)) r) (now (nodes .exit)) (now (lookup .exit)) (now (cache .exit)) ⌝ }
 {
     let call = Call { op: op, p: p, q: q };
@@ -127,21 +125,20 @@ pub fn expand(
         return handle;
     }
     let Fork::Two {
+        level,
         p0,
         q0,
-        top0,
         p1,
         q1,
-        top1,
-    } = fork_at(nodes, *count, call, level)
+    } = fork_at(nodes, *count, call, limit)
     else {
         return DAMAGED;
     };
-    let zero = apply(op, p0, q0, top0, capacity, count, nodes, lookup, cache);
+    let zero = apply(op, p0, q0, level, capacity, count, nodes, lookup, cache);
     if FULL <= zero {
         return zero;
     }
-    let one = apply(op, p1, q1, top1, capacity, count, nodes, lookup, cache);
+    let one = apply(op, p1, q1, level, capacity, count, nodes, lookup, cache);
     if FULL <= one {
         return one;
     }

@@ -8,7 +8,7 @@ use native.Mathlib.Omega.{arith}
 use Rattle.words.proofs.Cases.{by-lt}
 use Rattle.store.specs.declared.record.Store.{Store}
 use Rattle.store.specs.Words.{topAt}
-use Rattle.store.specs.Inner.{Roomy, Kept}
+use Rattle.store.specs.Inner.{Roomy, Kept, Added}
 use Rattle.store.proofs.Held.{top-leaf, top-node}
 
 pub kept-self : (s : Store) (nodes lookup : List ℕ) → s .count ≤ s .capacity → Kept s nodes lookup s nodes lookup
@@ -37,8 +37,21 @@ kept-roomy K R =
       longer = omega (arith, R .longer, K .same-capacity, K .long-lookup);
     }
 
-pub kept-top : {s s₁ : Store} {nodes lookup nodes₁ lookup₁ : List ℕ} → Kept s nodes lookup s₁ nodes₁ lookup₁ → (p : ℕ) → p ≤ s .count + 1 → topAt nodes₁ p ≡ topAt nodes p
-kept-top {s} {s₁} {nodes} {lookup} {nodes₁} K p h =
+-- nodes that may have been added
+pub kept-added : {s s₁ : Store} {nodes lookup nodes₁ lookup₁ : List ℕ} → Kept s nodes lookup s₁ nodes₁ lookup₁ → Added (s .count) nodes (s₁ .count) nodes₁
+kept-added K = record { grows = K .grows; below = K .below }
+
+pub added-self : (n : ℕ) (nodes : List ℕ) → Added n nodes n nodes
+added-self n nodes = record { grows = omega arith; below = λ k l. refl }
+
+pub added-trans : {n n₁ n₂ : ℕ} {nodes nodes₁ nodes₂ : List ℕ} → Added n nodes n₁ nodes₁ → Added n₁ nodes₁ n₂ nodes₂ → Added n nodes n₂ nodes₂
+added-trans K L = record { grows = omega (arith, K .grows, L .grows); below = λ k l. L .below k (omega (arith, K .grows)) ∙ K .below k l }
+
+pub added-top : {n n₁ : ℕ} {nodes nodes₁ : List ℕ} → Added n nodes n₁ nodes₁ → (p : ℕ) → p ≤ n + 1 → topAt nodes₁ p ≡ topAt nodes p
+added-top {nodes = nodes} {nodes₁} K p h =
     by-lt p 2
     (λ l e. top-leaf nodes₁ p l ∙ sym (top-leaf nodes p l))
     (λ l e. top-node nodes₁ p l ∙ K .below (3 * (p - 2)) (omega arith) ∙ sym (top-node nodes p l))
+
+pub kept-top : {s s₁ : Store} {nodes lookup nodes₁ lookup₁ : List ℕ} → Kept s nodes lookup s₁ nodes₁ lookup₁ → (p : ℕ) → p ≤ s .count + 1 → topAt nodes₁ p ≡ topAt nodes p
+kept-top K p h = added-top (kept-added K) p h

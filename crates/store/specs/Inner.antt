@@ -57,6 +57,11 @@ pub record Kept (s : Store) (nodes lookup : List ℕ) (s′ : Store) (nodes′ l
   pub below : (k : ℕ) → k < 3 * s .count → getD nodes′ k 0 ≡ getD nodes k 0
   pub above : (k : ℕ) → 3 * s′ .count ≤ k → getD nodes′ k 0 ≡ getD nodes k 0
 
+-- words to which nodes may have been added
+pub record Added (n : ℕ) (nodes : List ℕ) (n′ : ℕ) (nodes′ : List ℕ) : Type 0 where
+  pub grows : n ≤ n′
+  pub below : (k : ℕ) → k < 3 * n → getD nodes′ k 0 ≡ getD nodes k 0
+
 -- a handle of so many nodes, and their words
 pub record HandleAsks (nodes : List ℕ) (n p : ℕ) : Type 0 where
   pub held : p ≤ n + 1

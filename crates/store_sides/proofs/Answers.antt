@@ -4,10 +4,24 @@ use Prim.Native.Nat.{ℕ}
 use mathlib.Core.Path.{_≡_}
 use mathlib.Core.List.{List}
 use Rattle.family.specs.Family.{Family}
+use Rattle.store_sides.specs.declared.Cofactors.{Cofactors}
+use Rattle.store_sides.specs.declared.Cofactors.the-variants.{Two as TwoCofactors, Broken as NoCofactors}
 use Rattle.store_sides.specs.declared.Sides.{Sides}
 use Rattle.store_sides.specs.declared.Sides.the-variants.{Two, Broken}
 use Rattle.store.specs.Inner.{Holds}
-use Rattle.store_sides.specs.Inner.{TwoSides, SidesOf, two, broken}
+use Rattle.store_sides.specs.Inner.{Halves, CofactorsOf, halves, none, TwoSides, SidesOf, two, broken}
+
+pub halves-two : {nodes : List ℕ} {n p level z o : ℕ} {x : Cofactors} → x ≡ TwoCofactors z o → CofactorsOf nodes n p level x → Halves nodes n p level z o
+halves-two e S = out (rw e at S)
+  where
+    out : {nodes : List ℕ} {n p level z o : ℕ} → CofactorsOf nodes n p level (TwoCofactors z o) → Halves nodes n p level z o
+    out (halves T) = T
+
+pub halves-none : {nodes : List ℕ} {n p level : ℕ} {x : Cofactors} → x ≡ NoCofactors → CofactorsOf nodes n p level x → (B : List Family) (lookup : List ℕ) → Holds B n nodes lookup → ⊥
+halves-none e S = out (rw e at S)
+  where
+    out : {nodes : List ℕ} {n p level : ℕ} → CofactorsOf nodes n p level NoCofactors → (B : List Family) (lookup : List ℕ) → Holds B n nodes lookup → ⊥
+    out (none f) = f
 
 pub sides-two : {nodes : List ℕ} {n p level z o zt ot : ℕ} {x : Sides} → x ≡ Two z o zt ot → SidesOf nodes n p level x → TwoSides nodes n p level z o zt ot
 sides-two e S = out (rw e at S)

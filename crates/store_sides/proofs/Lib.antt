@@ -1,3 +1,3 @@
 -- The laws of the two sides.
-pub mod Cofactors
+pub mod Splitting
 pub mod Answers

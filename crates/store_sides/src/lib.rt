@@ -2,7 +2,7 @@
 ghost use mathlib.Core.Path.{_≡_};
 ghost use Prim.Native.Nat.{_+_, _*_, _<_};
 ghost use Rattle.store.specs.Words.{topAt};
-ghost use Rattle.store_sides.specs.Inner.{TopAsks, SidesAsks, SidesOf};
+ghost use Rattle.store_sides.specs.Inner.{TopAsks, CofactorsAsks, CofactorsOf, SidesAsks, SidesOf};
 
 // The top of a handle: 0 for the handles 0 and 1.
 pub fn top_of(nodes: &[u32], count: u32, p: u32) -> u32
@@ -15,7 +15,36 @@ pub fn top_of(nodes: &[u32], count: u32, p: u32) -> u32
     nodes[3 * (p - 2) as usize]
 }
 
-// The two sides of a family at an item, with their tops; or words that no sound store has.
+// The two sides of a family at an item; or words that no sound store has.
+pub enum Cofactors {
+    Two { zero: u32, one: u32 },
+    Broken,
+}
+
+// The sides of p at a level that is not below its top: its children where the level is its top, else p itself and {}.
+pub fn cofactors_at(nodes: &[u32], count: u32, p: u32, top: u32, level: u32) -> Cofactors
+    requires { ⌜ CofactorsAsks (now nodes) count p top level ⌝ }
+    ensures { λ r. ⌜ CofactorsOf (now (nodes .entry)) count p level r ⌝ }
+{
+    if top < level {
+        return Cofactors::Two { zero: p, one: 0 };
+    }
+    let base = 3 * (p - 2) as usize;
+    let zero = nodes[base + 1];
+    let one = nodes[base + 2];
+    if count + 1 < zero {
+        return Cofactors::Broken;
+    }
+    if count + 1 < one {
+        return Cofactors::Broken;
+    }
+    Cofactors::Two {
+        zero: zero,
+        one: one,
+    }
+}
+
+// The two sides with their tops, which are below the item; or words that no sound store has.
 pub enum Sides {
     Two {
         zero: u32,
@@ -26,29 +55,15 @@ pub enum Sides {
     Broken,
 }
 
-// The sides of p at a level that is not below its top: its children where the level is its top, else p itself and {}.
+// The sides of p at a level that is not below its top, with their tops.
 pub fn sides_at(nodes: &[u32], count: u32, p: u32, level: u32) -> Sides
     requires { ⌜ SidesAsks (now nodes) count p level ⌝ }
     ensures { λ r. ⌜ SidesOf (now (nodes .entry)) count p level r ⌝ }
 {
     let top = top_of(nodes, count, p);
-    if top < level {
-        return Sides::Two {
-            zero: p,
-            one: 0,
-            ztop: top,
-            otop: 0,
-        };
-    }
-    let base = 3 * (p - 2) as usize;
-    let zero = nodes[base + 1];
-    let one = nodes[base + 2];
-    if count + 1 < zero {
+    let Cofactors::Two { zero, one } = cofactors_at(nodes, count, p, top, level) else {
         return Sides::Broken;
-    }
-    if count + 1 < one {
-        return Sides::Broken;
-    }
+    };
     let ztop = top_of(nodes, count, zero);
     if level <= ztop {
         return Sides::Broken;

@@ -2,12 +2,15 @@
 -- Each way out is one law of refusing, or of a call that ran to its end.
 use mathlib.Core.Path.{_≡_, sym, _∙_}
 use native.Mathlib.Omega.{arith}
+use Prim.Native.Nat.{_+_}
+use Rattle.store.specs.Words.{itemLimit}
 use Rattle.store.proofs.Growing.{kept-roomy}
 use Rattle.store.proofs.Testing.{Tested, tested-clear, placing-refused}
 use Rattle.store_undo.proofs.Finishing.{finished-gave}
+use Rattle.store_sides.proofs.Splitting.{low-limit}
 use Rattle.op_cache.specs.Inner.{callOf}
 use Rattle.op_promise.specs.Promise.{operationRefusal}
-use Rattle.op_promise.proofs.Refusing.{family-number, refused-tops, done}
+use Rattle.op_promise.proofs.Refusing.{family-number, done}
 use Rattle.op_families.specs.Inner.{ApplyAsks}
 use Rattle.op_families.proofs.Shortcuts.{ran-terminal, ordered-step, ran-ordered}
 use borrow.Author.Needs.{needs}
@@ -30,22 +33,14 @@ none c =
     let a = (start-of c) .args in
     family-number (a .op) (a .store .count) (a .p) (a .q) ((start-of c) .pre .some) ∙ passed c .number-is
 
--- the level is known to be low
-abbrev told-of : tie.Else1 → tie.After-enum-told
-told-of c = search
-
-abbrev larger-of : tie.Else1 → tie.After-larger
-larger-of c = search
-
-asks : (c : tie.Else1) → let a = (start-of (told-of c)) .args in ApplyAsks (callOf (a .op) (a .p) (a .q)) ((larger-of c) .larger .result) (a .store) (a .nodes .now) (a .lookup .now)
+asks : (c : tie.After-enum-told) → let a = (start-of c) .args in ApplyAsks (callOf (a .op) (a .p) (a .q)) (itemLimit + 1) (a .store) (a .nodes .now) (a .lookup .now)
 asks c =
-    let at-second : tie.After-top-of2 = search in
-    let at-first : tie.After-top-of = search in
-    let P = passed (told-of c) in
+    let P = passed c in
     record {
-      taken = record { roomy = P .roomy; operation = (start-of (told-of c)) .pre; first = P .passed .first; second = P .passed .second };
-      level-is = omega (arith, at-first .top-of .ensures, at-second .top-of2 .ensures, (larger-of c) .larger .ensures);
-      level-low = omega (arith, c .if1 .left);
+      taken = record { roomy = P .roomy; operation = (start-of c) .pre; first = P .passed .first; second = P .passed .second };
+      first-low = low-limit (P .passed .first);
+      second-low = low-limit (P .passed .second);
+      limit-low = omega arith;
     }
 
 tested-requires : tie.Need-tested-requires
@@ -70,37 +65,6 @@ returns c =
 enum-told : tie.Need-enum-told
 enum-told c = search needs
 
-top-of-requires : tie.Need-top-of-requires
-top-of-requires c κs =
-    let at-told : tie.After-enum-told = search in
-    let P = passed at-told in
-    record { held = P .passed .first; words = omega (arith, P .roomy .within, P .roomy .words) }
-
-top-of-requires-2 : tie.Need-top-of-requires-2
-top-of-requires-2 c κs =
-    let at-told : tie.After-enum-told = search in
-    let P = passed at-told in
-    record { held = P .passed .second; words = omega (arith, P .roomy .within, P .roomy .words) }
-
-larger-requires : tie.Need-larger-requires
-larger-requires c κs = search needs
-
-refused-requires-2 : tie.Need-refused-requires-2
-refused-requires-2 c κs = search needs
-
-same-length : tie.Need-same-length
-same-length c = search needs
-
-returns-2 : tie.Need-returns-2
-returns-2 c =
-    let at-larger : tie.After-larger = search in
-    let at-second : tie.After-top-of2 = search in
-    let at-first : tie.After-top-of = search in
-    let at-told : tie.After-enum-told = search in
-    let P = passed at-told in
-    refused-tops _ _ _ _ _ _ (P .fits) _ (P .passed .first) (P .passed .second)
-    (omega (arith, at-first .top-of .ensures, at-second .top-of2 .ensures, at-larger .larger .ensures, (c .before) .if1 .taken)) (c .refused2 .result) (c .refused2 .ensures .0)
-
 shortcut-requires : tie.Need-shortcut-requires
 shortcut-requires c κs = search needs
 
@@ -110,18 +74,14 @@ enum-known-handle c = search needs
 placed-requires : tie.Need-placed-requires
 placed-requires c κs = search needs
 
-same-length-2 : tie.Need-same-length-2
-same-length-2 c = search needs
-
-returns-3 : tie.Need-returns-3
-returns-3 c =
+returns-2 : tie.Need-returns-2
+returns-2 c =
     let at-handle : tie.After-handle = search in
     let at-shortcut : tie.After-shortcut = search in
-    let at-if1 : tie.Else1 = search in
-    let at-told = told-of at-if1 in
+    let at-told : tie.After-enum-told = search in
     let a = (start-of at-told) .args in
     done _ _ _ _ _ _ (passed at-told .fits) _ (none at-told)
-    (ran-terminal (asks at-if1) (a .cache .now) (at-handle .handle .given .1) (at-shortcut .shortcut .ensures) (c .placed .result) (c .placed .ensures .0) (c .placed .ensures .1))
+    (ran-terminal (asks at-told) (a .cache .now) (at-handle .handle .given .1) (at-shortcut .shortcut .ensures) (c .placed .result) (c .placed .ensures .0) (c .placed .ensures .1))
     (finished-gave (c .placed .result) (a .store .count) (a .nodes .now) (a .lookup .now) (a .cache .now) _ (c .placed .ensures .1))
 
 enum-told-2 : tie.Need-enum-told-2
@@ -135,34 +95,33 @@ expand-requires c κs =
     let at-ordered : tie.After-ordered = search in
     let at-told2 : tie.After-enum-told2 = search in
     let at-shortcut : tie.After-shortcut = search in
-    let at-if1 : tie.Else1 = search in
-    ordered-step (at-ordered .ordered .ensures) (asks at-if1) (at-told2 .enum-told2 .given .1) (at-shortcut .shortcut .ensures)
+    let at-told : tie.After-enum-told = search in
+    ordered-step (at-ordered .ordered .ensures) (asks at-told) (at-told2 .enum-told2 .given .1) (at-shortcut .shortcut .ensures)
 
 finish-coded-requires : tie.Need-finish-coded-requires
 finish-coded-requires c κs =
     let at-expand : tie.After-expand = search in
-    let at-if1 : tie.Else1 = search in
+    let at-told : tie.After-enum-told = search in
     let K = at-expand .expand .ensures .kept in
-    record { roomy = kept-roomy K (asks at-if1 .taken .roomy); fewer = K .grows }
+    record { roomy = kept-roomy K (asks at-told .taken .roomy); fewer = K .grows }
+
+same-length : tie.Need-same-length
+same-length c = search needs
+
+same-length-2 : tie.Need-same-length-2
+same-length-2 c = search needs
 
 same-length-3 : tie.Need-same-length-3
 same-length-3 c = search needs
 
-same-length-4 : tie.Need-same-length-4
-same-length-4 c = search needs
-
-same-length-5 : tie.Need-same-length-5
-same-length-5 c = search needs
-
-returns-4 : tie.Need-returns-4
-returns-4 c =
+returns-3 : tie.Need-returns-3
+returns-3 c =
     let at-finish : tie.After-finish-coded = search in
     let at-expand : tie.After-expand = search in
     let at-ordered : tie.After-ordered = search in
-    let at-if1 : tie.Else1 = search in
-    let at-told = told-of at-if1 in
+    let at-told : tie.After-enum-told = search in
     let a = (start-of at-told) .args in
-    done _ _ _ _ _ _ (passed at-told .fits) _ (none at-told) (ran-ordered (at-ordered .ordered .ensures) (asks at-if1) (a .cache .now) (at-expand .expand .ensures)) (at-finish .finish-coded .ensures)
+    done _ _ _ _ _ _ (passed at-told .fits) _ (none at-told) (ran-ordered (at-ordered .ordered .ensures) (asks at-told) (a .cache .now) (at-expand .expand .ensures)) (at-finish .finish-coded .ensures)
 
 pub of-families-spec : {M : Type 1} → statement M
 of-families-spec =
@@ -173,22 +132,15 @@ of-families-spec =
     refused-requires
     returns
     enum-told
-    top-of-requires
-    top-of-requires-2
-    larger-requires
-    refused-requires-2
-    same-length
-    returns-2
     shortcut-requires
     enum-known-handle
     placed-requires
-    same-length-2
-    returns-3
+    returns-2
     enum-told-2
     ordered-requires
     expand-requires
     finish-coded-requires
+    same-length
+    same-length-2
     same-length-3
-    same-length-4
-    same-length-5
-    returns-4)
+    returns-3)

@@ -1,16 +1,17 @@
--- `apply` and `expand` run the operation on two families: the level falls from `expand` to each `apply`, and `apply`
--- comes just above `expand` of its level.
+-- `apply` and `expand` run the operation on two families: the limit falls from `expand` to each `apply`, and `apply`
+-- comes just above `expand` of its limit.
 -- Every way out is a terminal case, a recalled result, or one step over the two results below.
 use Prim.Native.Nat.{ℕ, _+_, _*_, _<_}
 use native.Mathlib.Omega.{arith}
 use Rattle.store.specs.Coded.{storeOf}
 use Rattle.store.proofs.Codes.{coded-handle, coded-refused}
-use Rattle.store.proofs.Growing.{kept-top, kept-roomy}
+use Rattle.store.proofs.Growing.{kept-added, kept-roomy}
+use Rattle.store_sides.proofs.Splitting.{low-added}
 use Rattle.op_cache.specs.Inner.{callOf}
 use Rattle.op_step.proofs.Steps.{node-asks, step-first, step-second, step-done}
 use Rattle.op_step.proofs.Outcomes.{ran-broken, ran-recalled}
 use Rattle.op_families.proofs.Forks.{fork-two, fork-broken}
-use Rattle.op_families.proofs.Splits.{split-families}
+use Rattle.op_families.proofs.Splits.{split-families, level-item}
 use Rattle.op_families.proofs.Shortcuts.{coded-terminal, ordered-step, ran-ordered}
 use borrow.Author.Needs.{needs}
 use borrow.Fn.Kinds.{In}
@@ -79,7 +80,7 @@ apply-returns-2 t c =
     ran-ordered (at-ordered .ordered .ensures) (at-start .pre .1) (at-start .args .cache .now) (at-expand .expand .ensures)
 
 -- the start, seen from where the sides are at hand
-abbrev start-of : (t : ℕ) → expand-lts.After-p0 (expand-claims t) (expand-at t) expand.Post → expand-lts.Start (expand-claims t) (expand-at t) expand.Post
+abbrev start-of : (t : ℕ) → expand-lts.After-level (expand-claims t) (expand-at t) expand.Post → expand-lts.Start (expand-claims t) (expand-at t) expand.Post
 start-of t c = search
 
 expand-recall-requires : (t : ℕ) → expand-lts.Need-recall-requires (expand-claims t) (expand-at t) expand.Post
@@ -107,7 +108,8 @@ expand-fork-at-requires t c κs =
       second = I .second;
       words = omega (arith, I .roomy .within, I .roomy .words);
       small = omega (arith, I .roomy .within, I .roomy .small);
-      level-is = p .1 .asks .level-is;
+      first-low = p .1 .asks .first-low;
+      second-low = p .1 .asks .second-low;
       proper = p .1 .proper;
     }
 
@@ -122,37 +124,44 @@ expand-returns-2 t c =
 
 expand-apply-requires : (t : ℕ) → expand-lts.Need-apply-requires (expand-claims t) (expand-at t) expand.Post
 expand-apply-requires t c κs =
-    let at-p0 : expand-lts.After-p0 (expand-claims t) (expand-at t) expand.Post = search in
+    let at-level : expand-lts.After-level (expand-claims t) (expand-at t) expand.Post = search in
     let at-fork-at : expand-lts.After-fork-at (expand-claims t) (expand-at t) expand.Post = search in
-    let at-start = start-of t at-p0 in
+    let at-start = start-of t at-level in
     let p = at-start .pre in
-    let K = fork-two (at-p0 .p0 .given .1) (at-fork-at .fork-at .ensures) in
-    let I = p .1 .asks .taken in
-    (omega (arith, K .first .zero-below, K .second .zero-below), search needs)
+    let K = fork-two (at-level .level .given .1) (at-fork-at .fork-at .ensures) in
+    let I = p .1 .asks .taken in (
+      omega (arith, p .0, K .lower),
+      record {
+        taken = record { roomy = I .roomy; operation = I .operation; first = K .first .zero-within; second = K .second .zero-within };
+        first-low = K .first .zero-low;
+        second-low = K .second .zero-low;
+        limit-low = omega (arith, K .lower, p .1 .asks .limit-low);
+      },
+    )
 
 expand-returns-3 : (t : ℕ) → expand-lts.Need-returns-3 (expand-claims t) (expand-at t) expand.Post
 expand-returns-3 t c =
     let at-apply : expand-lts.After-apply (expand-claims t) (expand-at t) expand.Post = search in
-    let at-p0 : expand-lts.After-p0 (expand-claims t) (expand-at t) expand.Post = search in
+    let at-level : expand-lts.After-level (expand-claims t) (expand-at t) expand.Post = search in
     let at-fork-at : expand-lts.After-fork-at (expand-claims t) (expand-at t) expand.Post = search in
-    let at-start = start-of t at-p0 in
+    let at-start = start-of t at-level in
     let a = at-start .args in
     let p = at-start .pre in
-    let K = fork-two (at-p0 .p0 .given .1) (at-fork-at .fork-at .ensures) in
+    let K = fork-two (at-level .level .given .1) (at-fork-at .fork-at .ensures) in
     let R = coded-refused _ (c .if1 .taken) in
-    step-first (callOf (a .op) (a .p) (a .q)) _ _ (a .level) (storeOf (a .capacity) (a .count .now)) (a .nodes .now) (a .lookup .now) (a .cache .now) (split-families (p .1 .asks) K) (at-apply .apply .ensures) (R .0) (R .1)
+    step-first (callOf (a .op) (a .p) (a .q)) _ _ _ (storeOf (a .capacity) (a .count .now)) (a .nodes .now) (a .lookup .now) (a .cache .now) (split-families (p .1 .asks) K) (at-apply .apply .ensures) (R .0) (R .1)
 
 expand-apply-requires-2 : (t : ℕ) → expand-lts.Need-apply-requires-2 (expand-claims t) (expand-at t) expand.Post
 expand-apply-requires-2 t c κs =
     let at-apply : expand-lts.After-apply (expand-claims t) (expand-at t) expand.Post = search in
-    let at-p0 : expand-lts.After-p0 (expand-claims t) (expand-at t) expand.Post = search (at-apply) in
+    let at-level : expand-lts.After-level (expand-claims t) (expand-at t) expand.Post = search (at-apply) in
     let at-fork-at : expand-lts.After-fork-at (expand-claims t) (expand-at t) expand.Post = search (at-apply) in
-    let at-start = start-of t at-p0 in
+    let at-start = start-of t at-level in
     let p = at-start .pre in
-    let K = fork-two (at-p0 .p0 .given .1) (at-fork-at .fork-at .ensures) in
+    let K = fork-two (at-level .level .given .1) (at-fork-at .fork-at .ensures) in
     let L = at-apply .apply .ensures .kept in
     let I = p .1 .asks .taken in (
-      omega (arith, p .0, K .first .one-below, K .second .one-below, K .top₁-is),
+      omega (arith, p .0, K .lower),
       record {
         taken = record {
           roomy = kept-roomy L (I .roomy);
@@ -160,8 +169,9 @@ expand-apply-requires-2 t c κs =
           first = omega (arith, K .first .one-within, L .grows);
           second = omega (arith, K .second .one-within, L .grows);
         };
-        level-is = omega (arith, K .top₁-is, K .first .otop, K .second .otop, kept-top L _ (K .first .one-within), kept-top L _ (K .second .one-within));
-        level-low = omega (arith, K .top₁-is, K .first .one-below, K .second .one-below, p .1 .asks .level-low);
+        first-low = low-added (kept-added L) (K .first .one-low);
+        second-low = low-added (kept-added L) (K .second .one-low);
+        limit-low = omega (arith, K .lower, p .1 .asks .limit-low);
       },
     )
 
@@ -170,14 +180,14 @@ expand-returns-4 t c =
     let at-apply2 : expand-lts.After-apply2 (expand-claims t) (expand-at t) expand.Post = search in
     let at-if1 : expand-lts.Else1 (expand-claims t) (expand-at t) expand.Post = search in
     let at-apply : expand-lts.After-apply (expand-claims t) (expand-at t) expand.Post = search (at-if1) in
-    let at-p0 : expand-lts.After-p0 (expand-claims t) (expand-at t) expand.Post = search (at-apply) in
+    let at-level : expand-lts.After-level (expand-claims t) (expand-at t) expand.Post = search (at-apply) in
     let at-fork-at : expand-lts.After-fork-at (expand-claims t) (expand-at t) expand.Post = search (at-apply) in
-    let at-start = start-of t at-p0 in
+    let at-start = start-of t at-level in
     let a = at-start .args in
     let p = at-start .pre in
-    let K = fork-two (at-p0 .p0 .given .1) (at-fork-at .fork-at .ensures) in
+    let K = fork-two (at-level .level .given .1) (at-fork-at .fork-at .ensures) in
     let R = coded-refused _ (c .if2 .taken) in
-    step-second (callOf (a .op) (a .p) (a .q)) _ _ (a .level) (storeOf (a .capacity) (a .count .now)) (a .nodes .now) (a .lookup .now) (a .cache .now) (split-families (p .1 .asks) K) (at-apply .apply .ensures) _ (coded-handle _ (at-if1 .if1 .left)) (at-apply2 .apply2 .ensures) (R .0) (R .1)
+    step-second (callOf (a .op) (a .p) (a .q)) _ _ _ (storeOf (a .capacity) (a .count .now)) (a .nodes .now) (a .lookup .now) (a .cache .now) (split-families (p .1 .asks) K) (at-apply .apply .ensures) _ (coded-handle _ (at-if1 .if1 .left)) (at-apply2 .apply2 .ensures) (R .0) (R .1)
 
 expand-node-of-requires : (t : ℕ) → expand-lts.Need-node-of-requires (expand-claims t) (expand-at t) expand.Post
 expand-node-of-requires t c κs =
@@ -185,12 +195,13 @@ expand-node-of-requires t c κs =
     let at-apply2 : expand-lts.After-apply2 (expand-claims t) (expand-at t) expand.Post = search in
     let at-if1 : expand-lts.Else1 (expand-claims t) (expand-at t) expand.Post = search in
     let at-apply : expand-lts.After-apply (expand-claims t) (expand-at t) expand.Post = search (at-if1) in
-    let at-p0 : expand-lts.After-p0 (expand-claims t) (expand-at t) expand.Post = search (at-apply) in
+    let at-level : expand-lts.After-level (expand-claims t) (expand-at t) expand.Post = search (at-apply) in
     let at-fork-at : expand-lts.After-fork-at (expand-claims t) (expand-at t) expand.Post = search (at-apply) in
-    let at-start = start-of t at-p0 in
+    let at-start = start-of t at-level in
     let p = at-start .pre in
-    let K = fork-two (at-p0 .p0 .given .1) (at-fork-at .fork-at .ensures) in
-    let N = node-asks (p .1 .asks .taken .roomy) (at-apply .apply .ensures) (coded-handle _ (at-if1 .if1 .left)) (at-apply2 .apply2 .ensures) (coded-handle _ (at-if2 .if2 .left)) (omega (arith, K .some)) (p .1 .asks .level-low) in
+    let K = fork-two (at-level .level .given .1) (at-fork-at .fork-at .ensures) in
+    let i = level-item (p .1 .asks) K in
+    let N = node-asks (p .1 .asks .taken .roomy) (at-apply .apply .ensures) (coded-handle _ (at-if1 .if1 .left)) (at-apply2 .apply2 .ensures) (coded-handle _ (at-if2 .if2 .left)) (i .0) (i .1) in
     search needs
 
 expand-returns-5 : (t : ℕ) → expand-lts.Need-returns-5 (expand-claims t) (expand-at t) expand.Post
@@ -201,13 +212,13 @@ expand-returns-5 t c =
     let at-apply2 : expand-lts.After-apply2 (expand-claims t) (expand-at t) expand.Post = search (at-if2) in
     let at-if1 : expand-lts.Else1 (expand-claims t) (expand-at t) expand.Post = search (at-if2) in
     let at-apply : expand-lts.After-apply (expand-claims t) (expand-at t) expand.Post = search (at-if1) in
-    let at-p0 : expand-lts.After-p0 (expand-claims t) (expand-at t) expand.Post = search (at-apply) in
+    let at-level : expand-lts.After-level (expand-claims t) (expand-at t) expand.Post = search (at-apply) in
     let at-fork-at : expand-lts.After-fork-at (expand-claims t) (expand-at t) expand.Post = search (at-apply) in
-    let at-start = start-of t at-p0 in
+    let at-start = start-of t at-level in
     let a = at-start .args in
     let p = at-start .pre in
-    let K = fork-two (at-p0 .p0 .given .1) (at-fork-at .fork-at .ensures) in
-    step-done (callOf (a .op) (a .p) (a .q)) _ _ (a .level) (storeOf (a .capacity) (a .count .now)) (a .nodes .now) (a .lookup .now) (a .cache .now) (split-families (p .1 .asks) K) (at-apply .apply .ensures) _ (coded-handle _ (at-if1 .if1 .left)) (at-apply2 .apply2 .ensures) _ (coded-handle _ (at-if2 .if2 .left)) (at-node-of .node-of .ensures) (at-keep .keep .ensures)
+    let K = fork-two (at-level .level .given .1) (at-fork-at .fork-at .ensures) in
+    step-done (callOf (a .op) (a .p) (a .q)) _ _ _ (storeOf (a .capacity) (a .count .now)) (a .nodes .now) (a .lookup .now) (a .cache .now) (split-families (p .1 .asks) K) (at-apply .apply .ensures) _ (coded-handle _ (at-if1 .if1 .left)) (at-apply2 .apply2 .ensures) _ (coded-handle _ (at-if2 .if2 .left)) (at-node-of .node-of .ensures) (at-keep .keep .ensures)
 
 pub +apply+expand-spec : {M : Type 1} → statement M
 +apply+expand-spec = close μ-apply μ-expand (λ t. apply-lts.spec (apply-claims t)
