@@ -50,14 +50,18 @@ typedef struct {
 
 static uint32_t top_of(words nodes, uint32_t p) { return p < 2 ? 0 : nodes.at[3 * (size_t)(p - 2)]; }
 
-/* The sides of p at a level that is not below its top, with their tops. */
-static sides sides_at(words nodes, uint32_t count, uint32_t p, uint32_t level) {
-    uint32_t top = top_of(nodes, p);
-    if (top < level) return (sides){false, p, 0, top, 0};
+/* The sides of p at a level that is not below its top; their tops are not read. */
+static sides cofactors_at(words nodes, uint32_t count, uint32_t p, uint32_t top, uint32_t level) {
+    if (top < level) return (sides){false, p, 0, 0, 0};
     size_t base = 3 * (size_t)(p - 2);
-    sides s = {false, nodes.at[base + 1], nodes.at[base + 2], 0, 0};
-    s.broken = true;
-    if (count + 1 < s.zero || count + 1 < s.one) return s;
+    uint32_t zero = nodes.at[base + 1], one = nodes.at[base + 2];
+    return (sides){count + 1 < zero || count + 1 < one, zero, one, 0, 0};
+}
+
+/* The same with their tops. */
+static sides sides_at(words nodes, uint32_t count, uint32_t p, uint32_t level) {
+    sides s = cofactors_at(nodes, count, p, top_of(nodes, p), level);
+    if (s.broken) return s;
     s.ztop = top_of(nodes, s.zero), s.otop = top_of(nodes, s.one);
     s.broken = level <= s.ztop || level <= s.otop;
     return s;
@@ -184,25 +188,25 @@ static uint32_t shortcut(call c) {
     return FULL;
 }
 
-static uint32_t expand_families(call c, uint32_t level, WORDS);
+static uint32_t expand_families(call c, uint32_t limit, WORDS);
 
-static uint32_t apply(call asked, uint32_t level, WORDS) {
-    call c = ordered(asked);
-    uint32_t known = shortcut(c);
-    return known < FULL ? known : expand_families(c, level, HAND_ON);
+static uint32_t apply(call asked, uint32_t limit, WORDS) {
+    uint32_t known = shortcut(asked);
+    return known < FULL ? known : expand_families(ordered(asked), limit, HAND_ON);
 }
 
-/* No terminal case: the cache, else the two sides of both and the node of their results. */
-static uint32_t expand_families(call c, uint32_t level, WORDS) {
+/* No terminal case: the cache, else the two sides of both at the larger top, below the limit, and the node of their results. */
+static uint32_t expand_families(call c, uint32_t limit, WORDS) {
     size_t group = group_of(c, cache);
     uint32_t known = recall(cache, group, *count, c);
     if (known < FULL) return known;
-    if (level == 0) return DAMAGED;
-    sides p = sides_at(nodes, *count, c.p, level), q = sides_at(nodes, *count, c.q, level);
+    uint32_t ptop = top_of(nodes, c.p), qtop = top_of(nodes, c.q), level = larger(ptop, qtop);
+    if (level == 0 || limit <= level) return DAMAGED;
+    sides p = cofactors_at(nodes, *count, c.p, ptop, level), q = cofactors_at(nodes, *count, c.q, qtop, level);
     if (p.broken || q.broken) return DAMAGED;
-    uint32_t zero = apply((call){c.op, p.zero, q.zero}, larger(p.ztop, q.ztop), HAND_ON);
+    uint32_t zero = apply((call){c.op, p.zero, q.zero}, level, HAND_ON);
     if (FULL <= zero) return zero;
-    uint32_t one = apply((call){c.op, p.one, q.one}, larger(p.otop, q.otop), HAND_ON);
+    uint32_t one = apply((call){c.op, p.one, q.one}, level, HAND_ON);
     if (FULL <= one) return one;
     uint32_t made = node_of(capacity, count, nodes, lookup, level, zero, one);
     keep(cache, group, c, made);
@@ -250,9 +254,7 @@ static zdd_placed family_call(uint32_t op, STORE, CACHE, uint32_t p, uint32_t q)
     if (!fits(s, node_words, lookup_words)) return refused(s, ZDD_DAMAGED);
     if (!holds(s, p) || !holds(s, q)) return refused(s, ZDD_HANDLE);
     LENT;
-    uint32_t held = s.count, level = larger(top_of(nodes, p), top_of(nodes, q));
-    if (ZDD_LARGEST_ITEM < level) return refused(s, ZDD_DAMAGED);
-    uint32_t result = apply((call){op, p, q}, level, s.capacity, &held, nodes, lookup, cache);
+    uint32_t held = s.count, result = apply((call){op, p, q}, ZDD_LARGEST_ITEM + 1, s.capacity, &held, nodes, lookup, cache);
     return finish(s, held, result, nodes, lookup, cache);
 }
 

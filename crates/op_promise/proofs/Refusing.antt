@@ -1,7 +1,7 @@
 -- Each way out of the six calls keeps the promise: refused by the tests, by a top that no sound store has, or run to
 -- its end.
 -- The tests that the calls make are the promise's own.
-use Prim.Native.Nat.{ℕ, _+_, _≤_, _<_, max}
+use Prim.Native.Nat.{ℕ, _+_, _≤_, _<_}
 use mathlib.Core.Path.{_≡_}
 use mathlib.Core.Bool.{true}
 use mathlib.Core.List.{List}
@@ -39,10 +39,6 @@ sound-top p l S = let H = sound-holds S in omega (arith, top-at H p (omega arith
 module _ (op p q : ℕ) (s : Store) (nodes lookup : List ℕ) (fits : fitting (s .capacity) (s .count) (length nodes) (length lookup) ≡ true) (cache : List ℕ) where
   pub refused-top : p ≤ s .count + 1 → itemLimit < topAt nodes p → (r : Placed) → r .store ≡ s → OperationCall op p q s nodes lookup cache r nodes lookup cache
   refused-top lp l r es = call-unsound s nodes lookup cache _ _ r fits (λ S. omega (arith, sound-top p lp S)) es
-
-  pub refused-tops : p ≤ s .count + 1 → q ≤ s .count + 1 → itemLimit < max (topAt nodes p) (topAt nodes q) → (r : Placed) → r .store ≡ s
-      → OperationCall op p q s nodes lookup cache r nodes lookup cache
-  refused-tops lp lq l r es = call-unsound s nodes lookup cache _ _ r fits (λ S. omega (arith, sound-top p lp S, sound-top q lq S)) es
 
   -- a call that ran to its end
   pub done : operationRefusal op (s .count) p q ≡ 0 → {m : Placed} {nodes₁ lookup₁ cache₁ : List ℕ} → Ran (λ B. named op B p q) s nodes lookup cache m nodes₁ lookup₁ cache₁

@@ -38,7 +38,7 @@ returns c =
 returns-2 : tie.Need-returns-2
 returns-2 c =
     let at-larger : tie.After-larger = search in
-    past-limit ((start-of at-larger) .pre) (level-is at-larger) (c .if2 .taken)
+    past-limit ((start-of at-larger) .pre) (level-is at-larger) (omega (arith, c .if2 .taken))
 
 cofactors-at-requires : tie.Need-cofactors-at-requires
 cofactors-at-requires c κs = search needs
