@@ -137,14 +137,10 @@ static void keep(words cache, size_t group, call c, uint32_t result) {
 #define WORDS uint32_t capacity, uint32_t *count, words nodes, words lookup, words cache
 #define HAND_ON capacity, count, nodes, lookup, cache
 
-/* The level, the top of p, is at most the item. */
+/* The level, the top of p, is at most the item: its two sides at the item are Subset0 and Subset1, and Change swaps them. */
 static uint32_t leaf(uint32_t op, uint32_t p, uint32_t item, uint32_t level, uint32_t capacity, uint32_t *count, words nodes,
                      words lookup) {
-    if (level < item) {
-        if (op != CHANGE) return op == SUBSET1 ? 0 : p;
-        return node_of(capacity, count, nodes, lookup, item, 0, p);
-    }
-    sides s = sides_at(nodes, *count, p, item);
+    sides s = cofactors_at(nodes, *count, p, level, item);
     if (s.broken) return DAMAGED;
     if (op != CHANGE) return op == SUBSET1 ? s.one : s.zero;
     return node_of(capacity, count, nodes, lookup, item, s.one, s.zero);
@@ -152,7 +148,9 @@ static uint32_t leaf(uint32_t op, uint32_t p, uint32_t item, uint32_t level, uin
 
 static uint32_t expand_item(uint32_t op, uint32_t p, uint32_t item, uint32_t level, WORDS);
 
+/* Above the top no member holds the item: Subset1 is {}, and Subset0 is p itself. */
 static uint32_t restrict_to(uint32_t op, uint32_t p, uint32_t item, uint32_t level, WORDS) {
+    if (level < item && op != CHANGE) return op == SUBSET1 ? 0 : p;
     if (level <= item) return leaf(op, p, item, level, capacity, count, nodes, lookup);
     return expand_item(op, p, item, level, HAND_ON);
 }

@@ -31,6 +31,15 @@ fn restrict(
     requires { ⌜ RestrictAsks (callOf op p item) level (storeOf capacity (now count)) (now nodes) (now lookup) ⌝ }
     ensures { λ r. ⌜ Ran (λ B. named op B p item) (storeOf capacity (now (count .entry))) (now (nodes .entry)) (now (lookup .entry)) (now (cache .entry)) (placedAs capacity (now (count .exit)) r) (now (nodes .exit)) (now (lookup .exit)) (now (cache .exit)) ⌝ }
 {
+    // Above the top no member holds the item: Subset1 is {}, and Subset0 is p itself. Neither costs a call.
+    if level < item {
+        if op == 1 {
+            return 0;
+        }
+        if op == 2 {
+            return p;
+        }
+    }
     if level <= item {
         return leaf(op, p, item, level, capacity, count, nodes, lookup);
     }

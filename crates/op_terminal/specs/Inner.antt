@@ -1,5 +1,5 @@
 -- What the terminal cases ask and promise. A reader of the promises can pass this page over.
-use Prim.Native.Nat.{ℕ, _+_, _≤_, _<_}
+use Prim.Native.Nat.{ℕ, _+_, _≤_}
 use mathlib.Core.Path.{_≡_}
 use mathlib.Core.Logic.{_⊎_}
 use mathlib.Core.List.{List}
@@ -26,16 +26,7 @@ pub record ItemCall (call : Call) (s : Store) (nodes lookup : List ℕ) : Type 0
   pub item-some : 1 ≤ call .q
   pub item-low : call .q ≤ itemLimit
 
--- an item above the top of the family, or at it
-pub record AboveAsks (call : Call) (s : Store) (nodes lookup : List ℕ) : Type 0 where
-  pub taken : ItemCall call s nodes lookup
-  pub above : topAt nodes (call .p) < call .q
-
-pub record AtAsks (call : Call) (s : Store) (nodes lookup : List ℕ) : Type 0 where
-  pub taken : ItemCall call s nodes lookup
-  pub here : topAt nodes (call .p) ≡ call .q
-
--- either, with the top of the family
+-- such a call with the top of the family, and an item that is not below it
 pub record LeafAsks (call : Call) (level : ℕ) (s : Store) (nodes lookup : List ℕ) : Type 0 where
   pub taken : ItemCall call s nodes lookup
   pub level-is : level ≡ topAt nodes (call .p)

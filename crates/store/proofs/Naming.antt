@@ -93,48 +93,34 @@ module _ (op v : ℕ) where
   restrict-within F l m h =
       by-eq op 1 (λ p e. rw e (within-subset1 v F h)) (λ p e. rw e (by-eq op 2 (λ q d. rw d (within-subset0 v F h)) (λ q d. rw d (within-change v F l m h))))
 
-  -- v above the top
-  module _ (F : Family) (l : top F < v) where
-    pub above-subset1 : op ≡ 1 → restrict op v F ≡ empty
+  -- v not below the top: the two sides at v
+  module _ (F : Family) (l : top F ≤ v) where
+    pub side-subset1 : op ≡ 1 → restrict op v F ≡ holding v F
     unfolding restrict
-    above-subset1 e = rw e (subset1-low v F l)
-
-    pub above-subset0 : op ≡ 2 → restrict op v F ≡ F
-    unfolding restrict
-    above-subset0 e = rw e (subset0-low v F l)
-
-    pub above-change : (op ≡ 1 → ⊥) → (op ≡ 2 → ⊥) → restrict op v F ≡ mk v empty F
-    unfolding restrict
-    above-change n m = rw (ne-eqb op 1 n, ne-eqb op 2 m) (change-low v F l)
-
-  -- v the top
-  module _ (F : Family) (s : 0 < v) where
-    pub at-subset1 : top F ≡ v → op ≡ 1 → restrict op v F ≡ holding v F
-    unfolding restrict
-    at-subset1 t e = rw e (go F t)
+    side-subset1 e = rw e (go F l)
       where
-        go : (F : Family) → top F ≡ v → subset1 v F ≡ holding v F
-        go empty t = absurd (omega arith)
-        go base t = absurd (omega arith)
-        go (node i a b) t = subset1-at v i a b t ∙ rw (eq-eqb i v t)
+        go : (F : Family) → top F ≤ v → subset1 v F ≡ holding v F
+        go empty l = refl
+        go base l = refl
+        go (node i a b) l = by-eq i v (λ p e. subset1-at v i a b p ∙ rw e) (λ p e. subset1-low v (node i a b) (omega arith) ∙ rw e)
 
-    pub at-subset0 : top F ≡ v → op ≡ 2 → restrict op v F ≡ lacking v F
+    pub side-subset0 : op ≡ 2 → restrict op v F ≡ lacking v F
     unfolding restrict
-    at-subset0 t e = rw e (go F t)
+    side-subset0 e = rw e (go F l)
       where
-        go : (F : Family) → top F ≡ v → subset0 v F ≡ lacking v F
-        go empty t = absurd (omega arith)
-        go base t = absurd (omega arith)
-        go (node i a b) t = subset0-at v i a b t ∙ rw (eq-eqb i v t)
+        go : (F : Family) → top F ≤ v → subset0 v F ≡ lacking v F
+        go empty l = refl
+        go base l = refl
+        go (node i a b) l = by-eq i v (λ p e. subset0-at v i a b p ∙ rw e) (λ p e. subset0-low v (node i a b) (omega arith) ∙ rw e)
 
-    pub at-change : top F ≡ v → (op ≡ 1 → ⊥) → (op ≡ 2 → ⊥) → restrict op v F ≡ mk v (holding v F) (lacking v F)
+    pub side-change : (op ≡ 1 → ⊥) → (op ≡ 2 → ⊥) → restrict op v F ≡ mk v (holding v F) (lacking v F)
     unfolding restrict
-    at-change t n m = rw (ne-eqb op 1 n, ne-eqb op 2 m) (go F t)
+    side-change n m = rw (ne-eqb op 1 n, ne-eqb op 2 m) (go F l)
       where
-        go : (F : Family) → top F ≡ v → change v F ≡ mk v (holding v F) (lacking v F)
-        go empty t = absurd (omega arith)
-        go base t = absurd (omega arith)
-        go (node i a b) t = change-at v i a b t ∙ rw (eq-eqb i v t, t)
+        go : (F : Family) → top F ≤ v → change v F ≡ mk v (holding v F) (lacking v F)
+        go empty l = refl
+        go base l = refl
+        go (node i a b) l = by-eq i v (λ p e. change-at v i a b p ∙ rw (e, p)) (λ p e. change-low v (node i a b) (omega arith) ∙ rw e)
 
   -- v below the top: one step
   pub restrict-step : (i : ℕ) (F : Family) → top F ≡ i → v < i → restrict op v F ≡ mk i (restrict op v (lacking i F)) (restrict op v (holding i F))

@@ -11,6 +11,7 @@ use Rattle.store_sides.proofs.Answers.{sides-two, sides-broken}
 use Rattle.op_cache.specs.Inner.{callOf}
 use Rattle.op_step.proofs.Steps.{node-asks, step-first, step-second, step-done}
 use Rattle.op_step.proofs.Outcomes.{ran-broken, ran-recalled}
+use Rattle.op_terminal.proofs.Restricting.{above-none, above-same}
 use Rattle.op_items.proofs.Splits.{split-item}
 use borrow.Author.Needs.{needs}
 use borrow.Fn.Kinds.{In}
@@ -184,15 +185,33 @@ expand-returns-5 t c =
     let K = sides-two (at-p0 .p0 .given .1) (at-sides-at .sides-at .ensures) in
     step-done (callOf (a .op) (a .p) (a .item)) _ _ (a .level) (storeOf (a .capacity) (a .count .now)) (a .nodes .now) (a .lookup .now) (a .cache .now) (split-item (p .1) K) (at-restrict .restrict .ensures) _ (coded-handle _ (at-if1 .if1 .left)) (at-restrict2 .restrict2 .ensures) _ (coded-handle _ (at-if2 .if2 .left)) (at-node-of .node-of .ensures) (at-keep .keep .ensures)
 
-restrict-leaf-requires : (t : ℕ) → restrict-lts.Need-leaf-requires (restrict-claims t) (restrict-at t) restrict.Post
-restrict-leaf-requires t c κs =
-    let at-start : restrict-lts.Start (restrict-claims t) (restrict-at t) restrict.Post = search in
-    let at-if1 : restrict-lts.Then1 (restrict-claims t) (restrict-at t) restrict.Post = search in
-    let p = at-start .pre in
-    record { taken = p .1 .taken; level-is = p .1 .level-is; not-below = at-if1 .if1 .taken }
-
 restrict-returns : (t : ℕ) → restrict-lts.Need-returns (restrict-claims t) (restrict-at t) restrict.Post
 restrict-returns t c =
+    let at-if1 : restrict-lts.Then1 (restrict-claims t) (restrict-at t) restrict.Post = search in
+    let at-start : restrict-lts.Start (restrict-claims t) (restrict-at t) restrict.Post = search in
+    let a = at-start .args in
+    let p = at-start .pre in
+    plain-ran _ (storeOf (a .capacity) (a .count .now)) (a .nodes .now) (a .lookup .now) (a .cache .now)
+    (above-none (callOf (a .op) (a .p) (a .item)) (storeOf (a .capacity) (a .count .now)) (a .nodes .now) (a .lookup .now) (p .1 .taken) (omega (arith, p .1 .level-is, at-if1 .if1 .taken)) (c .if2 .taken))
+
+restrict-returns-2 : (t : ℕ) → restrict-lts.Need-returns-2 (restrict-claims t) (restrict-at t) restrict.Post
+restrict-returns-2 t c =
+    let at-if1 : restrict-lts.Then1 (restrict-claims t) (restrict-at t) restrict.Post = search in
+    let at-start : restrict-lts.Start (restrict-claims t) (restrict-at t) restrict.Post = search in
+    let a = at-start .args in
+    let p = at-start .pre in
+    plain-ran _ (storeOf (a .capacity) (a .count .now)) (a .nodes .now) (a .lookup .now) (a .cache .now)
+    (above-same (callOf (a .op) (a .p) (a .item)) (storeOf (a .capacity) (a .count .now)) (a .nodes .now) (a .lookup .now) (p .1 .taken) (omega (arith, p .1 .level-is, at-if1 .if1 .taken)) (c .if3 .taken))
+
+restrict-leaf-requires : (t : ℕ) → restrict-lts.Need-leaf-requires (restrict-claims t) (restrict-at t) restrict.Post
+restrict-leaf-requires t c κs =
+    let at-if4 : restrict-lts.Then4 (restrict-claims t) (restrict-at t) restrict.Post = search in
+    let at-start : restrict-lts.Start (restrict-claims t) (restrict-at t) restrict.Post = search in
+    let p = at-start .pre in
+    record { taken = p .1 .taken; level-is = p .1 .level-is; not-below = at-if4 .if4 .taken }
+
+restrict-returns-3 : (t : ℕ) → restrict-lts.Need-returns-3 (restrict-claims t) (restrict-at t) restrict.Post
+restrict-returns-3 t c =
     let at-leaf : restrict-lts.After-leaf (restrict-claims t) (restrict-at t) restrict.Post = search in
     let at-start : restrict-lts.Start (restrict-claims t) (restrict-at t) restrict.Post = search in
     let a = at-start .args in
@@ -200,13 +219,13 @@ restrict-returns t c =
 
 restrict-expand-requires : (t : ℕ) → restrict-lts.Need-expand-requires (restrict-claims t) (restrict-at t) restrict.Post
 restrict-expand-requires t c κs =
+    let at-if4 : restrict-lts.Else4 (restrict-claims t) (restrict-at t) restrict.Post = search in
     let at-start : restrict-lts.Start (restrict-claims t) (restrict-at t) restrict.Post = search in
-    let at-if1 : restrict-lts.Else1 (restrict-claims t) (restrict-at t) restrict.Post = search in
     let p = at-start .pre in
-    (omega (arith, p .0), record { asks = p .1; below = omega (arith, at-if1 .if1 .left) })
+    (omega (arith, p .0), record { asks = p .1; below = omega (arith, at-if4 .if4 .left) })
 
-restrict-returns-2 : (t : ℕ) → restrict-lts.Need-returns-2 (restrict-claims t) (restrict-at t) restrict.Post
-restrict-returns-2 t c =
+restrict-returns-4 : (t : ℕ) → restrict-lts.Need-returns-4 (restrict-claims t) (restrict-at t) restrict.Post
+restrict-returns-4 t c =
     let at-expand : restrict-lts.After-expand (restrict-claims t) (restrict-at t) restrict.Post = search in
     at-expand .expand .ensures
 
@@ -245,12 +264,14 @@ pub +expand+restrict-spec : {M : Type 1} → statement M
     λ t. restrict-lts.spec (restrict-claims t)
     (restrict-at t)
     restrict.Post
+    (restrict-returns t)
+    (restrict-returns-2 t)
     (restrict-leaf-requires t)
     (λ c. search needs)
     (λ c. search needs)
-    (restrict-returns t)
+    (restrict-returns-3 t)
     (restrict-expand-requires t)
     (λ c. search needs)
     (λ c. search needs)
     (λ c. search needs)
-    (restrict-returns-2 t)
+    (restrict-returns-4 t)
