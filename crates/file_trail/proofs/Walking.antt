@@ -72,8 +72,8 @@ pub data Child (z o : ℕ) : ℕ → Type 0 where
 
 module _ {nodes : List ℕ} {n p level z o zt ot : ℕ} (S : TwoSides nodes n p level z o zt ot) where
   pub child-side : {q : ℕ} → Child z o q → Side nodes n level q
-  child-side zero-child = record { inside = S .zero-within; below = omega (arith, S .ztop, S .zero-below) }
-  child-side one-child = record { inside = S .one-within; below = omega (arith, S .otop, S .one-below) }
+  child-side zero-child = record { inside = S .halves .zero-within; below = omega (arith, S .ztop, S .zero-below) }
+  child-side one-child = record { inside = S .halves .one-within; below = omega (arith, S .otop, S .one-below) }
 
   -- a child can be walked from any trail that fits
   module _ {t : Trail} {links : List ℕ} (low : level ≤ itemLimit) (L : Lent nodes n links) (F : TrailFits n t) where
@@ -203,8 +203,8 @@ module _ (t : Trail) (p : ℕ) (nodes : List ℕ) (n : ℕ) (links : List ℕ) w
             go base e = absurd (omega (arith, K .some, top-at H p (omega arith), ap top e))
             go (node j a b) e =
                 let ej : j ≡ level = sym (ap top e) ∙ sym (top-at H p (omega arith)) ∙ sym is-level in
-                let ez : at B z ≡ a = K .sides .lacks B lookup H ∙ ap (λ F. lacking level F) e ∙ rw (eq-eqb j level ej) in
-                let eo : at B o ≡ b = K .sides .holds B lookup H ∙ ap (λ F. holding level F) e ∙ rw (eq-eqb j level ej) in
+                let ez : at B z ≡ a = K .sides .halves .lacks B lookup H ∙ ap (λ F. lacking level F) e ∙ rw (eq-eqb j level ej) in
+                let eo : at B o ≡ b = K .sides .halves .holds B lookup H ∙ ap (λ F. holding level F) e ∙ rw (eq-eqb j level ej) in
                 rw (ej, ez, eo)
 
         new : Held (place (place C (at B z)) (at B o)) (node level (at B z) (at B o)) → ⊥
@@ -226,11 +226,11 @@ module _ (t : Trail) (p : ℕ) (nodes : List ℕ) (n : ℕ) (links : List ℕ) w
             sound = λ B C lookup H T.
                 let a = K .sides in
                 let T₂ = trail₂ R first e₁ Q second e₂ H T in
-                let ha = book-place C (at B z) (T .book) (within H z (omega (arith, a .zero-within))) in
-                let hb = book-place (place C (at B z)) (at B o) (ha .0) (within H o (omega (arith, a .one-within))) in
+                let ha = book-place C (at B z) (T .book) (within H z (omega (arith, a .halves .zero-within))) in
+                let hb = book-place (place C (at B z)) (at B o) (ha .0) (within H o (omega (arith, a .halves .one-within))) in
                 let missing : length (place (place C (at B z)) (at B o)) ≤ number (place (place C (at B z)) (at B o)) (node level (at B z) (at B o)) =
                 by-lt (number (place (place C (at B z)) (at B o)) (node level (at B z) (at B o))) (length (place (place C (at B z)) (at B o))) (λ h e. absurd (new H T h)) (λ h e. h) in
                 rw (is-node H T, add-new (place (place C (at B z)) (at B o)) (node level (at B z) (at B o)) missing)
-                (came (trail-visit H T₂ p level z o (omega arith) (omega (arith, a .zero-within)) (omega (arith, a .one-within)) (is-node H T) (new H T)
+                (came (trail-visit H T₂ p level z o (omega arith) (omega (arith, a .halves .zero-within)) (omega (arith, a .halves .one-within)) (is-node H T) (new H T)
                 (grown-held (place-grown (place C (at B z)) (at B o)) (at B z) (ha .1)) (hb .1) W (omega (arith, long₂ R first e₁ Q))));
           }

@@ -1,5 +1,6 @@
 -- The ways out of `fork_at`: both operands split at their larger top, or words that hold no book.
--- Two different operands that are no {} cannot both lack items, so the level is an item; in a book it is below the limit.
+-- Two different operands that are no {} cannot both lack items, so the level is an item; in a book it is below the
+-- limit.
 use Prim.Native.Nat.{ℕ, zero, suc, _+_, _≤_, _<_, max}
 use mathlib.Core.Path.{_≡_}
 use mathlib.Core.List.{List}

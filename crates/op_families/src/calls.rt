@@ -35,6 +35,7 @@ fn of_families(
     }
     let call = ordered(asked);
     let mut held = store.count;
+    // In a sound store every top is below 513.
     let coded = expand(
         call.op,
         call.p,

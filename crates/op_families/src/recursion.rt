@@ -22,7 +22,7 @@ use store_sides::cofactors_at;
 use store_sides::top_of;
 
 // The larger number.
-pub fn larger(a: u32, b: u32) -> u32
+fn larger(a: u32, b: u32) -> u32
     ensures { λ r. ⌜ r ≡ max a b ⌝ }
 {
     if a < b { b } else { a }
@@ -71,7 +71,8 @@ fn fork_at(nodes: &[u32], count: u32, call: Call, limit: u32) -> Fork
     }
 }
 
-// The operation on two families whose tops are below the limit: terminal cases at once, else by the two sides.
+// The operation on two families whose tops are below the limit in a sound store: terminal cases at once, else by the
+// two sides.
 fn apply(
     op: u32,
     p: u32,

@@ -27,15 +27,15 @@ module _ {call : Call} {level : ℕ} {s : Store} {nodes lookup : List ℕ} (E : 
   split-item {z} {o} K =
       record {
         taken = taken-item (call .p) (I .held);
-        other = taken-item o (K .one-within);
+        other = taken-item o (K .halves .one-within);
         is = λ B H.
             named-item (call .op) B (call .p) (call .q) (omega arith)
             ∙ restrict-step (call .op) (call .q) level (at B (call .p)) (sym (top-at H (call .p) (omega arith)) ∙ sym (E .asks .level-is)) (E .below)
-            ∙ rw (← K .lacks B lookup H, ← K .holds B lookup H, named-item (call .op) B z (call .q) (omega arith), named-item (call .op) B o (call .q) (omega arith));
+            ∙ rw (← K .halves .lacks B lookup H, ← K .halves .holds B lookup H, named-item (call .op) B z (call .q) (omega arith), named-item (call .op) B o (call .q) (omega arith));
         low = λ B H.
-            let w = restrict-within (call .op) (call .q) (at B z) (I .item-some) (omega arith) (low-at H z (level - 1) (K .zero-within) (omega (arith, K .zero-below, K .ztop))) in
+            let w = restrict-within (call .op) (call .q) (at B z) (I .item-some) (omega arith) (low-at H z (level - 1) (K .halves .zero-within) (omega (arith, K .zero-below, K .ztop))) in
             omega (arith, ap top (named-item (call .op) B z (call .q) (omega arith)), w .low);
         high = λ B H.
-            let w = restrict-within (call .op) (call .q) (at B o) (I .item-some) (omega arith) (low-at H o (level - 1) (K .one-within) (omega (arith, K .one-below, K .otop))) in
+            let w = restrict-within (call .op) (call .q) (at B o) (I .item-some) (omega arith) (low-at H o (level - 1) (K .halves .one-within) (omega (arith, K .one-below, K .otop))) in
             omega (arith, ap top (named-item (call .op) B o (call .q) (omega arith)), w .low);
       }

@@ -9,13 +9,13 @@ use Rattle.store_sides.specs.declared.Cofactors.the-variants.{Two as Two
 use Rattle.store_sides.specs.declared.Sides.{Sides}
 use Rattle.store_sides.specs.declared.Sides.the-variants.{Two, Broken}
 use Rattle.store.specs.Inner.{Holds}
-use Rattle.store_sides.specs.Inner.{Halves, CofactorsOf, halves, none, TwoSides, SidesOf, two, broken}
+use Rattle.store_sides.specs.Inner.{Halves, CofactorsOf, split, none, TwoSides, SidesOf, two, broken}
 
 pub halves-two : {nodes : List ℕ} {n p level z o : ℕ} {x : Cofactors} → x ≡ TwoCofactors z o → CofactorsOf nodes n p level x → Halves nodes n p level z o
 halves-two e S = out (rw e at S)
   where
     out : {nodes : List ℕ} {n p level z o : ℕ} → CofactorsOf nodes n p level (TwoCofactors z o) → Halves nodes n p level z o
-    out (halves T) = T
+    out (split T) = T
 
 pub halves-none : {nodes : List ℕ} {n p level : ℕ} {x : Cofactors} → x ≡ NoCofactors → CofactorsOf nodes n p level x → (B : List Family) (lookup : List ℕ) → Holds B n nodes lookup → ⊥
 halves-none e S = out (rw e at S)

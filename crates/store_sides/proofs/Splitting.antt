@@ -15,7 +15,7 @@ use Rattle.family.proofs.Diagrams.{lacking-above, holding-above}
 use Rattle.words.proofs.Cases.{by-lt}
 use Rattle.store.specs.Words.{itemLimit, topAt}
 use Rattle.store.specs.Inner.{Holds, Added}
-use Rattle.store_sides.specs.Inner.{Low, Halves, TwoSides}
+use Rattle.store_sides.specs.Inner.{Low, Halves}
 use Rattle.store.proofs.Held.{at-0, top-leaf, top-node, top-at, within, entry, at-node}
 use Rattle.store.proofs.Growing.{added-self, added-trans, added-top}
 
@@ -100,17 +100,3 @@ module _ (nodes : List ℕ) (n p level : ℕ) (lp : p ≤ n + 1) (some : 0 < lev
         lacks = λ B lookup H. rw (is-node nodes n p level lp some high fits H, eq-eqb level level refl);
         holds = λ B lookup H. rw (is-node nodes n p level lp some high fits H, eq-eqb level level refl);
       }
-
--- the sides with their tops
-pub with-tops : {nodes : List ℕ} {n p level z o zt ot : ℕ} → Halves nodes n p level z o → zt ≡ topAt nodes z → ot ≡ topAt nodes o → zt < level → ot < level → TwoSides nodes n p level z o zt ot
-with-tops K ez eo bz bo =
-    record {
-      zero-within = K .zero-within;
-      one-within = K .one-within;
-      ztop = ez;
-      otop = eo;
-      zero-below = bz;
-      one-below = bo;
-      lacks = K .lacks;
-      holds = K .holds;
-    }

@@ -42,7 +42,7 @@ pub record Halves (nodes : List ℕ) (n p level z o : ℕ) : Type 0 where
 
 -- the two sides, or words that no sound store has
 pub data CofactorsOf (nodes : List ℕ) (n p level : ℕ) : Cofactors → Type 0 where
-  halves : {z o : ℕ} → Halves nodes n p level z o → CofactorsOf nodes n p level (TwoCofactors z o)
+  split : {z o : ℕ} → Halves nodes n p level z o → CofactorsOf nodes n p level (TwoCofactors z o)
   none : ((B : List Family) (lookup : List ℕ) → Holds B n nodes lookup → ⊥) → CofactorsOf nodes n p level NoCofactors
 
 -- a handle, the words of the nodes, and a level that is not below the handle's top
@@ -55,14 +55,11 @@ pub record SidesAsks (nodes : List ℕ) (n p level : ℕ) : Type 0 where
 
 -- the sides of p at a level, with their tops
 pub record TwoSides (nodes : List ℕ) (n p level z o zt ot : ℕ) : Type 0 where
-  pub zero-within : z ≤ n + 1
-  pub one-within : o ≤ n + 1
+  pub halves : Halves nodes n p level z o
   pub ztop : zt ≡ topAt nodes z
   pub otop : ot ≡ topAt nodes o
   pub zero-below : zt < level
   pub one-below : ot < level
-  pub lacks : (B : List Family) (lookup : List ℕ) → Holds B n nodes lookup → at B z ≡ lacking level (at B p)
-  pub holds : (B : List Family) (lookup : List ℕ) → Holds B n nodes lookup → at B o ≡ holding level (at B p)
 
 -- the two sides, or words that no sound store has
 pub data SidesOf (nodes : List ℕ) (n p level : ℕ) : Sides → Type 0 where

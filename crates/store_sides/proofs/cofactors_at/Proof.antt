@@ -4,7 +4,7 @@
 use Prim.Native.Nat.{_≤_}
 use native.Mathlib.Omega.{arith}
 use Rattle.store.specs.Words.{topAt}
-use Rattle.store_sides.specs.Inner.{halves, none}
+use Rattle.store_sides.specs.Inner.{split, none}
 use Rattle.store_sides.proofs.Splitting.{halves-below, is-inner, zero-inside, one-inside, halves-here}
 use borrow.Author.Needs.{needs}
 use Rattle.store_sides.proofs.cofactors_at.Statement.{statement}
@@ -32,7 +32,7 @@ returns c =
     let at-start : tie.Start = search in
     let a = at-start .args in
     let pre = at-start .pre in
-    halves (halves-below (a .nodes .now) (a .count) (a .p) (a .level) (pre .held) (pre .some) (omega (arith, pre .top-is, c .if1 .taken)))
+    split (halves-below (a .nodes .now) (a .count) (a .p) (a .level) (pre .held) (pre .some) (omega (arith, pre .top-is, c .if1 .taken)))
 
 sub-base : tie.Need-sub-base
 sub-base c = here c .inner
@@ -88,7 +88,7 @@ returns-4 c =
     let at-if1 : tie.Else1 = search in
     let a = (start-of at-if1) .args in
     let pre = (start-of at-if1) .pre in
-    halves (halves-here (a .nodes .now) (a .count) (a .p) (a .level) (pre .held) (pre .some) (here at-if1 .high) (here at-if1 .fits) (at-if2 .if2 .left) (at-if3 .if3 .left))
+    split (halves-here (a .nodes .now) (a .count) (a .p) (a .level) (pre .held) (pre .some) (here at-if1 .high) (here at-if1 .fits) (at-if2 .if2 .left) (at-if3 .if3 .left))
 
 pub cofactors-at-spec : {M : Type 1} → statement M
 cofactors-at-spec =

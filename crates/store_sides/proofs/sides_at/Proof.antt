@@ -1,8 +1,8 @@
 -- `sides_at` hands on the two sides with their tops, each tested before; where a test fails, the words hold no book.
 -- The sides are those of `cofactors_at`, and low in every book.
 use native.Mathlib.Omega.{arith}
-use Rattle.store_sides.specs.Inner.{Halves, two, broken}
-use Rattle.store_sides.proofs.Splitting.{low-now, with-tops}
+use Rattle.store_sides.specs.Inner.{two, broken}
+use Rattle.store_sides.proofs.Splitting.{low-now}
 use Rattle.store_sides.proofs.Answers.{halves-two, halves-none}
 use borrow.Author.Needs.{needs}
 use Rattle.store_sides.proofs.sides_at.Statement.{statement}
@@ -64,7 +64,7 @@ returns-4 c =
     let at-zero : tie.After-zero = search in
     let at-cofactors : tie.After-cofactors-at = search in
     let K = halves-two (at-zero .zero .given .1) (at-cofactors .cofactors-at .ensures) in
-    two (with-tops K (at-ztop .top-of2 .ensures) (at-otop .top-of3 .ensures) (at-if1 .if1 .left) (c .if2 .left))
+    two record { halves = K; ztop = at-ztop .top-of2 .ensures; otop = at-otop .top-of3 .ensures; zero-below = at-if1 .if1 .left; one-below = c .if2 .left }
 
 pub sides-at-spec : {M : Type 1} → statement M
 sides-at-spec =

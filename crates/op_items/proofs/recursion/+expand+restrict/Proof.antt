@@ -134,11 +134,11 @@ expand-restrict-requires-2 t c κs =
         taken = record {
           roomy = kept-roomy L (I .roomy);
           operation = I .operation;
-          held = omega (arith, K .one-within, L .grows);
+          held = omega (arith, K .halves .one-within, L .grows);
           item-some = I .item-some;
           item-low = I .item-low;
         };
-        level-is = omega (arith, K .otop, kept-top L _ (K .one-within));
+        level-is = omega (arith, K .otop, kept-top L _ (K .halves .one-within));
         level-low = omega (arith, K .one-below, p .1 .asks .level-low);
       },
     )
