@@ -132,9 +132,9 @@ expand-apply-requires t c κs =
     let I = p .1 .asks .taken in (
       omega (arith, p .0, K .lower),
       record {
-        taken = record { roomy = I .roomy; operation = I .operation; first = K .first .zero-within; second = K .second .zero-within };
-        first-low = K .first .zero-low;
-        second-low = K .second .zero-low;
+        taken = search needs;
+        first-low = search;
+        second-low = search;
         limit-low = omega (arith, K .lower, p .1 .asks .limit-low);
       },
     )
