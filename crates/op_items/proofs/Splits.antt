@@ -1,7 +1,8 @@
--- An operation on a family and an item below its top is the node of the operations on the two sides.
+-- An operation on a family and an item below its top is the node of the operations on the two sides; above the top
+-- Subset1 and Subset0 are at hand.
 -- The sides that the words give are those of the family, and a restriction goes part by part.
-use Prim.Native.Nat.{ℕ, _+_, _-_, _≤_}
-use mathlib.Core.Path.{sym, ap, _∙_}
+use Prim.Native.Nat.{ℕ, _+_, _-_, _≤_, _<_}
+use mathlib.Core.Path.{_≡_, sym, ap, _∙_}
 use mathlib.Core.List.{List}
 use native.Mathlib.Omega.{arith}
 use Rattle.family.specs.Family.{top}
@@ -11,10 +12,23 @@ use Rattle.store.proofs.Held.{top-at, low-at}
 use Rattle.op_cache.specs.declared.Call.{Call}
 use Rattle.store.proofs.Naming.{named-item, restrict-step, restrict-within}
 use Rattle.store.specs.declared.record.Store.{Store}
+use Rattle.store.specs.Coded.{placedAs}
+use Rattle.store.specs.Inner.{Ran}
+use Rattle.store.proofs.Plain.{plain-ran}
 use Rattle.op_terminal.specs.Inner.{ItemCall}
-use Rattle.op_items.specs.Inner.{ItemStepAsks}
+use Rattle.op_terminal.proofs.Restricting.{above-none, above-same}
+use Rattle.op_items.specs.Inner.{RestrictAsks, ItemStepAsks}
 use Rattle.op_step.proofs.Steps.{of, Taken, Split}
 
+-- the item above the top
+module _ {call : Call} {level : ℕ} {s : Store} {nodes lookup : List ℕ} (A : RestrictAsks call level s nodes lookup) (cache : List ℕ) (above : level < call .q) where
+  pub ran-none : call .op ≡ 1 → Ran (of call) s nodes lookup cache (placedAs (s .capacity) (s .count) 0) nodes lookup cache
+  ran-none e = plain-ran (of call) s nodes lookup cache (above-none call s nodes lookup (A .taken) (omega (arith, A .level-is)) e)
+
+  pub ran-whole : call .op ≡ 2 → Ran (of call) s nodes lookup cache (placedAs (s .capacity) (s .count) (call .p)) nodes lookup cache
+  ran-whole e = plain-ran (of call) s nodes lookup cache (above-same call s nodes lookup (A .taken) (omega (arith, A .level-is)) e)
+
+-- the item below it
 module _ {call : Call} {level : ℕ} {s : Store} {nodes lookup : List ℕ} (E : ItemStepAsks call level s nodes lookup) where
   I : ItemCall call s nodes lookup
   I = E .asks .taken

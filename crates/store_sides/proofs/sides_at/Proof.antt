@@ -8,6 +8,10 @@ use borrow.Author.Needs.{needs}
 use Rattle.store_sides.proofs.sides_at.Statement.{statement}
 use Rattle.store_sides.proofs.sides_at.Tie as tie
 
+-- the split, seen from where the sides are at hand
+abbrev split-of : tie.After-zero → tie.After-cofactors-at
+split-of c = search
+
 top-of-requires : tie.Need-top-of-requires
 top-of-requires c κs = search needs
 
@@ -29,31 +33,27 @@ returns c =
 top-of-requires-2 : tie.Need-top-of-requires-2
 top-of-requires-2 c κs =
     let at-zero : tie.After-zero = search in
-    let at-cofactors : tie.After-cofactors-at = search in
-    let K = halves-two (at-zero .zero .given .1) (at-cofactors .cofactors-at .ensures) in
+    let K = halves-two (at-zero .zero .given .1) ((split-of at-zero) .cofactors-at .ensures) in
     search needs
 
 returns-2 : tie.Need-returns-2
 returns-2 c =
     let at-top : tie.After-top-of2 = search in
     let at-zero : tie.After-zero = search in
-    let at-cofactors : tie.After-cofactors-at = search in
-    let K = halves-two (at-zero .zero .given .1) (at-cofactors .cofactors-at .ensures) in
+    let K = halves-two (at-zero .zero .given .1) ((split-of at-zero) .cofactors-at .ensures) in
     broken (λ B lookup H. omega (arith, low-now (K .zero-low) H, at-top .top-of2 .ensures))
 
 top-of-requires-3 : tie.Need-top-of-requires-3
 top-of-requires-3 c κs =
     let at-zero : tie.After-zero = search in
-    let at-cofactors : tie.After-cofactors-at = search in
-    let K = halves-two (at-zero .zero .given .1) (at-cofactors .cofactors-at .ensures) in
+    let K = halves-two (at-zero .zero .given .1) ((split-of at-zero) .cofactors-at .ensures) in
     search needs
 
 returns-3 : tie.Need-returns-3
 returns-3 c =
     let at-top : tie.After-top-of3 = search in
     let at-zero : tie.After-zero = search in
-    let at-cofactors : tie.After-cofactors-at = search in
-    let K = halves-two (at-zero .zero .given .1) (at-cofactors .cofactors-at .ensures) in
+    let K = halves-two (at-zero .zero .given .1) ((split-of at-zero) .cofactors-at .ensures) in
     broken (λ B lookup H. omega (arith, low-now (K .one-low) H, at-top .top-of3 .ensures))
 
 returns-4 : tie.Need-returns-4
@@ -62,8 +62,7 @@ returns-4 c =
     let at-if1 : tie.Else1 = search in
     let at-ztop : tie.After-top-of2 = search in
     let at-zero : tie.After-zero = search in
-    let at-cofactors : tie.After-cofactors-at = search in
-    let K = halves-two (at-zero .zero .given .1) (at-cofactors .cofactors-at .ensures) in
+    let K = halves-two (at-zero .zero .given .1) ((split-of at-zero) .cofactors-at .ensures) in
     two record { halves = K; ztop = at-ztop .top-of2 .ensures; otop = at-otop .top-of3 .ensures; zero-below = at-if1 .if1 .left; one-below = c .if2 .left }
 
 pub sides-at-spec : {M : Type 1} → statement M

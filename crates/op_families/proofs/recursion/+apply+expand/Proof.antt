@@ -79,9 +79,12 @@ apply-returns-2 t c =
     let at-start : apply-lts.Start (apply-claims t) (apply-at t) apply.Post = search in
     ran-ordered (at-ordered .ordered .ensures) (at-start .pre .1) (at-start .args .cache .now) (at-expand .expand .ensures)
 
--- the start, seen from where the sides are at hand
+-- the start and the fork, seen from where the sides are at hand
 abbrev start-of : (t : ℕ) → expand-lts.After-level (expand-claims t) (expand-at t) expand.Post → expand-lts.Start (expand-claims t) (expand-at t) expand.Post
 start-of t c = search
+
+abbrev fork-of : (t : ℕ) → expand-lts.After-level (expand-claims t) (expand-at t) expand.Post → expand-lts.After-fork-at (expand-claims t) (expand-at t) expand.Post
+fork-of t c = search
 
 expand-recall-requires : (t : ℕ) → expand-lts.Need-recall-requires (expand-claims t) (expand-at t) expand.Post
 expand-recall-requires t c κs =
@@ -125,10 +128,9 @@ expand-returns-2 t c =
 expand-apply-requires : (t : ℕ) → expand-lts.Need-apply-requires (expand-claims t) (expand-at t) expand.Post
 expand-apply-requires t c κs =
     let at-level : expand-lts.After-level (expand-claims t) (expand-at t) expand.Post = search in
-    let at-fork-at : expand-lts.After-fork-at (expand-claims t) (expand-at t) expand.Post = search in
     let at-start = start-of t at-level in
     let p = at-start .pre in
-    let K = fork-two (at-level .level .given .1) (at-fork-at .fork-at .ensures) in
+    let K = fork-two (at-level .level .given .1) ((fork-of t at-level) .fork-at .ensures) in
     let I = p .1 .asks .taken in (
       omega (arith, p .0, K .lower),
       record {
@@ -143,11 +145,10 @@ expand-returns-3 : (t : ℕ) → expand-lts.Need-returns-3 (expand-claims t) (ex
 expand-returns-3 t c =
     let at-apply : expand-lts.After-apply (expand-claims t) (expand-at t) expand.Post = search in
     let at-level : expand-lts.After-level (expand-claims t) (expand-at t) expand.Post = search in
-    let at-fork-at : expand-lts.After-fork-at (expand-claims t) (expand-at t) expand.Post = search in
     let at-start = start-of t at-level in
     let a = at-start .args in
     let p = at-start .pre in
-    let K = fork-two (at-level .level .given .1) (at-fork-at .fork-at .ensures) in
+    let K = fork-two (at-level .level .given .1) ((fork-of t at-level) .fork-at .ensures) in
     let R = coded-refused _ (c .if1 .taken) in
     step-first (callOf (a .op) (a .p) (a .q)) _ _ _ (storeOf (a .capacity) (a .count .now)) (a .nodes .now) (a .lookup .now) (a .cache .now) (split-families (p .1 .asks) K) (at-apply .apply .ensures) (R .0) (R .1)
 
@@ -155,10 +156,9 @@ expand-apply-requires-2 : (t : ℕ) → expand-lts.Need-apply-requires-2 (expand
 expand-apply-requires-2 t c κs =
     let at-apply : expand-lts.After-apply (expand-claims t) (expand-at t) expand.Post = search in
     let at-level : expand-lts.After-level (expand-claims t) (expand-at t) expand.Post = search (at-apply) in
-    let at-fork-at : expand-lts.After-fork-at (expand-claims t) (expand-at t) expand.Post = search (at-apply) in
     let at-start = start-of t at-level in
     let p = at-start .pre in
-    let K = fork-two (at-level .level .given .1) (at-fork-at .fork-at .ensures) in
+    let K = fork-two (at-level .level .given .1) ((fork-of t at-level) .fork-at .ensures) in
     let L = at-apply .apply .ensures .kept in
     let I = p .1 .asks .taken in (
       omega (arith, p .0, K .lower),
@@ -181,11 +181,10 @@ expand-returns-4 t c =
     let at-if1 : expand-lts.Else1 (expand-claims t) (expand-at t) expand.Post = search in
     let at-apply : expand-lts.After-apply (expand-claims t) (expand-at t) expand.Post = search (at-if1) in
     let at-level : expand-lts.After-level (expand-claims t) (expand-at t) expand.Post = search (at-apply) in
-    let at-fork-at : expand-lts.After-fork-at (expand-claims t) (expand-at t) expand.Post = search (at-apply) in
     let at-start = start-of t at-level in
     let a = at-start .args in
     let p = at-start .pre in
-    let K = fork-two (at-level .level .given .1) (at-fork-at .fork-at .ensures) in
+    let K = fork-two (at-level .level .given .1) ((fork-of t at-level) .fork-at .ensures) in
     let R = coded-refused _ (c .if2 .taken) in
     step-second (callOf (a .op) (a .p) (a .q)) _ _ _ (storeOf (a .capacity) (a .count .now)) (a .nodes .now) (a .lookup .now) (a .cache .now) (split-families (p .1 .asks) K) (at-apply .apply .ensures) _ (coded-handle _ (at-if1 .if1 .left)) (at-apply2 .apply2 .ensures) (R .0) (R .1)
 
@@ -196,10 +195,9 @@ expand-node-of-requires t c κs =
     let at-if1 : expand-lts.Else1 (expand-claims t) (expand-at t) expand.Post = search in
     let at-apply : expand-lts.After-apply (expand-claims t) (expand-at t) expand.Post = search (at-if1) in
     let at-level : expand-lts.After-level (expand-claims t) (expand-at t) expand.Post = search (at-apply) in
-    let at-fork-at : expand-lts.After-fork-at (expand-claims t) (expand-at t) expand.Post = search (at-apply) in
     let at-start = start-of t at-level in
     let p = at-start .pre in
-    let K = fork-two (at-level .level .given .1) (at-fork-at .fork-at .ensures) in
+    let K = fork-two (at-level .level .given .1) ((fork-of t at-level) .fork-at .ensures) in
     let i = level-item (p .1 .asks) K in
     let N = node-asks (p .1 .asks .taken .roomy) (at-apply .apply .ensures) (coded-handle _ (at-if1 .if1 .left)) (at-apply2 .apply2 .ensures) (coded-handle _ (at-if2 .if2 .left)) (i .0) (i .1) in
     search needs
@@ -213,11 +211,10 @@ expand-returns-5 t c =
     let at-if1 : expand-lts.Else1 (expand-claims t) (expand-at t) expand.Post = search (at-if2) in
     let at-apply : expand-lts.After-apply (expand-claims t) (expand-at t) expand.Post = search (at-if1) in
     let at-level : expand-lts.After-level (expand-claims t) (expand-at t) expand.Post = search (at-apply) in
-    let at-fork-at : expand-lts.After-fork-at (expand-claims t) (expand-at t) expand.Post = search (at-apply) in
     let at-start = start-of t at-level in
     let a = at-start .args in
     let p = at-start .pre in
-    let K = fork-two (at-level .level .given .1) (at-fork-at .fork-at .ensures) in
+    let K = fork-two (at-level .level .given .1) ((fork-of t at-level) .fork-at .ensures) in
     step-done (callOf (a .op) (a .p) (a .q)) _ _ _ (storeOf (a .capacity) (a .count .now)) (a .nodes .now) (a .lookup .now) (a .cache .now) (split-families (p .1 .asks) K) (at-apply .apply .ensures) _ (coded-handle _ (at-if1 .if1 .left)) (at-apply2 .apply2 .ensures) _ (coded-handle _ (at-if2 .if2 .left)) (at-node-of .node-of .ensures) (at-keep .keep .ensures)
 
 pub +apply+expand-spec : {M : Type 1} → statement M

@@ -11,8 +11,7 @@ use Rattle.store_sides.proofs.Answers.{sides-two, sides-broken}
 use Rattle.op_cache.specs.Inner.{callOf}
 use Rattle.op_step.proofs.Steps.{node-asks, step-first, step-second, step-done}
 use Rattle.op_step.proofs.Outcomes.{ran-broken, ran-recalled}
-use Rattle.op_terminal.proofs.Restricting.{above-none, above-same}
-use Rattle.op_items.proofs.Splits.{split-item}
+use Rattle.op_items.proofs.Splits.{ran-none, ran-whole, split-item}
 use borrow.Author.Needs.{needs}
 use borrow.Fn.Kinds.{In}
 use borrow.Fn.PlainCycle.{Measures, is, falls, and}
@@ -56,9 +55,12 @@ expand-claims t = (group-of-reads.Asked, group-of-reads.Learnt, recall-reads.Ask
 abbrev restrict-claims : ℕ → restrict-lts.Claims
 restrict-claims t = (leaf-reads.Asked, leaf-reads.Learnt, expand-below t, expand.Post)
 
--- the start, seen from where the sides are at hand
+-- the start and the split, seen from where the sides are at hand
 abbrev start-of : (t : ℕ) → expand-lts.After-p0 (expand-claims t) (expand-at t) expand.Post → expand-lts.Start (expand-claims t) (expand-at t) expand.Post
 start-of t c = search
+
+abbrev split-of : (t : ℕ) → expand-lts.After-p0 (expand-claims t) (expand-at t) expand.Post → expand-lts.After-sides-at (expand-claims t) (expand-at t) expand.Post
+split-of t c = search
 
 expand-recall-requires : (t : ℕ) → expand-lts.Need-recall-requires (expand-claims t) (expand-at t) expand.Post
 expand-recall-requires t c κs =
@@ -100,10 +102,9 @@ expand-returns-2 t c =
 expand-restrict-requires : (t : ℕ) → expand-lts.Need-restrict-requires (expand-claims t) (expand-at t) expand.Post
 expand-restrict-requires t c κs =
     let at-p0 : expand-lts.After-p0 (expand-claims t) (expand-at t) expand.Post = search in
-    let at-sides-at : expand-lts.After-sides-at (expand-claims t) (expand-at t) expand.Post = search in
     let at-start = start-of t at-p0 in
     let p = at-start .pre in
-    let K = sides-two (at-p0 .p0 .given .1) (at-sides-at .sides-at .ensures) in
+    let K = sides-two (at-p0 .p0 .given .1) ((split-of t at-p0) .sides-at .ensures) in
     let I = p .1 .asks .taken in
     (omega arith, search needs)
 
@@ -111,11 +112,10 @@ expand-returns-3 : (t : ℕ) → expand-lts.Need-returns-3 (expand-claims t) (ex
 expand-returns-3 t c =
     let at-restrict : expand-lts.After-restrict (expand-claims t) (expand-at t) expand.Post = search in
     let at-p0 : expand-lts.After-p0 (expand-claims t) (expand-at t) expand.Post = search in
-    let at-sides-at : expand-lts.After-sides-at (expand-claims t) (expand-at t) expand.Post = search in
     let at-start = start-of t at-p0 in
     let a = at-start .args in
     let p = at-start .pre in
-    let K = sides-two (at-p0 .p0 .given .1) (at-sides-at .sides-at .ensures) in
+    let K = sides-two (at-p0 .p0 .given .1) ((split-of t at-p0) .sides-at .ensures) in
     let R = coded-refused _ (c .if1 .taken) in
     step-first (callOf (a .op) (a .p) (a .item)) _ _ (a .level) (storeOf (a .capacity) (a .count .now)) (a .nodes .now) (a .lookup .now) (a .cache .now) (split-item (p .1) K) (at-restrict .restrict .ensures) (R .0) (R .1)
 
@@ -123,10 +123,9 @@ expand-restrict-requires-2 : (t : ℕ) → expand-lts.Need-restrict-requires-2 (
 expand-restrict-requires-2 t c κs =
     let at-restrict : expand-lts.After-restrict (expand-claims t) (expand-at t) expand.Post = search in
     let at-p0 : expand-lts.After-p0 (expand-claims t) (expand-at t) expand.Post = search (at-restrict) in
-    let at-sides-at : expand-lts.After-sides-at (expand-claims t) (expand-at t) expand.Post = search (at-restrict) in
     let at-start = start-of t at-p0 in
     let p = at-start .pre in
-    let K = sides-two (at-p0 .p0 .given .1) (at-sides-at .sides-at .ensures) in
+    let K = sides-two (at-p0 .p0 .given .1) ((split-of t at-p0) .sides-at .ensures) in
     let L = at-restrict .restrict .ensures .kept in
     let I = p .1 .asks .taken in (
       omega (arith, p .0, K .one-below),
@@ -149,11 +148,10 @@ expand-returns-4 t c =
     let at-if1 : expand-lts.Else1 (expand-claims t) (expand-at t) expand.Post = search in
     let at-restrict : expand-lts.After-restrict (expand-claims t) (expand-at t) expand.Post = search (at-if1) in
     let at-p0 : expand-lts.After-p0 (expand-claims t) (expand-at t) expand.Post = search (at-restrict) in
-    let at-sides-at : expand-lts.After-sides-at (expand-claims t) (expand-at t) expand.Post = search (at-restrict) in
     let at-start = start-of t at-p0 in
     let a = at-start .args in
     let p = at-start .pre in
-    let K = sides-two (at-p0 .p0 .given .1) (at-sides-at .sides-at .ensures) in
+    let K = sides-two (at-p0 .p0 .given .1) ((split-of t at-p0) .sides-at .ensures) in
     let R = coded-refused _ (c .if2 .taken) in
     step-second (callOf (a .op) (a .p) (a .item)) _ _ (a .level) (storeOf (a .capacity) (a .count .now)) (a .nodes .now) (a .lookup .now) (a .cache .now) (split-item (p .1) K) (at-restrict .restrict .ensures) _ (coded-handle _ (at-if1 .if1 .left)) (at-restrict2 .restrict2 .ensures) (R .0) (R .1)
 
@@ -178,30 +176,23 @@ expand-returns-5 t c =
     let at-if1 : expand-lts.Else1 (expand-claims t) (expand-at t) expand.Post = search (at-if2) in
     let at-restrict : expand-lts.After-restrict (expand-claims t) (expand-at t) expand.Post = search (at-if1) in
     let at-p0 : expand-lts.After-p0 (expand-claims t) (expand-at t) expand.Post = search (at-restrict) in
-    let at-sides-at : expand-lts.After-sides-at (expand-claims t) (expand-at t) expand.Post = search (at-restrict) in
     let at-start = start-of t at-p0 in
     let a = at-start .args in
     let p = at-start .pre in
-    let K = sides-two (at-p0 .p0 .given .1) (at-sides-at .sides-at .ensures) in
+    let K = sides-two (at-p0 .p0 .given .1) ((split-of t at-p0) .sides-at .ensures) in
     step-done (callOf (a .op) (a .p) (a .item)) _ _ (a .level) (storeOf (a .capacity) (a .count .now)) (a .nodes .now) (a .lookup .now) (a .cache .now) (split-item (p .1) K) (at-restrict .restrict .ensures) _ (coded-handle _ (at-if1 .if1 .left)) (at-restrict2 .restrict2 .ensures) _ (coded-handle _ (at-if2 .if2 .left)) (at-node-of .node-of .ensures) (at-keep .keep .ensures)
 
 restrict-returns : (t : ℕ) → restrict-lts.Need-returns (restrict-claims t) (restrict-at t) restrict.Post
 restrict-returns t c =
     let at-if1 : restrict-lts.Then1 (restrict-claims t) (restrict-at t) restrict.Post = search in
     let at-start : restrict-lts.Start (restrict-claims t) (restrict-at t) restrict.Post = search in
-    let a = at-start .args in
-    let p = at-start .pre in
-    plain-ran _ (storeOf (a .capacity) (a .count .now)) (a .nodes .now) (a .lookup .now) (a .cache .now)
-    (above-none (callOf (a .op) (a .p) (a .item)) (storeOf (a .capacity) (a .count .now)) (a .nodes .now) (a .lookup .now) (p .1 .taken) (omega (arith, p .1 .level-is, at-if1 .if1 .taken)) (c .if2 .taken))
+    ran-none (at-start .pre .1) (at-start .args .cache .now) (at-if1 .if1 .taken) (c .if2 .taken)
 
 restrict-returns-2 : (t : ℕ) → restrict-lts.Need-returns-2 (restrict-claims t) (restrict-at t) restrict.Post
 restrict-returns-2 t c =
     let at-if1 : restrict-lts.Then1 (restrict-claims t) (restrict-at t) restrict.Post = search in
     let at-start : restrict-lts.Start (restrict-claims t) (restrict-at t) restrict.Post = search in
-    let a = at-start .args in
-    let p = at-start .pre in
-    plain-ran _ (storeOf (a .capacity) (a .count .now)) (a .nodes .now) (a .lookup .now) (a .cache .now)
-    (above-same (callOf (a .op) (a .p) (a .item)) (storeOf (a .capacity) (a .count .now)) (a .nodes .now) (a .lookup .now) (p .1 .taken) (omega (arith, p .1 .level-is, at-if1 .if1 .taken)) (c .if3 .taken))
+    ran-whole (at-start .pre .1) (at-start .args .cache .now) (at-if1 .if1 .taken) (c .if3 .taken)
 
 restrict-leaf-requires : (t : ℕ) → restrict-lts.Need-leaf-requires (restrict-claims t) (restrict-at t) restrict.Post
 restrict-leaf-requires t c κs =

@@ -11,6 +11,13 @@ use borrow.Author.Needs.{needs}
 use Rattle.op_terminal.proofs.items.leaf.Statement.{statement}
 use Rattle.op_terminal.proofs.items.leaf.Tie as tie
 
+-- the start and the split, seen from where the sides are at hand
+abbrev start-of : tie.After-zero → tie.Start
+start-of c = search
+
+abbrev split-of : tie.After-zero → tie.After-cofactors-at
+split-of c = search
+
 cofactors-at-requires : tie.Need-cofactors-at-requires
 cofactors-at-requires c κs = search needs
 
@@ -39,11 +46,10 @@ same-length-2 c = search needs
 returns-2 : tie.Need-returns-2
 returns-2 c =
     let at-zero : tie.After-zero = search in
-    let at-cofactors : tie.After-cofactors-at = search in
-    let at-start : tie.Start = search in
+    let at-start = start-of at-zero in
     let a = at-start .args in
     let p = at-start .pre in
-    leaf-one (callOf (a .op) (a .p) (a .item)) (storeOf (a .capacity) (a .count .now)) (a .nodes .now) (a .lookup .now) (p .taken) (omega (arith, p .level-is, p .not-below)) (halves-two (at-zero .zero .given .1) (at-cofactors .cofactors-at .ensures)) (c .if1 .taken)
+    leaf-one (callOf (a .op) (a .p) (a .item)) (storeOf (a .capacity) (a .count .now)) (a .nodes .now) (a .lookup .now) (p .taken) (omega (arith, p .level-is, p .not-below)) (halves-two (at-zero .zero .given .1) ((split-of at-zero) .cofactors-at .ensures)) (c .if1 .taken)
 
 same-length-3 : tie.Need-same-length-3
 same-length-3 c = search needs
@@ -51,19 +57,17 @@ same-length-3 c = search needs
 returns-3 : tie.Need-returns-3
 returns-3 c =
     let at-zero : tie.After-zero = search in
-    let at-cofactors : tie.After-cofactors-at = search in
-    let at-start : tie.Start = search in
+    let at-start = start-of at-zero in
     let a = at-start .args in
     let p = at-start .pre in
-    leaf-zero (callOf (a .op) (a .p) (a .item)) (storeOf (a .capacity) (a .count .now)) (a .nodes .now) (a .lookup .now) (p .taken) (omega (arith, p .level-is, p .not-below)) (halves-two (at-zero .zero .given .1) (at-cofactors .cofactors-at .ensures)) (c .if2 .taken)
+    leaf-zero (callOf (a .op) (a .p) (a .item)) (storeOf (a .capacity) (a .count .now)) (a .nodes .now) (a .lookup .now) (p .taken) (omega (arith, p .level-is, p .not-below)) (halves-two (at-zero .zero .given .1) ((split-of at-zero) .cofactors-at .ensures)) (c .if2 .taken)
 
 node-of-requires : tie.Need-node-of-requires
 node-of-requires c κs =
     let at-zero : tie.After-zero = search in
-    let at-cofactors : tie.After-cofactors-at = search in
-    let at-start : tie.Start = search in
+    let at-start = start-of at-zero in
     let p = at-start .pre in
-    let T = halves-two (at-zero .zero .given .1) (at-cofactors .cofactors-at .ensures) in
+    let T = halves-two (at-zero .zero .given .1) ((split-of at-zero) .cofactors-at .ensures) in
     search needs
 
 same-length-4 : tie.Need-same-length-4
@@ -78,11 +82,10 @@ returns-4 c =
     let at-if2 : tie.Else2 = search in
     let at-if1 : tie.Else1 = search in
     let at-zero : tie.After-zero = search in
-    let at-cofactors : tie.After-cofactors-at = search in
-    let at-start : tie.Start = search in
+    let at-start = start-of at-zero in
     let a = at-start .args in
     let p = at-start .pre in
-    leaf-node (callOf (a .op) (a .p) (a .item)) (storeOf (a .capacity) (a .count .now)) (a .nodes .now) (a .lookup .now) (p .taken) (omega (arith, p .level-is, p .not-below)) (halves-two (at-zero .zero .given .1) (at-cofactors .cofactors-at .ensures)) _ (at-if1 .if1 .left) (at-if2 .if2 .left) (at-node-of .node-of .ensures)
+    leaf-node (callOf (a .op) (a .p) (a .item)) (storeOf (a .capacity) (a .count .now)) (a .nodes .now) (a .lookup .now) (p .taken) (omega (arith, p .level-is, p .not-below)) (halves-two (at-zero .zero .given .1) ((split-of at-zero) .cofactors-at .ensures)) _ (at-if1 .if1 .left) (at-if2 .if2 .left) (at-node-of .node-of .ensures)
 
 pub leaf-spec : {M : Type 1} → statement M
 leaf-spec =
