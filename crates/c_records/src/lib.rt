@@ -77,6 +77,7 @@ pub fn number(refusal: Refusal) -> u32
         Refusal::Output => 8,
         Refusal::NoFile => 9,
         Refusal::Damaged => 10,
+        Refusal::AboveLimit => 13,
     }
 }
 

@@ -43,6 +43,10 @@ Ordered empty = Unit {0}
 Ordered base = Unit {0}
 Ordered (node i a b) = (top a < i) × (top b < i) × T (inhabited b) × Ordered a × Ordered b
 
+-- "An item is a number from 1 to 512."
+abbrev pub largestItem : ℕ
+largestItem = 512
+
 -- A family of items from 1 to the limit.
 pub record Within (limit : ℕ) (F : Family) : Type 0 where
   pub ordered : Ordered F

@@ -25,7 +25,6 @@ use Rattle.store.specs.declared.record.Refusal.the-variants.{NoFile}
 use Rattle.store.specs.declared.record.PlaceAnswer.the-variants.{Handle, Refused}
 use Rattle.store.specs.declared.record.Placed.{Placed}
 use Rattle.store.specs.Capacity.{fitting}
-use Rattle.store.specs.Words.{itemLimit}
 use Rattle.store.specs.Promise.{PlaceCall}
 use Rattle.store_undo.specs.Inner.{Finished}
 use Rattle.store.specs.Inner.{Roomy, Holds}
@@ -50,28 +49,28 @@ module _ (file : List ℕ) (n : ℕ) where
   refusal-short l = rw (lt-ltb n (6 * length file) l)
 
   module _ (l : 6 * length file ≤ n) where
-    refusal-none : familyOf itemLimit file ≡ none → loadRefusal file n ≡ 9
+    refusal-none : familyOf limit file ≡ none → loadRefusal file n ≡ 9
     unfolding loadRefusal
     refusal-none e = rw (le-ltb n (6 * length file) l, e)
 
-    refusal-found : (F : Family) → familyOf itemLimit file ≡ some F → loadRefusal file n ≡ 0
+    refusal-found : (F : Family) → familyOf limit file ≡ some F → loadRefusal file n ≡ 0
     unfolding loadRefusal
     refusal-found F e = rw (le-ltb n (6 * length file) l, e)
 
-family-found : (file : List ℕ) (F : Family) → familyOf itemLimit file ≡ some F → loadFamily file ≡ F
+family-found : (file : List ℕ) (F : Family) → familyOf limit file ≡ some F → loadFamily file ≡ F
 unfolding loadFamily
 family-found file F e = rw e
 
 -- what the reader said
-none-of : {file words : List ℕ} {b : ℕ} {x : Content} → x ≡ Bad → Holding file b words x → familyOf itemLimit file ≡ none
+none-of : {file words : List ℕ} {b : ℕ} {x : Content} → x ≡ Bad → Holding file b words x → familyOf limit file ≡ none
 none-of e A = out (rw e at A)
   where
-    out : {file words : List ℕ} {b : ℕ} → Holding file b words Bad → familyOf itemLimit file ≡ none
+    out : {file words : List ℕ} {b : ℕ} → Holding file b words Bad → familyOf limit file ≡ none
     out (holds-none is) = is
 
 record LeafRead (file : List ℕ) (h : ℕ) : Type 0 where
   low : h < 2
-  is : familyOf itemLimit file ≡ some (at start h)
+  is : familyOf limit file ≡ some (at start h)
 
 leaf-of : {file words : List ℕ} {b : ℕ} {x : Content} (h : ℕ) → x ≡ Leaf h → Holding file b words x → LeafRead file h
 leaf-of h e A = out (rw e at A)
@@ -81,7 +80,7 @@ leaf-of h e A = out (rw e at A)
 
 pub record PartsRead (file : List ℕ) (b : ℕ) (words : List ℕ) (n : ℕ) : Type 0 where
   pub book : List Family
-  pub is : familyOf itemLimit file ≡ some (at book (n + 1))
+  pub is : familyOf limit file ≡ some (at book (n + 1))
   pub few : n ≤ b
   pub low : n < 4294967295
   pub table : Local book n b words
@@ -116,7 +115,7 @@ module _ (s : Store) (nodes lookup cache file words : List ℕ) (r : Placed) whe
       }
 
   module _ (P : Tested s nodes lookup 0 0 0 (length words / 6) (length file)) where
-    e : fitting (s .capacity) (s .count) (length nodes) (length lookup) ≡ true
+    e : fitting s (length nodes) (length lookup) ≡ true
     e = P .fits
 
     module _ {x : Content} {words₁ : List ℕ} (A : ContentOf file words (length file) x words₁) where
@@ -147,7 +146,7 @@ module _ (s : Store) (nodes lookup cache file words : List ℕ) (r : Placed) whe
           (plain-ran (λ B. at start h) s nodes lookup cache (plain-handle (λ B. at start h) s nodes lookup (P .roomy) r h es ea (omega (arith, L .low)) (λ B H. same-leaf B H h (L .low))))
           (finished-gave r (s .count) nodes lookup cache h ea)) (A .long) (A .rest)
         where
-          same-leaf : (B : List Family) → Holds B (s .count) nodes lookup → (h : ℕ) → h < 2 → at B h ≡ at start h
+          same-leaf : {limit : ℕ} (B : List Family) → Holds limit B (s .count) nodes lookup → (h : ℕ) → h < 2 → at B h ≡ at start h
           same-leaf B H h l = by-eq h 0 (λ p t. rw p (at-0 H)) (λ d t. let p : h ≡ 1 = omega arith in rw p (at-1 H))
 
       module _ (n : ℕ) (ex : x ≡ Parts n) where

@@ -8,6 +8,7 @@ use store::record::Refusal;
 use store::record::Store;
 use store::tests::Test;
 use store::tests::tested;
+use store_sides::top_of;
 use store_undo::finish;
 
 // Reads a file and places its family.
@@ -38,6 +39,10 @@ pub fn load(
     match content {
         Content::Leaf(handle) => store.placed(handle),
         Content::Parts(parts) => {
+            // The last part is the family: no item of the file is above its top.
+            if store.limit < top_of(words, parts, parts + 1) {
+                return store.refused(Refusal::AboveLimit);
+            }
             let placed = place_parts(store, nodes, lookup, words, file.len(), parts);
             finish(placed, store.count, nodes, lookup, cache)
         }

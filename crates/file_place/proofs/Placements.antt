@@ -9,7 +9,7 @@ use native.Mathlib.Numerals.{add-one}
 use lib.ListN.{length, getD, set, take, drop, length-set, length-drop, take-append-drop}
 use lib.Seq.{take-suc, take-all, getD-drop, getD-set-same, getD-set-other}
 use borrow.Author.Tests.{lt-ltb, le-ltb}
-use Rattle.family.specs.Family.{Family, empty, node, Within}
+use Rattle.family.specs.Family.{Family, empty, node, Within, largestItem}
 use Rattle.family.specs.Book.{start, at, add, place, made, Grown}
 use Rattle.family.proofs.Diagrams.{mk-node}
 use Rattle.family.proofs.Books.{add-grown, grown-self, grown-trans, grown-length, grown-at}
@@ -19,7 +19,6 @@ use Rattle.store.specs.declared.record.Store.{Store}
 use Rattle.store.specs.declared.record.Refusal.{Refusal}
 use Rattle.store.specs.declared.record.PlaceAnswer.the-variants.{Handle, Refused}
 use Rattle.store.specs.declared.record.Placed.{Placed}
-use Rattle.store.specs.Words.{itemLimit}
 use Rattle.store_node.specs.Inner.{NodeIt}
 use Rattle.store.specs.Inner.{Roomy, Holds, Handed, Outcome, gave, Kept}
 use Rattle.store.proofs.Held.{at-0, at-1, within}
@@ -90,7 +89,7 @@ upto-all B C n e = ap (λ X. foldl add B X) (take-all n (drop 2 C) (rw length-dr
 
 -- the book of the store after k turns, and what the handles mean in it
 pub record Stored (B C : List Family) (k b : ℕ) (words : List ℕ) (count : ℕ) (nodes lookup : List ℕ) : Type 0 where
-  pub holds : Holds (upto B C k) count nodes lookup
+  pub holds : Holds limit (upto B C k) count nodes lookup
   pub means : (p : ℕ) → p < k + 2 → at (upto B C k) (handleIn b words p) ≡ at C p
 
 pub record Turns (s : Store) (nodes₀ lookup₀ words₀ : List ℕ) (b n k : ℕ) (current : Store) (nodes lookup words : List ℕ) : Type 0 where
@@ -100,7 +99,7 @@ pub record Turns (s : Store) (nodes₀ lookup₀ words₀ : List ℕ) (b n k : �
   pub most : k ≤ n
   pub kept : Kept s nodes₀ lookup₀ current nodes lookup
   pub handles : Handles k b (current .count) words
-  pub sound : (B C : List Family) → Holds B (s .count) nodes₀ lookup₀ → Local C n b words₀ → Stored B C k b words (current .count) nodes lookup
+  pub sound : (B C : List Family) → Holds limit B (s .count) nodes₀ lookup₀ → Local C n b words₀ → Stored B C k b words (current .count) nodes lookup
 
 module _ (s : Store) (nodes₀ lookup₀ words₀ : List ℕ) (b n : ℕ) where
   pub turns-start : Roomy s nodes₀ lookup₀ → Turns s nodes₀ lookup₀ words₀ b n 0 s nodes₀ lookup₀ words₀
@@ -115,7 +114,7 @@ module _ (s : Store) (nodes₀ lookup₀ words₀ : List ℕ) (b n : ℕ) where
         sound = λ B C H L. record { holds = rw (upto-none B C) H; means = λ p l. rw (upto-none B C, handle-leaf b words₀ p l) (leaf-at B C H L p l) };
       }
     where
-      leaf-at : (B C : List Family) → Holds B (s .count) nodes₀ lookup₀ → Local C n b words₀ → (p : ℕ) → p < 0 + 2 → at B p ≡ at C p
+      leaf-at : (B C : List Family) → Holds limit B (s .count) nodes₀ lookup₀ → Local C n b words₀ → (p : ℕ) → p < 0 + 2 → at B p ≡ at C p
       leaf-at B C H L p l =
           by-eq p 0
           (λ e t. rw e (at-0 H ∙ sym (at-0 L)))
@@ -151,7 +150,7 @@ module _ (s : Store) (nodes₀ lookup₀ words₀ : List ℕ) (b n : ℕ) where
         kept-on = kept-trans (I .kept) (P .kept)
 
         -- what the turn gives, in the book so far
-        module _ (B C : List Family) (H : Holds B (s .count) nodes₀ lookup₀) (L : Local C n b words₀) where
+        module _ (B C : List Family) (H : Holds limit B (s .count) nodes₀ lookup₀) (L : Local C n b words₀) where
           D : List Family
           D = upto B C k
 
@@ -167,10 +166,10 @@ module _ (s : Store) (nodes₀ lookup₀ words₀ : List ℕ) (b n : ℕ) where
           family-is : at C (k + 2) ≡ node (getD words (3 * k) 0) (at (upto B C k) (handleIn b words (getD words (3 * k + 1) 0))) (at (upto B C k) (handleIn b words (getD words (3 * k + 2) 0)))
           family-is = L .each k l .is ∙ rw (zero-is, one-is, item-same)
 
-          is-within : Within itemLimit (node (getD words (3 * k) 0) (at (upto B C k) (handleIn b words (getD words (3 * k + 1) 0))) (at (upto B C k) (handleIn b words (getD words (3 * k + 2) 0))))
+          is-within : Within largestItem (node (getD words (3 * k) 0) (at (upto B C k) (handleIn b words (getD words (3 * k + 1) 0))) (at (upto B C k) (handleIn b words (getD words (3 * k + 2) 0))))
           is-within = rw family-is at (within L (k + 2) (omega arith))
 
-          turn-answer : Outcome (add (upto B C k) (at C (k + 2))) (at C (k + 2)) (current .capacity) (r .store .count) nodes₁ lookup₁ (r .answer)
+          turn-answer : Outcome limit (add (upto B C k) (at C (k + 2))) (at C (k + 2)) (current .capacity) (r .store .count) nodes₁ lookup₁ (r .answer)
           turn-answer =
               let o = is-within .ordered in
               rw family-is
@@ -195,7 +194,7 @@ module _ (s : Store) (nodes₀ lookup₀ words₀ : List ℕ) (b n : ℕ) where
                     (λ d t. rw (handle-old b words k h p (omega arith)) (omega (arith, I .handles .each p (omega arith), P .kept .grows))));
               }
 
-          stored : (B C : List Family) → Holds B (s .count) nodes₀ lookup₀ → Local C n b words₀ → Stored B C (k + 1) b words₁ (r .store .count) nodes₁ lookup₁
+          stored : (B C : List Family) → Holds limit B (s .count) nodes₀ lookup₀ → Local C n b words₀ → Stored B C (k + 1) b words₁ (r .store .count) nodes₁ lookup₁
           stored B C H L =
               let G = handed-of e (turn-answer B C H L) in
               let old = S B C H L in
@@ -232,7 +231,7 @@ module _ (s : Store) (nodes₀ lookup₀ words₀ : List ℕ) (b n : ℕ) where
               };
             }
           where
-            longer : (C : List Family) → Local C n b words₀ → place start (at C (n + 1)) ≡ C → (B : List Family) → Holds B (s .count) nodes₀ lookup₀
+            longer : (C : List Family) → Local C n b words₀ → place start (at C (n + 1)) ≡ C → {limit : ℕ} (B : List Family) → Holds limit B (s .count) nodes₀ lookup₀
                 → length (add (upto B C k) (at C (k + 2))) ≤ length (place B (at C (n + 1)))
             longer C L own B H =
                 rw (← upto-next B C k (inside-local B C H L), ← place-own B (at C (n + 1)) (H .book), own) (grown-length (upto-grown B C (k + 1)))
@@ -257,8 +256,8 @@ module _ (s : Store) (nodes₀ lookup₀ words₀ : List ℕ) (b n : ℕ) where
           last : handleIn b words (n + 1) ≤ current .count + 1
           last = I .handles .each (n + 1) (omega (arith, all))
 
-          handed : (C : List Family) → Local C n b words₀ → place start (at C (n + 1)) ≡ C → (B : List Family) → Holds B (s .count) nodes₀ lookup₀
-              → Handed (place B (at C (n + 1))) (at C (n + 1)) (handleIn b words (n + 1)) (current .count) nodes lookup
+          handed : (C : List Family) → Local C n b words₀ → place start (at C (n + 1)) ≡ C → {limit : ℕ} (B : List Family) → Holds limit B (s .count) nodes₀ lookup₀
+              → Handed limit (place B (at C (n + 1))) (at C (n + 1)) (handleIn b words (n + 1)) (current .count) nodes lookup
           handed C L own B H =
               let S = I .sound B C H L in
               let e : place B (at C (n + 1)) ≡ upto B C k = sym (place-own B (at C (n + 1)) (H .book)) ∙ ap (λ X. foldl add B (drop 2 X)) own ∙ sym (upto-all B C n (L .size)) ∙ ap (λ j. upto B C j) (sym all) in

@@ -2,7 +2,7 @@
 ghost use mathlib.Core.Path.{_≡_};
 ghost use Prim.Native.Nat.{_+_, _*_, _<_, _≤_};
 ghost use lib.ListN.{length, getD};
-ghost use Rattle.store_node.specs.Inner.{NodeIt};
+ghost use Rattle.store_node.specs.Inner.{NodeGot};
 ghost use Rattle.file_place.specs.Inner.{handleIn, PartAsks, PartsAsks, PlacedOf};
 use store::record::PlaceAnswer;
 use store::record::Placed;
@@ -31,7 +31,7 @@ fn place_part(
     k: u32,
 ) -> Placed
     requires { ⌜ PartAsks store (now nodes) (now lookup) (now words) bytes k ⌝ }
-    ensures { λ r. ⌜ NodeIt store (now (nodes .entry)) (now (lookup .entry)) (getD (now (words .entry)) (3 * k) 0) (handleIn bytes (now (words .entry)) (getD (now (words .entry)) (3 * k + 1) 0)) (handleIn bytes (now (words .entry)) (getD (now (words .entry)) (3 * k + 2) 0)) r (now (nodes .exit)) (now (lookup .exit)) ⌝ }
+    ensures { λ r. ⌜ NodeGot store (now (nodes .entry)) (now (lookup .entry)) (getD (now (words .entry)) (3 * k) 0) (handleIn bytes (now (words .entry)) (getD (now (words .entry)) (3 * k + 1) 0)) (handleIn bytes (now (words .entry)) (getD (now (words .entry)) (3 * k + 2) 0)) r (now (nodes .exit)) (now (lookup .exit)) ⌝ }
 {
     let base = 3 * k as usize;
     let zero = handle_at(words, bytes, words[base + 1]);

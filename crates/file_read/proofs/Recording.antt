@@ -9,11 +9,10 @@ use native.Mathlib.Omega.{arith}
 use lib.Dec.{eqb}
 use lib.ListN.{length, getD, drop, length-drop}
 use borrow.Author.Tests.{eq-eqb, ne-eqb}
-use Rattle.family.specs.Family.{Family, node}
+use Rattle.family.specs.Family.{Family, node, largestItem}
 use Rattle.family.specs.Book.{start, at}
 use Rattle.family.specs.Record.{front, triple, readRecord}
 use Rattle.family.specs.File.{fits, readRecords}
-use Rattle.store.specs.Words.{itemLimit}
 use Rattle.file_record.specs.declared.field.Last.{Last}
 use Rattle.file_record.specs.declared.field.Part.{Part}
 use Rattle.file_parse.specs.declared.Record.{Record}
@@ -42,21 +41,21 @@ none-of e A = out (rw e at A)
 
 -- the turns of the definition
 module _ (m : ℕ) (C : List Family) (pi pn : ℕ) (l : List ℕ) where
-  turn-none : readRecord pi pn l ≡ none → readRecords itemLimit (suc m) C pi pn l ≡ none
+  turn-none : readRecord pi pn l ≡ none → readRecords largestItem (suc m) C pi pn l ≡ none
   turn-none e = rw e
 
   module _ (i z o : ℕ) (r : List ℕ) (e : readRecord pi pn l ≡ some (front (triple i z o) r)) where
-    turn-unfit : fits itemLimit C (triple i z o) ≡ false → readRecords itemLimit (suc m) C pi pn l ≡ none
+    turn-unfit : fits largestItem C (triple i z o) ≡ false → readRecords largestItem (suc m) C pi pn l ≡ none
     turn-unfit d = rw (e, d)
 
-    turn-fit : fits itemLimit C (triple i z o) ≡ true → readRecords itemLimit (suc m) C pi pn l ≡ readRecords itemLimit m (C ++ (node i (at C z) (at C o) ∷ [])) i (suc pn) r
+    turn-fit : fits largestItem C (triple i z o) ≡ true → readRecords largestItem (suc m) C pi pn l ≡ readRecords largestItem m (C ++ (node i (at C z) (at C o) ∷ [])) i (suc pn) r
     turn-fit d = rw (e, d)
 
-turn-end : (C : List Family) (pi pn : ℕ) (l : List ℕ) → length l ≡ 0 → readRecords itemLimit 0 C pi pn l ≡ some C
+turn-end : (C : List Family) (pi pn : ℕ) (l : List ℕ) → length l ≡ 0 → readRecords largestItem 0 C pi pn l ≡ some C
 turn-end C pi pn [] e = refl
 turn-end C pi pn (x ∷ l) e = absurd (omega arith)
 
-turn-over : (C : List Family) (pi pn : ℕ) (l : List ℕ) → (length l ≡ 0 → ⊥) → readRecords itemLimit 0 C pi pn l ≡ none
+turn-over : (C : List Family) (pi pn : ℕ) (l : List ℕ) → (length l ≡ 0 → ⊥) → readRecords largestItem 0 C pi pn l ≡ none
 turn-over C pi pn [] d = absurd (d refl)
 turn-over C pi pn (x ∷ l) d = refl
 
@@ -65,12 +64,12 @@ pub record RecordsTaken (bytes : List ℕ) (n : ℕ) (words₀ : List ℕ) (b : 
   pub long : length words ≡ length words₀
   pub rest : (j : ℕ) → 6 * b ≤ j → getD words j 0 ≡ getD words₀ j 0
   pub most : k ≤ n
-  pub item-low : last .item ≤ itemLimit
+  pub item-low : last .item ≤ largestItem
   pub number-is : last .number ≡ k + 1
   pub used : k + length left ≤ length bytes
   pub book : List Family
   pub table : Local book k b words
-  pub todo : readRecords itemLimit (n - k) book (last .item) (last .number) left ≡ readRecords itemLimit n start 0 1 bytes
+  pub todo : readRecords largestItem (n - k) book (last .item) (last .number) left ≡ readRecords largestItem n start 0 1 bytes
 
 module _ (bytes : List ℕ) (n : ℕ) (words₀ : List ℕ) (b : ℕ) where
   pub taken-start : Local start 0 b words₀ → (last : Last) → last .item ≡ 0 → last .number ≡ 1 → RecordsTaken bytes n words₀ b bytes last 0 words₀
@@ -97,7 +96,7 @@ module _ (bytes : List ℕ) (n : ℕ) (words₀ : List ℕ) (b : ℕ) where
           record {
             long = U .long;
             rest = U .rest;
-            outcome = none-such (sym (U .todo) ∙ ap (λ m. readRecords itemLimit m (U .book) (last .item) (last .number) left) more ∙ turn-none (n - (k + 1)) (U .book) (last .item) (last .number) left (none-of e A));
+            outcome = none-such (sym (U .todo) ∙ ap (λ m. readRecords largestItem m (U .book) (last .item) (last .number) left) more ∙ turn-none (n - (k + 1)) (U .book) (last .item) (last .number) left (none-of e A));
           }
 
       module _ (part : Part) (m : ℕ) (e : x ≡ Taken part m) where
@@ -123,11 +122,11 @@ module _ (bytes : List ℕ) (n : ℕ) (words₀ : List ℕ) (b : ℕ) where
                 long = same;
                 rest = λ j h. T .rest j h ∙ U .rest j h;
                 outcome = none-such (sym (U .todo)
-                    ∙ ap (λ m. readRecords itemLimit m (U .book) (last .item) (last .number) left) more
+                    ∙ ap (λ m. readRecords largestItem m (U .book) (last .item) (last .number) left) more
                     ∙ turn-unfit (n - (k + 1)) (U .book) (last .item) (last .number) left (part .item) (part .zero) (part .one) (drop m left) (R .is) (out (rw d at got)));
               }
             where
-              out : {C : List Family} {words′ : List ℕ} → PartTaken C part k b words′ false → fits itemLimit C (triple (part .item) (part .zero) (part .one)) ≡ false
+              out : {C : List Family} {words′ : List ℕ} → PartTaken C part k b words′ false → fits largestItem C (triple (part .item) (part .zero) (part .one)) ≡ false
               out (unfit e) = e
 
           pub taken-step : r ≡ true → (last′ : Last) {left′ : List ℕ} → last′ .item ≡ part .item → last′ .number ≡ k + 1 + 1 → left′ ≡ drop m left → RecordsTaken bytes n words₀ b left′ last′ (k + 1) words′
@@ -142,22 +141,22 @@ module _ (bytes : List ℕ) (n : ℕ) (words₀ : List ℕ) (b : ℕ) where
                 used = omega (arith, U .used, R .fits-in, R .some-bytes, ap length el, length-drop m left);
                 book = U .book ++ (node (part .item) (at (U .book) (part .zero)) (at (U .book) (part .one)) ∷ []);
                 table = F .1;
-                todo = rw (ei, el) (ap (λ x. readRecords itemLimit (n - (k + 1)) (U .book ++ (node (part .item) (at (U .book) (part .zero)) (at (U .book) (part .one)) ∷ [])) (part .item) x (drop m left)) (omega (arith, U .number-is))
+                todo = rw (ei, el) (ap (λ x. readRecords largestItem (n - (k + 1)) (U .book ++ (node (part .item) (at (U .book) (part .zero)) (at (U .book) (part .one)) ∷ [])) (part .item) x (drop m left)) (omega (arith, U .number-is))
                     ∙ sym (turn-fit (n - (k + 1)) (U .book) (last .item) (last .number) left (part .item) (part .zero) (part .one) (drop m left) (R .is) (F .0))
-                    ∙ ap (λ m. readRecords itemLimit m (U .book) (last .item) (last .number) left) (sym more)
+                    ∙ ap (λ m. readRecords largestItem m (U .book) (last .item) (last .number) left) (sym more)
                     ∙ U .todo);
               }
             where
               out : {C : List Family} {words′ : List ℕ} → PartTaken C part k b words′ true
-                  → (fits itemLimit C (triple (part .item) (part .zero) (part .one)) ≡ true) × Local (C ++ (node (part .item) (at C (part .zero)) (at C (part .one)) ∷ [])) (k + 1) b words′
+                  → (fits largestItem C (triple (part .item) (part .zero) (part .one)) ≡ true) × Local (C ++ (node (part .item) (at C (part .zero)) (at C (part .one)) ∷ [])) (k + 1) b words′
               out (fit e L) = (e, L)
 
     module _ (l : n ≤ k) where
       all : k ≡ n
       all = omega (arith, U .most)
 
-      done : readRecords itemLimit n start 0 1 bytes ≡ readRecords itemLimit 0 (U .book) (last .item) (last .number) left
-      done = let e : n - k ≡ 0 = omega arith in sym (U .todo) ∙ ap (λ m. readRecords itemLimit m (U .book) (last .item) (last .number) left) e
+      done : readRecords largestItem n start 0 1 bytes ≡ readRecords largestItem 0 (U .book) (last .item) (last .number) left
+      done = let e : n - k ≡ 0 = omega arith in sym (U .todo) ∙ ap (λ m. readRecords largestItem m (U .book) (last .item) (last .number) left) e
 
       pub taken-end : length left ≡ 0 → RecordsOf bytes n words₀ b true words
       taken-end e =

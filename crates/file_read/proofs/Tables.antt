@@ -15,13 +15,12 @@ use borrow.Author.Tests.{eq-eqb, ne-eqb}
 use Rattle.words.specs.Words.{zeroed}
 use Rattle.words.proofs.Cases.{by-eq}
 use Rattle.words.proofs.Zeroed.{zeros-length, zero-getD, zeroed-length, zeroed-inside, zeroed-after}
-use Rattle.family.specs.Family.{Family}
+use Rattle.family.specs.Family.{Family, largestItem}
 use Rattle.family.specs.Book.{start, at, place}
 use Rattle.family.specs.File.{order, readRecords, lastOf}
 use Rattle.family.proofs.Books.{book-start}
 use Rattle.family.proofs.Orders.{grown-all, order-sound}
 use Rattle.table.specs.Entered.{entered}
-use Rattle.store.specs.Words.{itemLimit}
 use Rattle.store.specs.Inner.{Holds}
 use Rattle.store.proofs.Held.{held}
 use Rattle.file_read.specs.declared.order.Order.{Order}
@@ -47,7 +46,7 @@ module _ (b : ℕ) (words : List ℕ) (room : 6 * b ≤ length words) where
   unfolding entered
   blank-table e =
       rw e record {
-        book = book-start itemLimit;
+        book = book-start largestItem;
         size = refl;
         each = λ k l. absurd (omega arith);
         lookup-is = empty-slots ∙ ap (λ n. replicate n 0) (sym (slots-length b (zeroed (3 * b) (5 * b) words) (omega (arith, long))));
@@ -57,7 +56,7 @@ module _ (b : ℕ) (words : List ℕ) (room : 6 * b ≤ length words) where
   blank-rest e j h = ap (λ x. getD x j 0) e ∙ zeroed-after (3 * b) (5 * b) words (omega arith) (omega arith) j (omega arith)
 
 -- the last family
-module _ {C : List Family} {n : ℕ} {words lookup : List ℕ} (H : Holds C n words lookup) where
+module _ {C : List Family} {n : ℕ} {words lookup : List ℕ} (H : Holds limit C n words lookup) where
   lasts : (m : ℕ) → order C (at C (n + 1)) 2 ≡ some m → lastOf n C ≡ cond (eqb m (n + 2)) (some (at C (n + 1))) none
   unfolding lastOf
   lasts m e = let q : n + 2 ≡ suc (suc n) = omega arith in rw (q, add-one n) (rw (rw (add-one n) at e))
@@ -68,19 +67,19 @@ module _ {C : List Family} {n : ℕ} {words lookup : List ℕ} (H : Holds C n wo
 
   is-own : order C (at C (n + 1)) 2 ≡ some (n + 2) → place start (at C (n + 1)) ≡ C
   is-own e =
-      let P = order-sound C (H .book) (at C (n + 1)) start (book-start itemLimit) (H .book .begins) (held H (n + 1) (omega arith)) (n + 2) e in
+      let P = order-sound C (H .book) (at C (n + 1)) start (book-start largestItem) (H .book .begins) (held H (n + 1) (omega arith)) (n + 2) e in
       grown-all (P .grows) (P .ends ∙ sym (H .size))
 
 -- what the reader of the records said
-pub read-none : {bytes words : List ℕ} {n b : ℕ} {r : Bool} → r ≡ false → Reading bytes n b words r → readRecords itemLimit n start 0 1 bytes ≡ none
+pub read-none : {bytes words : List ℕ} {n b : ℕ} {r : Bool} → r ≡ false → Reading bytes n b words r → readRecords largestItem n start 0 1 bytes ≡ none
 read-none e A = out (rw e at A)
   where
-    out : {bytes words : List ℕ} {n b : ℕ} → Reading bytes n b words false → readRecords itemLimit n start 0 1 bytes ≡ none
+    out : {bytes words : List ℕ} {n b : ℕ} → Reading bytes n b words false → readRecords largestItem n start 0 1 bytes ≡ none
     out (none-such is) = is
 
 pub record Whole (bytes : List ℕ) (n b : ℕ) (words : List ℕ) : Type 0 where
   pub book : List Family
-  pub is : readRecords itemLimit n start 0 1 bytes ≡ some book
+  pub is : readRecords largestItem n start 0 1 bytes ≡ some book
   pub few : n ≤ length bytes
   pub table : Local book n b words
 

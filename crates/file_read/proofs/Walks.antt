@@ -66,7 +66,7 @@ module _ (nodes : List ℕ) (n p last : ℕ) (lp : p ≤ n + 1) (some′ : 1 ≤
 
   module _ (later : last < p) {x : Order} (A : OrderOf nodes n (zeroAt nodes p) last x) where
     -- the walk of p by its children: each case of `in_order` is one of its cases
-    walk-node : {B : List Family} {lookup : List ℕ} → Holds B n nodes lookup
+    walk-node : {limit : ℕ} {B : List Family} {lookup : List ℕ} → Holds limit B n nodes lookup
         → order B (at B p) (suc last)
         ≡ andThen (order B (at B (zeroAt nodes p)) (suc last)) (λ n₁. andThen (order B (at B (oneAt nodes p)) n₁) (λ n₂. cond (eqb n₂ p) (some (suc n₂)) none))
     walk-node {B} H =
@@ -75,7 +75,7 @@ module _ (nodes : List ℕ) (n p last : ℕ) (lp : p ≤ n + 1) (some′ : 1 ≤
         ap (λ X. order B X (suc last)) is ∙ order-node B _ _ _ (suc last) (omega (arith, number-is))
         ∙ ap (λ k. andThen (order B (at B (zeroAt nodes p)) (suc last)) (λ n₁. andThen (order B (at B (oneAt nodes p)) n₁) (λ n₂. cond (eqb n₂ k) (some (suc n₂)) none))) number-is
 
-    walk-broken : ((B : List Family) (lookup : List ℕ) → Holds B n nodes lookup → order B (at B p) (suc last) ≡ none) → OrderOf nodes n p last Broken
+    walk-broken : ((limit : ℕ) (B : List Family) (lookup : List ℕ) → Holds limit B n nodes lookup → order B (at B p) (suc last) ≡ none) → OrderOf nodes n p last Broken
     walk-broken f = record { low = λ m d. never d; sound = λ B lookup H. broken (f B lookup H) }
 
     pub walk-first : x ≡ Broken → OrderOf nodes n p last Broken
@@ -100,7 +100,7 @@ module _ (nodes : List ℕ) (n p last : ℕ) (lp : p ≤ n + 1) (some′ : 1 ≤
             }
 
 -- a local book's nodes
-pub local-nodes : {C : List Family} {n : ℕ} {words lookup : List ℕ} → Holds C n words lookup → LocalNodes words n
+pub local-nodes : {limit : ℕ} {C : List Family} {n : ℕ} {words lookup : List ℕ} → Holds limit C n words lookup → LocalNodes words n
 local-nodes H =
     record {
       each = λ k l.

@@ -5,10 +5,9 @@ use mathlib.Core.Bool.{Bool, true, false}
 use mathlib.Core.List.{List}
 use mathlib.Core.Option.{none, some}
 use lib.ListN.{length, getD}
-use Rattle.family.specs.Family.{Family}
+use Rattle.family.specs.Family.{Family, largestItem}
 use Rattle.family.specs.Book.{start, at, place}
 use Rattle.family.specs.File.{readRecords, lastOf, familyOf, order}
-use Rattle.store.specs.Words.{itemLimit}
 use Rattle.file_read.specs.declared.file.Content.{Content}
 use Rattle.file_read.specs.declared.file.Content.the-variants.{Leaf, Parts, Bad}
 use Rattle.file_table.specs.Inner.{Local, LocalNodes}
@@ -31,9 +30,9 @@ pub record RecordsRoom (bytes : List ℕ) (n : ℕ) (words : List ℕ) (b : ℕ)
 
 -- the local book of a file's records, which is its last family's own book; or bytes that give none
 pub data Table (bytes : List ℕ) (n b : ℕ) (words : List ℕ) : Bool → Type 0 where
-  own : {C : List Family} → readRecords itemLimit n start 0 1 bytes ≡ some C → lastOf n C ≡ some (at C (n + 1)) → n ≤ length bytes → Local C n b words → place start (at C (n + 1)) ≡ C → Table bytes n b words true
-  no-records : readRecords itemLimit n start 0 1 bytes ≡ none → Table bytes n b words false
-  no-order : {C : List Family} → readRecords itemLimit n start 0 1 bytes ≡ some C → lastOf n C ≡ none → Table bytes n b words false
+  own : {C : List Family} → readRecords largestItem n start 0 1 bytes ≡ some C → lastOf n C ≡ some (at C (n + 1)) → n ≤ length bytes → Local C n b words → place start (at C (n + 1)) ≡ C → Table bytes n b words true
+  no-records : readRecords largestItem n start 0 1 bytes ≡ none → Table bytes n b words false
+  no-order : {C : List Family} → readRecords largestItem n start 0 1 bytes ≡ some C → lastOf n C ≡ none → Table bytes n b words false
 
 -- what `read_table` does: the words after the scratch of the file stay
 pub record TableOf (bytes : List ℕ) (n : ℕ) (words : List ℕ) (b : ℕ) (r : Bool) (words′ : List ℕ) : Type 0 where
@@ -43,9 +42,9 @@ pub record TableOf (bytes : List ℕ) (n : ℕ) (words : List ℕ) (b : ℕ) (r 
 
 -- what a file holds
 pub data Holding (file : List ℕ) (b : ℕ) (words : List ℕ) : Content → Type 0 where
-  holds-leaf : {h : ℕ} → h < 2 → familyOf itemLimit file ≡ some (at start h) → Holding file b words (Leaf h)
-  holds-parts : {n : ℕ} {C : List Family} → familyOf itemLimit file ≡ some (at C (n + 1)) → n ≤ b → n < 4294967295 → Local C n b words → place start (at C (n + 1)) ≡ C → Holding file b words (Parts n)
-  holds-none : familyOf itemLimit file ≡ none → Holding file b words Bad
+  holds-leaf : {h : ℕ} → h < 2 → familyOf largestItem file ≡ some (at start h) → Holding file b words (Leaf h)
+  holds-parts : {n : ℕ} {C : List Family} → familyOf largestItem file ≡ some (at C (n + 1)) → n ≤ b → n < 4294967295 → Local C n b words → place start (at C (n + 1)) ≡ C → Holding file b words (Parts n)
+  holds-none : familyOf largestItem file ≡ none → Holding file b words Bad
 
 -- what `read_file` and `read_parts` do: the words after the scratch of the file stay
 pub record ContentOf (file words : List ℕ) (b : ℕ) (r : Content) (words′ : List ℕ) : Type 0 where
@@ -55,8 +54,8 @@ pub record ContentOf (file words : List ℕ) (b : ℕ) (r : Content) (words′ :
 
 -- so many records read into the local table, or bytes that are not so many records
 pub data Reading (bytes : List ℕ) (n b : ℕ) (words : List ℕ) : Bool → Type 0 where
-  whole : {C : List Family} → readRecords itemLimit n start 0 1 bytes ≡ some C → n ≤ length bytes → Local C n b words → Reading bytes n b words true
-  none-such : readRecords itemLimit n start 0 1 bytes ≡ none → Reading bytes n b words false
+  whole : {C : List Family} → readRecords largestItem n start 0 1 bytes ≡ some C → n ≤ length bytes → Local C n b words → Reading bytes n b words true
+  none-such : readRecords largestItem n start 0 1 bytes ≡ none → Reading bytes n b words false
 
 -- what `read_records` does: the words after the scratch of the file stay
 pub record RecordsOf (bytes : List ℕ) (n : ℕ) (words : List ℕ) (b : ℕ) (r : Bool) (words′ : List ℕ) : Type 0 where
@@ -72,4 +71,4 @@ pub data Walking (B : List Family) (p last : ℕ) : Order → Type 0 where
 -- what `in_order` gives, where the words hold a book
 pub record OrderOf (nodes : List ℕ) (n p last : ℕ) (r : Order) : Type 0 where
   pub low : (m : ℕ) → r ≡ Upto m → 1 ≤ m
-  pub sound : (B : List Family) (lookup : List ℕ) → Holds B n nodes lookup → Walking B p last r
+  pub sound : {limit : ℕ} (B : List Family) (lookup : List ℕ) → Holds limit B n nodes lookup → Walking B p last r

@@ -10,7 +10,7 @@ use lib.Dec.{eqb}
 use lib.ListN.{length, getD, set, drop}
 use lib.Seq.{sets}
 use borrow.Author.Tests.{ne-eqb}
-use Rattle.family.specs.Family.{Family, empty, base, node}
+use Rattle.family.specs.Family.{Family, empty, base, node, largestItem}
 use Rattle.family.specs.Book.{start, at, place}
 use Rattle.family.specs.Record.{bytesOf}
 use Rattle.family.specs.File.{triplesOf, recordsBytes, fileOfBook, fileOf}
@@ -20,7 +20,7 @@ use Rattle.words.proofs.Zeroed.{rest-drop, zeroed-length, zeroed-inside, zeroed
 use Rattle.store.specs.declared.record.Store.{Store}
 use Rattle.store.specs.declared.record.Refusal.the-variants.{Output}
 use Rattle.store.specs.Scratch.{scratchTests}
-use Rattle.store.specs.Words.{itemLimit, topAt, bookOf}
+use Rattle.store.specs.Words.{topAt, bookOf}
 use Rattle.store.specs.Sound.{Sound}
 use Rattle.store.specs.Inner.{Holds}
 use Rattle.store.proofs.Held.{at-0, at-1, top-at, within, at-node}
@@ -62,7 +62,7 @@ file-written t nodes n links out {out₁} {r} {links′} {out′} h e l W =
       sound = λ B D lookup H T few. W .sound B D lookup (fileOfBook D) out H (T .parts-is) (begun T few);
     }
   where
-    begun : {B D : List Family} → Trailed B D n t links → t .bytes ≤ length out → Writing B D 2 (firstCursor (t .first)) links (fileOfBook D) out out₁
+    begun : {B D : List Family} → Trailed limit B D n t links → t .bytes ≤ length out → Writing limit B D 2 (firstCursor (t .first)) links (fileOfBook D) out out₁
     begun {B} {D} T few =
         let parts : t .parts ≡ length D - 2 = omega (arith, T .parts-is) in
         record {
@@ -84,7 +84,7 @@ abbrev pub startTrail : Trail
 startTrail = record { first = 0; last = 1; item = 0; parts = 0; bytes = 5 }
 
 module _ (s : Store) (p : ℕ) (nodes links out : List ℕ) (two : 2 ≤ p) (lp : p ≤ s .count + 1) where
-  pub parts-damaged : (r : Saved) → r .store ≡ s → itemLimit < topAt nodes p → PartsOf s p nodes links out r links out
+  pub parts-damaged : (r : Saved) → r .store ≡ s → largestItem < topAt nodes p → PartsOf s p nodes links out r links out
   parts-damaged r es h =
       record {
         store-is = es;
@@ -103,7 +103,7 @@ module _ (s : Store) (p : ℕ) (nodes links out : List ℕ) (two : 2 ≤ p) (lp 
     rest₂ : (k : ℕ) → s .count ≤ k → getD links₂ k 0 ≡ getD links k 0
     rest₂ k l = W .rest k l ∙ ap (λ X. getD X k 0) el ∙ zeroed-after 0 (s .count) links (omega arith) room k l
 
-    begun : {B : List Family} {lookup : List ℕ} → Holds B (s .count) nodes lookup → Trailed B start (s .count) startTrail links₁
+    begun : {limit : ℕ} {B : List Family} {lookup : List ℕ} → Holds limit B (s .count) nodes lookup → Trailed limit B start (s .count) startTrail links₁
     begun H = trail-start H links₁ (λ k l. ap (λ X. getD X k 0) el ∙ zeroed-inside 0 (s .count) links (omega arith) room k (omega arith) l) startTrail refl refl refl refl
 
     pub parts-broken : (r : Saved) → r .store ≡ s → x ≡ NoWay → PartsOf s p nodes links out r links₂ out
@@ -118,11 +118,11 @@ module _ (s : Store) (p : ℕ) (nodes links out : List ℕ) (two : 2 ≤ p) (lp 
         }
 
     module _ (t : Trail) (et : x ≡ Went t) where
-      trail : {B : List Family} {lookup : List ℕ} → Holds B (s .count) nodes lookup → Trailed B (place start (at B p)) (s .count) t links₂
+      trail : {limit : ℕ} {B : List Family} {lookup : List ℕ} → Holds limit B (s .count) nodes lookup → Trailed limit B (place start (at B p)) (s .count) t links₂
       trail {B} {lookup} H = came-to t et (W .sound B start lookup H (begun H))
 
       -- the file of a node is that of its own book
-      file-is : {B : List Family} {lookup : List ℕ} → Holds B (s .count) nodes lookup → fileOf (at B p) ≡ fileOfBook (place start (at B p))
+      file-is : {limit : ℕ} {B : List Family} {lookup : List ℕ} → Holds limit B (s .count) nodes lookup → fileOf (at B p) ≡ fileOfBook (place start (at B p))
       file-is {B} H = go (at B p) (at-node H p two (omega arith))
         where
           go : (F : Family) {i : ℕ} {a b : Family} → F ≡ node i a b → fileOf F ≡ fileOfBook (place start F)
@@ -130,7 +130,7 @@ module _ (s : Store) (p : ℕ) (nodes links out : List ℕ) (two : 2 ≤ p) (lp 
           go base e = absurd (let z : _≡_ {A = ℕ} 0 1 = cc in omega arith)
           go (node i a b) e = refl
 
-      length-is : {B : List Family} {lookup : List ℕ} → Holds B (s .count) nodes lookup → t .bytes ≡ length (fileOf (at B p))
+      length-is : {limit : ℕ} {B : List Family} {lookup : List ℕ} → Holds limit B (s .count) nodes lookup → t .bytes ≡ length (fileOf (at B p))
       length-is {B} H = trail H .bytes-is ∙ sym (file-length (place start (at B p))) ∙ ap length (sym (file-is H))
 
       pub parts-short : (r : Saved) → r .store ≡ s → length out < t .bytes → r .answer ≡ Refused Output → PartsOf s p nodes links out r links₂ out
@@ -145,7 +145,7 @@ module _ (s : Store) (p : ℕ) (nodes links out : List ℕ) (two : 2 ≤ p) (lp 
           }
 
       module _ (fit : t .bytes ≤ length out) {y : Bool} {links₃ out₃ : List ℕ} (F : FileOf t nodes (s .count) links₂ out y links₃ out₃) where
-        wrote : {B : List Family} {lookup : List ℕ} → Holds B (s .count) nodes lookup → (y ≡ true) × (out₃ ≡ fileOf (at B p) ++ drop (length (fileOf (at B p))) out)
+        wrote : {limit : ℕ} {B : List Family} {lookup : List ℕ} → Holds limit B (s .count) nodes lookup → (y ≡ true) × (out₃ ≡ fileOf (at B p) ++ drop (length (fileOf (at B p))) out)
         wrote {B} {lookup} H = rw (file-is H) (F .sound B (place start (at B p)) lookup H (trail H) fit)
 
         pub parts-unwritten : (r : Saved) → r .store ≡ s → y ≡ false → PartsOf s p nodes links out r links₃ out₃

@@ -5,7 +5,7 @@ use mathlib.Core.Bool.{Bool, true, cond}
 use mathlib.Core.List.{List, _++_}
 use lib.Dec.{eqb}
 use lib.ListN.{length, getD, set, drop}
-use Rattle.family.specs.Family.{Family}
+use Rattle.family.specs.Family.{Family, largestItem}
 use Rattle.family.specs.Book.{at}
 use Rattle.family.specs.File.{fileOfBook, fileOf}
 use Rattle.store.specs.declared.record.Store.{Store}
@@ -28,13 +28,14 @@ pub record FileOf (t : Trail) (nodes : List ℕ) (n : ℕ) (links out : List ℕ
   pub long : length links′ ≡ length links
   pub long-out : length out′ ≡ length out
   pub rest : (k : ℕ) → n ≤ k → getD links′ k 0 ≡ getD links k 0
-  pub sound : (B D : List Family) (lookup : List ℕ) → Holds B n nodes lookup → Trailed B D n t links → t .bytes ≤ length out → (r ≡ true) × (out′ ≡ fileOfBook D ++ drop (length (fileOfBook D)) out)
+  pub sound : {limit : ℕ} (B D : List Family) (lookup : List ℕ) → Holds limit B n nodes lookup → Trailed limit B D n t links → t .bytes ≤ length out → (r ≡ true) × (out′ ≡ fileOfBook D ++ drop (length (fileOfBook D)) out)
 
 -- what `save_parts` is asked with: the handle of a node, and a link for each node held
 pub record SavePartsAsks (s : Store) (nodes : List ℕ) (p : ℕ) (links : List ℕ) : Type 0 where
   pub lent : Lent nodes (s .count) links
   pub two : 2 ≤ p
   pub inside : p ≤ s .count + 1
+  pub limit-low : s .limit ≤ largestItem
 
 -- the file of a family with parts
 pub record PartsOf (s : Store) (p : ℕ) (nodes links out : List ℕ) (r : Saved) (links′ out′ : List ℕ) : Type 0 where
@@ -42,6 +43,6 @@ pub record PartsOf (s : Store) (p : ℕ) (nodes links out : List ℕ) (r : Saved
   pub long : length links′ ≡ length links
   pub long-out : length out′ ≡ length out
   pub rest : (k : ℕ) → s .count ≤ k → getD links′ k 0 ≡ getD links k 0
-  pub refused : (B : List Family) (lookup : List ℕ) → Holds B (s .count) nodes lookup → length out < length (fileOf (at B p)) → (r .answer ≡ Refused Output) × (out′ ≡ out)
-  pub gave : (B : List Family) (lookup : List ℕ) → Holds B (s .count) nodes lookup → length (fileOf (at B p)) ≤ length out
+  pub refused : {limit : ℕ} (B : List Family) (lookup : List ℕ) → Holds limit B (s .count) nodes lookup → length out < length (fileOf (at B p)) → (r .answer ≡ Refused Output) × (out′ ≡ out)
+  pub gave : {limit : ℕ} (B : List Family) (lookup : List ℕ) → Holds limit B (s .count) nodes lookup → length (fileOf (at B p)) ≤ length out
       → (r .answer ≡ Length (length (fileOf (at B p)))) × (out′ ≡ fileOf (at B p) ++ drop (length (fileOf (at B p))) out)

@@ -47,7 +47,7 @@ saveOutput B p words out = cond (eqb (saveRefusal B p words (length out)) 0) (fi
 -- free, later ones untouched": of the scratch it says which words stay.
 pub record SaveCall (s : Store) (nodes lookup : List ℕ) (p : ℕ) (scratch out : List ℕ) (r : Saved) (scratch′ out′ : List ℕ) : Type 0 where
   -- a certain 10
-  pub misfit : fitting (s .capacity) (s .count) (length nodes) (length lookup) ≡ false → (r .answer ≡ Refused Damaged) × (scratch′ ≡ scratch) × (out′ ≡ out)
+  pub misfit : fitting s (length nodes) (length lookup) ≡ false → (r .answer ≡ Refused Damaged) × (scratch′ ≡ scratch) × (out′ ≡ out)
   -- a sound store; no cache is lent
   pub answer-is : Sound s nodes lookup [] → saveGivenBy (r .answer) ≡ saveAnswer (bookOf nodes (s .count)) p (length scratch) (length out)
   pub out-is : Sound s nodes lookup [] → out′ ≡ saveOutput (bookOf nodes (s .count)) p (length scratch) out

@@ -86,7 +86,7 @@ fn save_parts(store: Store, nodes: &[u32], p: u32, links: &mut [u32], out: &mut 
 {
     let count = store.count;
     let top = top_of(nodes, count, p);
-    if 512 < top {
+    if store.limit < top {
         return Saved {
             store: store,
             answer: SaveAnswer::Refused(Refusal::Damaged),

@@ -8,20 +8,20 @@ use mathlib.Core.List.{List}
 use native.Mathlib.Omega.{arith}
 use lib.Dec.{ltb, leb}
 use borrow.Author.Tests.{lt-ltb, le-ltb, le-leb, lt-leb, ltb-true, leb-true}
-use Rattle.family.specs.Family.{Family, node, top, Within}
+use Rattle.family.specs.Family.{Family, node, top, Within, largestItem}
 use Rattle.family.specs.Book.{at}
 use Rattle.family.specs.Record.{triple}
 use Rattle.family.specs.File.{fits}
 use Rattle.family.proofs.Reading.{Next, fits-next, next-fits}
 use Rattle.words.proofs.Cases.{by-test, clash, and-inv}
-use Rattle.store.specs.Words.{itemLimit, topAt}
+use Rattle.store.specs.Words.{topAt}
 use Rattle.store.proofs.Held.{top-at, within, positive-one}
 use Rattle.file_record.specs.declared.field.Part.{Part}
 use Rattle.file_table.specs.Inner.{Local, follows, Entering, new, old, EnterOf, PartTaken, fit, unfit, TakeOf}
 
 -- what the tests say
 pub record CanFollow (words : List ℕ) (k i z o : ℕ) : Type 0 where
-  pub item : i ≤ itemLimit
+  pub item : i ≤ largestItem
   pub zero-in : z ≤ k + 1
   pub one-in : o ≤ k + 1
   pub one-some : 0 < o
@@ -32,7 +32,7 @@ module _ (words : List ℕ) (k i z o : ℕ) where
   pub follows-is : follows words k i z o ≡ true → CanFollow words k i z o
   unfolding follows
   follows-is e =
-      and-inv (leb i itemLimit) _ e (λ a e. and-inv _ _ e (λ b e. and-inv _ _ e (λ c e. and-inv _ _ e (λ d e. and-inv _ _ e (λ f e.
+      and-inv (leb i largestItem) _ e (λ a e. and-inv _ _ e (λ b e. and-inv _ _ e (λ c e. and-inv _ _ e (λ d e. and-inv _ _ e (λ f e.
       record {
         item = leb-true _ _ a;
         zero-in = leb-true _ _ b;
@@ -46,7 +46,7 @@ module _ (words : List ℕ) (k i z o : ℕ) where
   unfolding follows
   is-follows f =
       rw (
-        le-leb i itemLimit (f .item),
+        le-leb i largestItem (f .item),
         le-leb z (k + 1) (f .zero-in),
         le-leb o (k + 1) (f .one-in),
         lt-ltb 0 o (f .one-some),
@@ -55,38 +55,38 @@ module _ (words : List ℕ) (k i z o : ℕ) where
       )
 
   -- the tests in their order
-  pub next-item : itemLimit < i → false ≡ follows words k i z o
+  pub next-item : largestItem < i → false ≡ follows words k i z o
   unfolding follows
-  next-item h = rw (lt-leb i itemLimit h)
+  next-item h = rw (lt-leb i largestItem h)
 
-  module _ (h₁ : i ≤ itemLimit) where
+  module _ (h₁ : i ≤ largestItem) where
     pub next-zero : k + 1 < z → false ≡ follows words k i z o
     unfolding follows
-    next-zero h = rw (le-leb i itemLimit h₁, lt-leb z (k + 1) h)
+    next-zero h = rw (le-leb i largestItem h₁, lt-leb z (k + 1) h)
 
     module _ (h₂ : z ≤ k + 1) where
       pub next-one : k + 1 < o → false ≡ follows words k i z o
       unfolding follows
-      next-one h = rw (le-leb i itemLimit h₁, le-leb z (k + 1) h₂, lt-leb o (k + 1) h)
+      next-one h = rw (le-leb i largestItem h₁, le-leb z (k + 1) h₂, lt-leb o (k + 1) h)
 
       module _ (h₃ : o ≤ k + 1) where
         pub next-none : o ≡ 0 → false ≡ follows words k i z o
         unfolding follows
-        next-none h = rw (le-leb i itemLimit h₁, le-leb z (k + 1) h₂, le-leb o (k + 1) h₃, le-ltb 0 o (omega arith))
+        next-none h = rw (le-leb i largestItem h₁, le-leb z (k + 1) h₂, le-leb o (k + 1) h₃, le-ltb 0 o (omega arith))
 
         module _ (h₄ : o ≡ 0 → ⊥) where
           pub next-top : i ≤ topAt words z → false ≡ follows words k i z o
           unfolding follows
-          next-top h = rw (le-leb i itemLimit h₁, le-leb z (k + 1) h₂, le-leb o (k + 1) h₃, lt-ltb 0 o (omega arith), le-ltb (topAt words z) i h)
+          next-top h = rw (le-leb i largestItem h₁, le-leb z (k + 1) h₂, le-leb o (k + 1) h₃, lt-ltb 0 o (omega arith), le-ltb (topAt words z) i h)
 
           pub next-last : topAt words z < i → ltb (topAt words o) i ≡ follows words k i z o
           unfolding follows
-          next-last h = rw (le-leb i itemLimit h₁, le-leb z (k + 1) h₂, le-leb o (k + 1) h₃, lt-ltb 0 o (omega arith), lt-ltb (topAt words z) i h)
+          next-last h = rw (le-leb i largestItem h₁, le-leb z (k + 1) h₂, le-leb o (k + 1) h₃, lt-ltb 0 o (omega arith), lt-ltb (topAt words z) i h)
 
 -- the tests are those of the definition, but for whether the node is held
 module _ (words : List ℕ) (b k : ℕ) (part : Part) where
   module _ {C : List Family} (H : Local C k b words) where
-    next-follows : Next itemLimit C (part .item) (part .zero) (part .one) → CanFollow words k (part .item) (part .zero) (part .one)
+    next-follows : Next largestItem C (part .item) (part .zero) (part .one) → CanFollow words k (part .item) (part .zero) (part .one)
     next-follows f =
         record {
           item = f .item;
@@ -104,7 +104,7 @@ module _ (words : List ℕ) (b k : ℕ) (part : Part) where
       one-top : top (at C (part .one)) < part .item
       one-top = omega (arith, f .one-low, top-at H (part .one) (omega (arith, f .one-in)))
 
-      is-within : Within itemLimit (node (part .item) (at C (part .zero)) (at C (part .one)))
+      is-within : Within largestItem (node (part .item) (at C (part .zero)) (at C (part .one)))
       is-within =
           record {
             ordered = (
@@ -119,7 +119,7 @@ module _ (words : List ℕ) (b k : ℕ) (part : Part) where
 
       taken : {r : Bool} {words′ : List ℕ} → Entering C (node (part .item) (at C (part .zero)) (at C (part .one))) k b words′ r → PartTaken C part k b words′ r
       taken (new l L) =
-          fit (next-fits itemLimit C (part .item) (part .zero) (part .one) (record {
+          fit (next-fits largestItem C (part .item) (part .zero) (part .one) (record {
             item = f .item;
             zero-in = omega (arith, f .zero-in, H .size);
             one-in = omega (arith, f .one-in, H .size);
@@ -129,8 +129,8 @@ module _ (words : List ℕ) (b k : ℕ) (part : Part) where
             new = l;
           })) L
       taken (old h) =
-          unfit (by-test (fits itemLimit C (triple (part .item) (part .zero) (part .one)))
-          (λ e. absurd (omega (arith, h, fits-next itemLimit C (part .item) (part .zero) (part .one) e .new))) (λ e. e))
+          unfit (by-test (fits largestItem C (triple (part .item) (part .zero) (part .one)))
+          (λ e. absurd (omega (arith, h, fits-next largestItem C (part .item) (part .zero) (part .one) e .new))) (λ e. e))
 
   pub take-unfit : follows words k (part .item) (part .zero) (part .one) ≡ false → TakeOf words b k part false words
   take-unfit e =
@@ -138,8 +138,8 @@ module _ (words : List ℕ) (b k : ℕ) (part : Part) where
         long = refl;
         rest = λ j h. refl;
         low = λ d. clash d refl;
-        sound = λ C H. unfit (by-test (fits itemLimit C (triple (part .item) (part .zero) (part .one)))
-            (λ d. clash (is-follows words k (part .item) (part .zero) (part .one) (next-follows H (fits-next itemLimit C (part .item) (part .zero) (part .one) d))) e) (λ d. d));
+        sound = λ C H. unfit (by-test (fits largestItem C (triple (part .item) (part .zero) (part .one)))
+            (λ d. clash (is-follows words k (part .item) (part .zero) (part .one) (next-follows H (fits-next largestItem C (part .item) (part .zero) (part .one) d))) e) (λ d. d));
       }
 
   pub take-entered : follows words k (part .item) (part .zero) (part .one) ≡ true → (r : Bool) {words′ : List ℕ} → EnterOf words b k (part .item) (part .zero) (part .one) r words′ → TakeOf words b k part r words′

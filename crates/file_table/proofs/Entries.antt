@@ -9,10 +9,9 @@ use mathlib.Core.Logic.{⊎-elim}
 use native.Mathlib.Omega.{arith}
 use lib.ListN.{length, getD, set, take, drop, length-set}
 use lib.Seq.{length-take-le, getD-take, getD-set-other}
-use Rattle.family.specs.Family.{Family, node, Within}
+use Rattle.family.specs.Family.{Family, node, Within, largestItem}
 use Rattle.family.specs.Book.{at}
 use Rattle.table.specs.Probe.{probeOf}
-use Rattle.store.specs.Words.{itemLimit}
 use Rattle.store.specs.Inner.{Holds, putNode}
 use Rattle.store.proofs.Held.{held}
 use Rattle.store.proofs.Put.{put-length, put-above}
@@ -35,7 +34,7 @@ stored words k i z o place v = refl
 
 module _ (words : List ℕ) (b k i z o slot : ℕ) (room : 6 * b ≤ length words) (below : k < b) (is : slot ≡ probeOf (take (3 * b) words) (localSlots b words) k i z o) where
   -- the local nodes by themselves
-  apart : {C : List Family} → Local C k b words → Holds C k (take (3 * b) words) (localSlots b words)
+  apart : {limit : ℕ} {C : List Family} → Local C k b words → Holds limit C k (take (3 * b) words) (localSlots b words)
   apart H = holds-kept (take (3 * b) words) (localSlots b words) H (λ j l. getD-take (3 * b) words j 0 (omega arith)) (H .lookup-is)
 
   -- what the probe found
@@ -71,7 +70,7 @@ module _ (words : List ℕ) (b k i z o slot : ℕ) (room : 6 * b ≤ length word
           ∙ sym (getD-take (3 * b) (putNode words k i z o) j 0 (omega arith))
           ∙ ap (λ x. getD x j 0) (take-node (3 * b) words k i z o (omega arith))
 
-      grown : {C : List Family} → Local C k b words → z < k + 2 → o < k + 2 → Within itemLimit (node i (at C z) (at C o))
+      grown : {C : List Family} → Local C k b words → z < k + 2 → o < k + 2 → Within largestItem (node i (at C z) (at C o))
           → Absent C k (take (3 * b) words) (localSlots b words) i z o (node i (at C z) (at C o)) slot → Local (C ++ (node i (at C z) (at C o) ∷ [])) (k + 1) b words′
       grown H lz lo w a =
           let G = new-handed (apart H) i z o slot lz lo w a (rw (length-take-le (3 * b) words (omega arith)) (omega arith)) .holds in

@@ -9,7 +9,7 @@ use mathlib.Core.List.{List}
 use native.Mathlib.Omega.{arith}
 use lib.ListN.{length, getD}
 use borrow.Author.Tests.{eq-eqb}
-use Rattle.family.specs.Family.{Family, empty, base, node, top}
+use Rattle.family.specs.Family.{Family, empty, base, node, top, largestItem}
 use Rattle.family.specs.Operation.{lacking, holding}
 use Rattle.family.specs.Book.{at, number, Held, place}
 use Rattle.family.proofs.Books.{add-new, grown-held}
@@ -17,7 +17,7 @@ use Rattle.family.proofs.Placing.{book-place, place-grown, place-held, held-bel
 use Rattle.words.proofs.Cases.{by-lt, clash}
 use Rattle.store_sides.specs.declared.Sides.{Sides}
 use Rattle.store_sides.specs.declared.Sides.the-variants.{Two, Broken}
-use Rattle.store.specs.Words.{itemLimit, topAt}
+use Rattle.store.specs.Words.{topAt}
 use Rattle.store.specs.Inner.{Holds}
 use Rattle.store_sides.specs.Inner.{TwoSides, SidesOf, two as two-sides, broken as no-sides}
 use Rattle.store.proofs.Held.{top-at, top-node, within, held, at-node}
@@ -50,10 +50,10 @@ split-two z o zt ot e S = out (rw e at S)
     out : {nodes : List ℕ} {n p level z o zt ot : ℕ} → SplitOf nodes n p level (Two z o zt ot) → Children nodes n p level z o zt ot
     out (two s T) = record { some = s; sides = T }
 
-split-broken : {nodes : List ℕ} {n p level : ℕ} {x : Sides} → x ≡ Broken → SplitOf nodes n p level x → 2 ≤ p → (B : List Family) (lookup : List ℕ) → Holds B n nodes lookup → ⊥
+split-broken : {nodes : List ℕ} {n p level : ℕ} {x : Sides} → x ≡ Broken → SplitOf nodes n p level x → 2 ≤ p → (limit : ℕ) (B : List Family) (lookup : List ℕ) → Holds limit B n nodes lookup → ⊥
 split-broken e S = out (rw e at S)
   where
-    out : {nodes : List ℕ} {n p level : ℕ} → SplitOf nodes n p level Broken → 2 ≤ p → (B : List Family) (lookup : List ℕ) → Holds B n nodes lookup → ⊥
+    out : {nodes : List ℕ} {n p level : ℕ} → SplitOf nodes n p level Broken → 2 ≤ p → (limit : ℕ) (B : List Family) (lookup : List ℕ) → Holds limit B n nodes lookup → ⊥
     out (broken f) = f
 
 -- after a walk there is still a link for each node
@@ -76,7 +76,7 @@ module _ {nodes : List ℕ} {n p level z o zt ot : ℕ} (S : TwoSides nodes n p 
   child-side one-child = record { inside = S .halves .one-within; below = omega (arith, S .otop, S .one-below) }
 
   -- a child can be walked from any trail that fits
-  module _ {t : Trail} {links : List ℕ} (low : level ≤ itemLimit) (L : Lent nodes n links) (F : TrailFits n t) where
+  module _ {t : Trail} {links : List ℕ} (low : level ≤ largestItem) (L : Lent nodes n links) (F : TrailFits n t) where
     child-asks : {q qt : ℕ} → Child z o q → qt ≡ topAt nodes q → WalkAsks t q qt nodes n links
     child-asks c d =
         let side = child-side c in
@@ -95,13 +95,13 @@ module _ {nodes : List ℕ} {n p level z o zt ot : ℕ} (S : TwoSides nodes n p 
     one-asks = child-asks one-child (S .otop)
 
 -- what a walk said
-pub came-to : {B C : List Family} {n : ℕ} {links : List ℕ} {r : Walked} (t : Trail) → r ≡ Went t → Came B C n links r → Trailed B C n t links
+pub came-to : {limit : ℕ} {B C : List Family} {n : ℕ} {links : List ℕ} {r : Walked} (t : Trail) → r ≡ Went t → Came limit B C n links r → Trailed limit B C n t links
 came-to t e A = out (rw e at A)
   where
-    out : {B C : List Family} {n : ℕ} {links : List ℕ} {t : Trail} → Came B C n links (Went t) → Trailed B C n t links
+    out : {limit : ℕ} {B C : List Family} {n : ℕ} {links : List ℕ} {t : Trail} → Came limit B C n links (Went t) → Trailed limit B C n t links
     out (came T) = T
 
-pub never : {B C : List Family} {n : ℕ} {links : List ℕ} {r : Walked} → r ≡ NoWay → Came B C n links r → ⊥
+pub never : {limit : ℕ} {B C : List Family} {n : ℕ} {links : List ℕ} {r : Walked} → r ≡ NoWay → Came limit B C n links r → ⊥
 never e (came T) = let z : _≡_ {A = ℕ} 0 1 = cc in omega arith
 
 went-is : {t t′ : Trail} → Went t ≡ Went t′ → t ≡ t′
@@ -132,7 +132,7 @@ module _ {t : Trail} {p : ℕ} {nodes : List ℕ} {n : ℕ} {links links′ : Li
 
 -- a walk that is broken, with the links that it came to
 pub walk-broken : (t : Trail) (p : ℕ) (nodes : List ℕ) (n : ℕ) (links links′ : List ℕ) → length links′ ≡ length links → ((k : ℕ) → n ≤ k → getD links′ k 0 ≡ getD links k 0)
-    → ((B C : List Family) (lookup : List ℕ) → Holds B n nodes lookup → Trailed B C n t links → ⊥) → WalkOf t p nodes n links NoWay links′
+    → ((B C : List Family) (lookup : List ℕ) → Holds limit B n nodes lookup → Trailed limit B C n t links → ⊥) → WalkOf t p nodes n links NoWay links′
 walk-broken t p nodes n links links′ e r f =
     record { long = e; rest = r; trail-fits = λ t′ d. broken-not d; sound = λ B C lookup H T. absurd (f B C lookup H T) }
 
@@ -158,19 +158,19 @@ module _ (t : Trail) (p : ℕ) (nodes : List ℕ) (n : ℕ) (links : List ℕ) w
       rest₂ : (k : ℕ) → n ≤ k → getD links₂ k 0 ≡ getD links k 0
       rest₂ k l = Q .rest k l ∙ R .rest k l
 
-      second-came : {B C : List Family} {lookup : List ℕ} → Holds B n nodes lookup → Trailed B C n t links → Came B (place (place C (at B q₁)) (at B q₂)) n links₂ r₂
+      second-came : {limit : ℕ} {B C : List Family} {lookup : List ℕ} → Holds limit B n nodes lookup → Trailed limit B C n t links → Came limit B (place (place C (at B q₁)) (at B q₂)) n links₂ r₂
       second-came {B} {C} {lookup} H T = Q .sound B (place C (at B q₁)) lookup H (came-to first e₁ (R .sound B C lookup H T))
 
       pub walk-second-broken : r₂ ≡ NoWay → WalkOf t p nodes n links NoWay links₂
       walk-second-broken e = walk-broken t p nodes n links links₂ long₂ rest₂ (λ B C lookup H T. never e (second-came H T))
 
       module _ (second : Trail) (e₂ : r₂ ≡ Went second) where
-        trail₂ : {B C : List Family} {lookup : List ℕ} (H : Holds B n nodes lookup) (T : Trailed B C n t links) → Trailed B (place (place C (at B q₁)) (at B q₂)) n second links₂
+        trail₂ : {limit : ℕ} {B C : List Family} {lookup : List ℕ} (H : Holds limit B n nodes lookup) (T : Trailed limit B C n t links) → Trailed limit B (place (place C (at B q₁)) (at B q₂)) n second links₂
         trail₂ H T = came-to second e₂ (second-came H T)
 
         module _ (unmet : metIn links p ≡ false) {level : ℕ} (lp : p ≤ n + 1) (is-level : level ≡ topAt nodes p) (S₁ : Side nodes n level q₁) (S₂ : Side nodes n level q₂) where
           -- neither handle's walk meets p, whose top is larger
-          lacks : {B C : List Family} {lookup : List ℕ} (H : Holds B n nodes lookup) (T : Trailed B C n t links) → Held (place (place C (at B q₁)) (at B q₂)) (at B p) → ⊥
+          lacks : {limit : ℕ} {B C : List Family} {lookup : List ℕ} (H : Holds limit B n nodes lookup) (T : Trailed limit B C n t links) → Held (place (place C (at B q₁)) (at B q₂)) (at B p) → ⊥
           lacks {B} {C} H T h =
               unmet-not H T p (omega arith) unmet
               (held-below C (at B q₁) (at B p) (within H q₁ (omega (arith, S₁ .inside)) .ordered)
@@ -193,7 +193,7 @@ module _ (t : Trail) (p : ℕ) (nodes : List ℕ) (n : ℕ) (links : List ℕ) w
       K : Children nodes n p level z o zt ot
       K = split-two z o zt ot ex S
 
-      module _ {B C : List Family} {lookup : List ℕ} (H : Holds B n nodes lookup) (T : Trailed B C n t links) where
+      module _ {limit : ℕ} {B C : List Family} {lookup : List ℕ} (H : Holds limit B n nodes lookup) (T : Trailed limit B C n t links) where
         -- the part is the node of its level and its children
         is-node : at B p ≡ node level (at B z) (at B o)
         is-node = go (at B p) refl
@@ -210,7 +210,7 @@ module _ (t : Trail) (p : ℕ) (nodes : List ℕ) (n : ℕ) (links : List ℕ) w
         new : Held (place (place C (at B z)) (at B o)) (node level (at B z) (at B o)) → ⊥
         new h = lacks R first e₁ Q second e₂ unmet lp is-level (child-side (K .sides) zero-child) (child-side (K .sides) one-child) H T (rw is-node h)
 
-      pub walk-done : level ≤ itemLimit → second .parts < 1000000 → n ≤ length links → {t′ : Trail} {links₃ : List ℕ} → Visited second links₂ p level z o t′ links₃ → WalkOf t p nodes n links (Went t′) links₃
+      pub walk-done : level ≤ largestItem → second .parts < 1000000 → n ≤ length links → {t′ : Trail} {links₃ : List ℕ} → Visited second links₂ p level z o t′ links₃ → WalkOf t p nodes n links (Went t′) links₃
       walk-done low few room {t′} {links₃} W =
           let F = Q .trail-fits second e₂ in
           record {

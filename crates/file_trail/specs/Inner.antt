@@ -6,13 +6,13 @@ use mathlib.Core.Bool.{Bool, true, false, cond, not}
 use mathlib.Core.List.{List}
 use lib.Dec.{eqb, ltb}
 use lib.ListN.{length, getD, set, drop}
-use Rattle.family.specs.Family.{Family, top}
+use Rattle.family.specs.Family.{Family, top, largestItem}
 use Rattle.family.specs.Book.{at, number, Held, place, Book}
 use Rattle.family.specs.Record.{stands}
 use Rattle.family.specs.File.{triplesOf, recordsBytes}
 use Rattle.store_sides.specs.declared.Sides.{Sides}
 use Rattle.store_sides.specs.declared.Sides.the-variants.{Two, Broken}
-use Rattle.store.specs.Words.{itemLimit, topAt}
+use Rattle.store.specs.Words.{topAt}
 use Rattle.store.specs.Inner.{Holds}
 use Rattle.store_sides.specs.Inner.{TwoSides}
 use Rattle.file_record.specs.Widths.{widths}
@@ -50,7 +50,7 @@ pub record Lent (nodes : List ℕ) (n : ℕ) (links : List ℕ) : Type 0 where
 pub record VisitAsks (t : Trail) (links : List ℕ) (p : ℕ) : Type 0 where
   pub inside : p ≤ length links + 1
   pub last-inside : t .last ≤ length links + 1
-  pub item-low : t .item ≤ itemLimit
+  pub item-low : t .item ≤ largestItem
   pub few : t .parts < 1000000
   pub short : t .bytes ≤ 5 + 11 * t .parts
 
@@ -74,12 +74,12 @@ pub record ChildrenAsks (nodes : List ℕ) (n p level : ℕ) : Type 0 where
 -- the children of p, or words of no sound store
 pub data SplitOf (nodes : List ℕ) (n p level : ℕ) : Sides → Type 0 where
   two : {z o zt ot : ℕ} → 0 < level → TwoSides nodes n p level z o zt ot → SplitOf nodes n p level (Two z o zt ot)
-  broken : (2 ≤ p → (B : List Family) (lookup : List ℕ) → Holds B n nodes lookup → ⊥) → SplitOf nodes n p level Broken
+  broken : ((limit : ℕ) → 2 ≤ p → (B : List Family) (lookup : List ℕ) → Holds limit B n nodes lookup → ⊥) → SplitOf nodes n p level Broken
 
 -- what a trail keeps on any words
 pub record TrailFits (n : ℕ) (t : Trail) : Type 0 where
   pub last-held : t .last ≤ n + 1
-  pub item-low : t .item ≤ itemLimit
+  pub item-low : t .item ≤ largestItem
   pub few : t .parts ≤ 1000000
   pub some : 5 ≤ t .bytes
   pub short : t .bytes ≤ 5 + 11 * t .parts
@@ -89,7 +89,7 @@ pub record WalkAsks (t : Trail) (p level : ℕ) (nodes : List ℕ) (n : ℕ) (li
   pub inside : p ≤ n + 1
   pub lent : Lent nodes n links
   pub level-is : level ≡ topAt nodes p
-  pub level-low : level ≤ itemLimit
+  pub level-low : level ≤ largestItem
   pub trail-fits : TrailFits n t
 
 -- what `descend` is asked with: the handle was not met
@@ -98,8 +98,8 @@ pub record DescendAsks (t : Trail) (p level : ℕ) (nodes : List ℕ) (n : ℕ) 
   pub unmet : metIn links p ≡ false
 
 -- The trail over the families of a local book C, whose handles are their numbers in the book B that the store holds.
-pub record Trailed (B C : List Family) (n : ℕ) (t : Trail) (links : List ℕ) : Type 0 where
-  pub book : Book itemLimit C
+pub record Trailed (limit : ℕ) (B C : List Family) (n : ℕ) (t : Trail) (links : List ℕ) : Type 0 where
+  pub book : Book limit C
   pub inside : (k : ℕ) → k < length C → Held B (at C k)
   pub first-is : 2 < length C → t .first ≡ number B (at C 2)
   pub last-is : t .last ≡ number B (at C (length C - 1))
@@ -111,12 +111,12 @@ pub record Trailed (B C : List Family) (n : ℕ) (t : Trail) (links : List ℕ) 
   pub unmet : (h : ℕ) → 2 ≤ h → h < n + 2 → (Held C (at B h) → ⊥) → getD links (h - 2) 0 ≡ 0
 
 -- a walk from the local book C comes to the local book with the family placed; it is never broken
-pub data Came (B C : List Family) (n : ℕ) (links : List ℕ) : Walked → Type 0 where
-  came : {t : Trail} → Trailed B C n t links → Came B C n links (Went t)
+pub data Came (limit : ℕ) (B C : List Family) (n : ℕ) (links : List ℕ) : Walked → Type 0 where
+  came : {t : Trail} → Trailed limit B C n t links → Came limit B C n links (Went t)
 
 -- what `walk` does: the links of no node stay
 pub record WalkOf (t : Trail) (p : ℕ) (nodes : List ℕ) (n : ℕ) (links : List ℕ) (r : Walked) (links′ : List ℕ) : Type 0 where
   pub long : length links′ ≡ length links
   pub rest : (k : ℕ) → n ≤ k → getD links′ k 0 ≡ getD links k 0
   pub trail-fits : (t′ : Trail) → r ≡ Went t′ → TrailFits n t′
-  pub sound : (B C : List Family) (lookup : List ℕ) → Holds B n nodes lookup → Trailed B C n t links → Came B (place C (at B p)) n links′ r
+  pub sound : {limit : ℕ} (B C : List Family) (lookup : List ℕ) → Holds limit B n nodes lookup → Trailed limit B C n t links → Came limit B (place C (at B p)) n links′ r

@@ -9,13 +9,13 @@ use native.Mathlib.Numerals.{add-one}
 use lib.ListN.{length, getD, set, take, drop, length-set, length-append, length-drop, take-append-drop, drop-of-length-le}
 use lib.Seq.{sets, sets-eq, take-all, drop-drop, drop-cons, getD-set-same, getD-set-other, take-add, drop-at, take-at, length-take-le}
 use borrow.Rule.Slice.PartMut.{putMid}
-use Rattle.family.specs.Family.{Family, empty, node}
+use Rattle.family.specs.Family.{Family, empty, node, largestItem}
 use Rattle.family.specs.Book.{at, number}
 use Rattle.family.specs.Record.{stands, triple, recordBytes}
 use Rattle.family.specs.File.{triplesOf, recordsBytes}
 use Rattle.family.proofs.Books.{number-at, number-empty, number-base}
 use Rattle.words.proofs.Cases.{by-eq}
-use Rattle.store.specs.Words.{itemLimit, wordOf}
+use Rattle.store.specs.Words.{wordOf}
 use Rattle.store.specs.Inner.{Holds}
 use Rattle.store.proofs.Handles.{word-leaf, word-node}
 use Rattle.store.proofs.Held.{at-0, at-1, at-node, handle-of, within}
@@ -62,7 +62,7 @@ zeroAt nodes h = getD nodes (3 * (h - 2) + 1) 0
 abbrev pub oneAt : List ℕ → ℕ → ℕ
 oneAt nodes h = getD nodes (3 * (h - 2) + 2) 0
 
-module _ {B D : List Family} {n k : ℕ} {nodes lookup : List ℕ} {c : Cursor} {links whole before out : List ℕ} (H : Holds B n nodes lookup) (kl : k < length D) (W : Writing B D k c links whole before out) where
+module _ {limit : ℕ} {B D : List Family} {n k : ℕ} {nodes lookup : List ℕ} {c : Cursor} {links whole before out : List ℕ} (H : Holds limit B n nodes lookup) (kl : k < length D) (W : Writing limit B D k c links whole before out) where
   at-in : c .at < n + 2
   at-in = omega (arith, W .at-is kl, handle-in H (W .book) (W .inside) k kl)
 
@@ -75,7 +75,7 @@ module _ {B D : List Family} {n k : ℕ} {nodes lookup : List ℕ} {c : Cursor} 
   is-node : at D k ≡ node (itemAt nodes (c .at)) (at B (zeroAt nodes (c .at))) (at B (oneAt nodes (c .at)))
   is-node = sym at-means ∙ at-node H (c .at) at-two at-in
 
-  item-low : itemAt nodes (c .at) ≤ itemLimit
+  item-low : itemAt nodes (c .at) ≤ largestItem
   item-low = (rw (at-means ∙ is-node) at (within H (c .at) at-in)) .low
 
   -- a side stands in the local book before the part
@@ -126,7 +126,7 @@ module _ {B D : List Family} {n k : ℕ} {nodes lookup : List ℕ} {c : Cursor} 
 
     module _ (len : ℕ) (is-len : len ≡ length (recordBytes (c .last .item) (c .last .number) (triple (part .item) (part .zero) (part .one)))) (room : n ≤ length links) where
       pub turn-next : {out′ : List ℕ} → out′ ≡ take (c .place) out ++ (recordBytes (c .last .item) (c .last .number) (triple (part .item) (part .zero) (part .one)) ++ drop (c .place + len) out)
-          → Writing B D (k + 1) (record { at = getD links (c .at - 2) 0; last = record { item = part .item; number = c .last .number + 1 }; place = c .place + len }) (set links (c .at - 2) (c .last .number + 1)) whole before out′
+          → Writing limit B D (k + 1) (record { at = getD links (c .at - 2) 0; last = record { item = part .item; number = c .last .number + 1 }; place = c .place + len }) (set links (c .at - 2) (c .last .number + 1)) whole before out′
       turn-next {out′} eo =
           record {
             book = W .book;
@@ -172,7 +172,7 @@ broken-next : {A : Type 0} {c : Cursor} → Broken ≡ Next c → A
 broken-next e = absurd (let z : _≡_ {A = ℕ} 0 1 = cc in omega arith)
 
 module _ (c : Cursor) (nodes : List ℕ) (n : ℕ) (links out : List ℕ) where
-  turn-broken : ((B D : List Family) (k : ℕ) (lookup whole before : List ℕ) → Holds B n nodes lookup → k < length D → Writing B D k c links whole before out → ⊥) → TurnOf c nodes n links out Broken links out
+  turn-broken : ((B D : List Family) (k : ℕ) (lookup whole before : List ℕ) → Holds limit B n nodes lookup → k < length D → Writing limit B D k c links whole before out → ⊥) → TurnOf c nodes n links out Broken links out
   turn-broken f =
       record { long = refl; long-out = refl; rest = λ k l. refl; next-fits = λ d e. broken-next e; sound = λ B D k lookup whole before H kl W. absurd (f B D k lookup whole before H kl W) }
 
@@ -183,7 +183,7 @@ module _ (c : Cursor) (nodes : List ℕ) (n : ℕ) (links out : List ℕ) where
   turn-high l = turn-broken (λ B D k lookup whole before H kl W. omega (arith, at-in H kl W))
 
   module _ (part : Part) (is-part : LocalPart nodes (3 * (c .at - 2)) links part) where
-    pub turn-item : itemLimit < part .item → TurnOf c nodes n links out Broken links out
+    pub turn-item : largestItem < part .item → TurnOf c nodes n links out Broken links out
     turn-item l = turn-broken (λ B D k lookup whole before H kl W. omega (arith, item-low H kl W, is-part .item-is))
 
     module _ (len : ℕ) (is-len : len ≡ widths (stands (part .item) (c .last .item + 1)) (stands (part .zero) 0) (stands (part .one) (c .last .number))) where
@@ -195,7 +195,7 @@ module _ (c : Cursor) (nodes : List ℕ) (n : ℕ) (links out : List ℕ) where
       pub turn-full : c .place ≤ length out → length out - c .place < len → TurnOf c nodes n links out Broken links out
       turn-full p l = turn-broken (λ B D k lookup whole before H kl W. omega (arith, length-is, turn-room H kl W part is-part))
 
-      pub turn-done : n ≤ length links → CursorFits c out → 2 ≤ c .at → c .at ≤ n + 1 → part .item ≤ itemLimit → len ≤ 11 → c .place + len ≤ length out → {ys : List ℕ}
+      pub turn-done : n ≤ length links → CursorFits c out → 2 ≤ c .at → c .at ≤ n + 1 → part .item ≤ largestItem → len ≤ 11 → c .place + len ≤ length out → {ys : List ℕ}
           → ys ≡ sets (take (length out - c .place) (drop (c .place) out)) 0 (recordBytes (c .last .item) (c .last .number) (triple (part .item) (part .zero) (part .one)))
           → TurnOf c nodes n links out (Next (record { at = getD links (c .at - 2) 0; last = record { item = part .item; number = c .last .number + 1 }; place = c .place + len }))
           (set links (c .at - 2) (c .last .number + 1)) (putMid (c .place) (length out - c .place) out ys)

@@ -8,22 +8,21 @@ use mathlib.Core.List.{List, [], _++_}
 use native.Mathlib.Omega.{arith}
 use lib.ListN.{length, getD, drop, length-drop, drop-of-length-le}
 use lib.Seq.{take-all}
-use Rattle.family.specs.Family.{Family}
+use Rattle.family.specs.Family.{Family, largestItem}
 use Rattle.family.specs.File.{triplesOf, recordsBytes}
-use Rattle.store.specs.Words.{itemLimit}
 use Rattle.store.specs.Inner.{Holds}
 use Rattle.file_write.specs.declared.Cursor.{Cursor}
 use Rattle.file_write.specs.declared.Turn.{Turn}
 use Rattle.file_write.specs.declared.Turn.the-variants.{Next, Broken}
 use Rattle.file_write.specs.Inner.{CursorFits, Writing, Turned, turned, TurnOf, firstCursor, WritesOf}
 
-turned-to : {B D : List Family} {k : ℕ} {links whole before out : List ℕ} {r : Turn} (c : Cursor) → r ≡ Next c → Turned B D k links whole before out r → Writing B D k c links whole before out
+turned-to : {B D : List Family} {k : ℕ} {links whole before out : List ℕ} {r : Turn} (c : Cursor) → r ≡ Next c → Turned limit B D k links whole before out r → Writing limit B D k c links whole before out
 turned-to c e A = out′ (rw e at A)
   where
-    out′ : {B D : List Family} {k : ℕ} {links whole before out : List ℕ} {c : Cursor} → Turned B D k links whole before out (Next c) → Writing B D k c links whole before out
+    out′ : {B D : List Family} {k : ℕ} {links whole before out : List ℕ} {c : Cursor} → Turned limit B D k links whole before out (Next c) → Writing limit B D k c links whole before out
     out′ (turned W) = W
 
-never : {B D : List Family} {k : ℕ} {links whole before out : List ℕ} {r : Turn} → r ≡ Broken → Turned B D k links whole before out r → ⊥
+never : {B D : List Family} {k : ℕ} {links whole before out : List ℕ} {r : Turn} → r ≡ Broken → Turned limit B D k links whole before out r → ⊥
 never e (turned W) = let z : _≡_ {A = ℕ} 0 1 = cc in omega arith
 
 -- so many parts are left
@@ -31,13 +30,13 @@ pub record PartsLeft (first parts : ℕ) (nodes : List ℕ) (n : ℕ) (links₀ 
   pub low : left ≤ parts
   pub number-is : c .last .number + left ≡ parts + 1
   pub place-low : c .place ≤ length out
-  pub item-low : c .last .item ≤ itemLimit
+  pub item-low : c .last .item ≤ largestItem
   pub short : c .place ≤ 11 * c .last .number
   pub long : length links ≡ length links₀
   pub long-out : length out ≡ length out₀
   pub rest : (k : ℕ) → n ≤ k → getD links k 0 ≡ getD links₀ k 0
-  pub sound : (B D : List Family) (lookup whole before : List ℕ) → Holds B n nodes lookup → parts + 2 ≡ length D → Writing B D 2 (firstCursor first) links₀ whole before out₀
-      → Writing B D (parts + 2 - left) c links whole before out
+  pub sound : (B D : List Family) (lookup whole before : List ℕ) → Holds limit B n nodes lookup → parts + 2 ≡ length D → Writing limit B D 2 (firstCursor first) links₀ whole before out₀
+      → Writing limit B D (parts + 2 - left) c links whole before out
 
 module _ (first parts : ℕ) (nodes : List ℕ) (n : ℕ) (links₀ out₀ : List ℕ) where
   pub left-start : 5 ≤ length out₀ → PartsLeft first parts nodes n links₀ out₀ (firstCursor first) parts links₀ out₀
@@ -59,8 +58,8 @@ module _ (first parts : ℕ) (nodes : List ℕ) (n : ℕ) (links₀ out₀ : Lis
     left-fits l = record { within = L .place-low; item-low = L .item-low; number-low = omega (arith, L .number-is); short = L .short }
 
     module _ {r : Turn} {links′ out′ : List ℕ} (some : 0 < left) (T : TurnOf c nodes n links out r links′ out′) where
-      writing : {B D : List Family} {lookup whole before : List ℕ} → Holds B n nodes lookup → parts + 2 ≡ length D → Writing B D 2 (firstCursor first) links₀ whole before out₀
-          → Turned B D (parts + 2 - left + 1) links′ whole before out′ r
+      writing : {B D : List Family} {lookup whole before : List ℕ} → Holds limit B n nodes lookup → parts + 2 ≡ length D → Writing limit B D 2 (firstCursor first) links₀ whole before out₀
+          → Turned limit B D (parts + 2 - left + 1) links′ whole before out′ r
       writing {B} {D} {lookup} {whole} {before} H e W = T .sound B D (parts + 2 - left) lookup whole before H (omega (arith, L .low)) (L .sound B D lookup whole before H e W)
 
       pub left-broken : r ≡ Broken → WritesOf first parts nodes n links₀ out₀ false links′ out′
@@ -98,7 +97,7 @@ module _ (first parts : ℕ) (nodes : List ℕ) (n : ℕ) (links₀ out₀ : Lis
           sound = λ B D lookup whole before H q W. (refl, whole-is D q (L .sound B D lookup whole before H q W));
         }
       where
-        whole-is : {B : List Family} (D : List Family) {whole before : List ℕ} → parts + 2 ≡ length D → Writing B D (parts + 2 - left) c links whole before out → out ≡ whole ++ drop (length whole) before
+        whole-is : {limit : ℕ} {B : List Family} (D : List Family) {whole before : List ℕ} → parts + 2 ≡ length D → Writing limit B D (parts + 2 - left) c links whole before out → out ≡ whole ++ drop (length whole) before
         whole-is D {whole} {before} q W =
             let none : drop (parts + 2 - left) D ≡ [] = drop-of-length-le D {i = parts + 2 - left} (omega arith) in
             let end : drop (c .place) whole ≡ [] = W .todo-is ∙ ap (λ X. recordsBytes (c .last .item) (c .last .number) (triplesOf D X)) none in

@@ -27,7 +27,7 @@ recalled-within e r = out (rw e at r)
     out : {cache : List ℕ} {n : ℕ} {call : Call} {h : ℕ} → RecallOf cache n call (Hit h) → h ≤ n + 1
     out (hit G l) = l
 
-pub recalled-true : {B : List Family} {cache : List ℕ} {n : ℕ} {call : Call} {h : ℕ} {x : Recalled} → True B cache → 1 ≤ call .op → x ≡ Hit h → RecallOf cache n call x → Truth B (call .op) (call .p) (call .q) h
+pub recalled-true : {limit : ℕ} {B : List Family} {cache : List ℕ} {n : ℕ} {call : Call} {h : ℕ} {x : Recalled} → True limit B cache → 1 ≤ call .op → x ≡ Hit h → RecallOf cache n call x → Truth limit B (call .op) (call .p) (call .q) h
 recalled-true {B} {cache} {n} {call} {h} t l e r =
     let g = recalled-group (rw e at r) in
     ⊎-elim (λ z. absurd (omega (arith, z .op-is, g .1 .op-is))) (λ u. u) (t .each (g .0) (call .op) (call .p) (call .q) h (g .1))
@@ -95,13 +95,13 @@ pub nothing-remembered : (cache : List ℕ) (call : Call) (h : ℕ) → Remember
 nothing-remembered cache call h = record { long = refl; rest = λ k m. refl; each = λ g op p q r G. inl G }
 
 -- a true cache that remembers a true result
-pub true-remembered : {B : List Family} {cache cache′ : List ℕ} {call : Call} {h : ℕ} → True B cache → Truth B (call .op) (call .p) (call .q) h → Remembered cache call h cache′ → True B cache′
+pub true-remembered : {limit : ℕ} {B : List Family} {cache cache′ : List ℕ} {call : Call} {h : ℕ} → True limit B cache → Truth limit B (call .op) (call .p) (call .q) h → Remembered cache call h cache′ → True limit B cache′
 true-remembered {B} {cache} {cache′} {call} {h} t u m = record { each = λ g op p q r G. ⊎-elim (λ O. old g op p q r G O (t .each g op p q r O)) (λ e. inr (new op p q r e)) (m .each g op p q r G) }
   where
-    new : (op p q r : ℕ) → (op ≡ call .op) × (p ≡ call .p) × (q ≡ call .q) × (r ≡ h) → Truth B op p q r
+    new : (op p q r : ℕ) → (op ≡ call .op) × (p ≡ call .p) × (q ≡ call .q) × (r ≡ h) → Truth limit B op p q r
     new op p q r e = rw (e .0, e .1, e .2, e .3) u
 
-    old : (g op p q r : ℕ) → Group cache′ g op p q r → Group cache g op p q r → Group cache g 0 0 0 0 ⊎ Truth B op p q r → Group cache′ g 0 0 0 0 ⊎ Truth B op p q r
+    old : (g op p q r : ℕ) → Group cache′ g op p q r → Group cache g op p q r → Group cache g 0 0 0 0 ⊎ Truth limit B op p q r → Group cache′ g 0 0 0 0 ⊎ Truth limit B op p q r
     old g op p q r G O (inr v) = inr v
     old g op p q r G O (inl z) =
         inl record {

@@ -35,7 +35,7 @@ shortcut-proper e S = out (rw e at S)
     out (unknown K) = K
 
 -- a terminal case, as an answer and as a number
-module _ {call : Call} {limit : ℕ} {s : Store} {nodes lookup : List ℕ} (A : ApplyAsks call limit s nodes lookup) (cache : List ℕ) {h : ℕ} {x : Recalled} (e : x ≡ Hit h) (S : ShortcutOf call x) where
+module _ {call : Call} {bound : ℕ} {s : Store} {nodes lookup : List ℕ} (A : ApplyAsks call bound s nodes lookup) (cache : List ℕ) {h : ℕ} {x : Recalled} (e : x ≡ Hit h) (S : ShortcutOf call x) where
   terminal-held : h ≤ s .count + 1
   terminal-held = ⊎-elim (λ d. omega arith) (λ d. ⊎-elim (λ c. omega (arith, A .taken .first)) (λ c. omega (arith, A .taken .second)) d) (shortcut-known e S .one-of)
 
@@ -48,8 +48,8 @@ module _ {call : Call} {limit : ℕ} {s : Store} {nodes lookup : List ℕ} (A : 
   coded-terminal = ran-terminal (placedAs (s .capacity) (s .count) h) refl (coded-held h (A .taken .roomy) (A .taken .roomy .within) terminal-held)
 
 -- a call, and the same with its operands in order
-module _ {asked call : Call} (O : OrderedAs asked call) {limit : ℕ} {s : Store} {nodes lookup : List ℕ} (A : ApplyAsks asked limit s nodes lookup) where
-  ordered-asks : ApplyAsks call limit s nodes lookup
+module _ {asked call : Call} (O : OrderedAs asked call) {bound : ℕ} {s : Store} {nodes lookup : List ℕ} (A : ApplyAsks asked bound s nodes lookup) where
+  ordered-asks : ApplyAsks call bound s nodes lookup
   ordered-asks =
       let I = A .taken in
       let e = O .op-is in
@@ -62,7 +62,7 @@ module _ {asked call : Call} (O : OrderedAs asked call) {limit : ℕ} {s : Store
         };
         first-low = ⊎-elim (λ d. rw (d .0) (A .first-low)) (λ d. rw (d .0) (A .second-low)) (O .operands);
         second-low = ⊎-elim (λ d. rw (d .1) (A .second-low)) (λ d. rw (d .1) (A .first-low)) (O .operands);
-        limit-low = A .limit-low;
+        bound-low = A .bound-low;
       }
 
   pub ran-ordered : (cache : List ℕ) {r : Placed} {nodes′ lookup′ cache′ : List ℕ} → Ran (of call) s nodes lookup cache r nodes′ lookup′ cache′ → Ran (of asked) s nodes lookup cache r nodes′ lookup′ cache′
@@ -71,7 +71,7 @@ module _ {asked call : Call} (O : OrderedAs asked call) {limit : ℕ} {s : Store
       (λ B H. sym (O .named-is B (within H (asked .p) (omega (arith, A .taken .first)) .ordered) (within H (asked .q) (omega (arith, A .taken .second)) .ordered))) R
 
   -- no terminal case
-  pub ordered-step : {x : Recalled} → x ≡ Miss → ShortcutOf asked x → FamilyStepAsks call limit s nodes lookup
+  pub ordered-step : {x : Recalled} → x ≡ Miss → ShortcutOf asked x → FamilyStepAsks call bound s nodes lookup
   ordered-step e S =
       let P = shortcut-proper e S in
       record {

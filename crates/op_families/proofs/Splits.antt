@@ -6,7 +6,6 @@ use mathlib.Core.List.{List}
 use native.Mathlib.Omega.{arith}
 use Rattle.family.specs.Family.{top}
 use Rattle.family.specs.Book.{at}
-use Rattle.store.specs.Words.{itemLimit}
 use Rattle.op_cache.specs.declared.Call.{Call}
 use Rattle.op_families.specs.Inner.{Forked}
 use Rattle.store.proofs.Naming.{named-families, families-step, families-within}
@@ -16,7 +15,7 @@ use Rattle.op_step.proofs.Steps.{of, Taken, Split}
 use Rattle.store.proofs.Held.{low-at}
 use Rattle.store_sides.proofs.Splitting.{low-now}
 
-module _ {call : Call} {limit : ℕ} {s : Store} {nodes lookup : List ℕ} (A : ApplyAsks call limit s nodes lookup) where
+module _ {call : Call} {bound : ℕ} {s : Store} {nodes lookup : List ℕ} (A : ApplyAsks call bound s nodes lookup) where
   I : FamilyCall call s nodes lookup
   I = A .taken
 
@@ -27,10 +26,10 @@ module _ {call : Call} {limit : ℕ} {s : Store} {nodes lookup : List ℕ} (A : 
   taken-families = record { operation = (omega arith, omega arith); first = omega arith; second = (λ k. absurd (omega arith), λ k. omega arith) }
 
   -- the level is an item
-  pub level-item : {level p₀ q₀ p₁ q₁ : ℕ} → Forked nodes (s .count) call limit level p₀ q₀ p₁ q₁ → (1 ≤ level) × (level ≤ itemLimit)
-  level-item K = (omega (arith, K .some), omega (arith, K .lower, A .limit-low))
+  pub level-item : {level p₀ q₀ p₁ q₁ : ℕ} → Forked nodes (s .count) call bound level p₀ q₀ p₁ q₁ → (1 ≤ level) × (level ≤ limit)
+  level-item K = (omega (arith, K .some), omega (arith, K .lower, A .bound-low))
 
-  pub split-families : {level p₀ q₀ p₁ q₁ : ℕ} → Forked nodes (s .count) call limit level p₀ q₀ p₁ q₁
+  pub split-families : {level p₀ q₀ p₁ q₁ : ℕ} → Forked nodes (s .count) call bound level p₀ q₀ p₁ q₁
       → Split call (record { op = call .op; p = p₀; q = q₀ }) (record { op = call .op; p = p₁; q = q₁ }) level (s .count) nodes lookup
   split-families {level} {p₀} {q₀} {p₁} {q₁} K =
       record {

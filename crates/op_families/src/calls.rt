@@ -35,7 +35,7 @@ fn of_families(
     }
     let call = ordered(asked);
     let mut held = store.count;
-    // In a sound store every top is below 513.
+    // In a sound store every top is below 513, whatever its limit.
     let coded = expand(
         call.op,
         call.p,

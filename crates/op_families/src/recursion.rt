@@ -3,9 +3,9 @@
 ghost use mathlib.Core.Path.{_≡_};
 ghost use Prim.Native.Nat.{max};
 ghost use Rattle.op_cache.specs.Inner.{callOf};
-ghost use Rattle.store.specs.Coded.{storeOf, placedAs};
+ghost use Rattle.store.specs.Coded.{reachedAs};
 ghost use Rattle.store.specs.Operations.{named};
-ghost use Rattle.store.specs.Inner.{Ran};
+ghost use Rattle.store.specs.Inner.{fillOf, Ran};
 ghost use Rattle.op_families.specs.Inner.{ForkAsks, ApplyAsks, FamilyStepAsks, ForkOf};
 use op_cache::Call;
 use op_cache::Recalled;
@@ -40,10 +40,10 @@ pub enum Fork {
     Broken,
 }
 
-// The sides of both operands at their larger top, an item below the limit.
-fn fork_at(nodes: &[u32], count: u32, call: Call, limit: u32) -> Fork
-    requires { ⌜ ForkAsks (now nodes) count call limit ⌝ }
-    ensures { λ r. ⌜ ForkOf (now (nodes .entry)) count call limit r ⌝ }
+// The sides of both operands at their larger top, an item below the bound.
+fn fork_at(nodes: &[u32], count: u32, call: Call, bound: u32) -> Fork
+    requires { ⌜ ForkAsks (now nodes) count call bound ⌝ }
+    ensures { λ r. ⌜ ForkOf (now (nodes .entry)) count call bound r ⌝ }
 {
     let ptop = top_of(nodes, count, call.p);
     let qtop = top_of(nodes, count, call.q);
@@ -51,7 +51,7 @@ fn fork_at(nodes: &[u32], count: u32, call: Call, limit: u32) -> Fork
     if level == 0 {
         return Fork::Broken;
     }
-    if limit <= level {
+    if bound <= level {
         return Fork::Broken;
     }
     let Cofactors::Two { zero: p0, one: p1 } = cofactors_at(nodes, count, call.p, ptop, level)
@@ -71,21 +71,21 @@ fn fork_at(nodes: &[u32], count: u32, call: Call, limit: u32) -> Fork
     }
 }
 
-// The operation on two families whose tops are below the limit in a sound store: terminal cases at once, else by the
+// The operation on two families whose tops are below the bound in a sound store: terminal cases at once, else by the
 // two sides.
 fn apply(
     op: u32,
     p: u32,
     q: u32,
-    limit: u32,
+    bound: u32,
     capacity: u32,
     count: &mut u32,
     nodes: &mut [u32],
     lookup: &mut [u32],
     cache: &mut [u32],
 ) -> u32
-    requires { ⌜ ApplyAsks (callOf op p q) limit (storeOf capacity (now count)) (now nodes) (now lookup) ⌝ }
-    ensures { λ r. ⌜ Ran (λ B. named op B p q) (storeOf capacity (now (count .entry))) (now (nodes .entry)) (now (lookup .entry)) (now (cache .entry)) (placedAs capacity (now (count .exit)) r) (now (nodes .exit)) (now (lookup .exit)) (now (cache .exit)) ⌝ }
+    requires { ⌜ ApplyAsks (callOf op p q) bound (fillOf capacity (now count)) (now nodes) (now lookup) ⌝ }
+    ensures { λ r. ⌜ Ran 0 (λ B. named op B p q) (fillOf capacity (now (count .entry))) (now (nodes .entry)) (now (lookup .entry)) (now (cache .entry)) (reachedAs capacity (now (count .exit)) r) (now (nodes .exit)) (now (lookup .exit)) (now (cache .exit)) ⌝ }
 {
     let asked = Call { op: op, p: p, q: q };
     if let Recalled::Hit(handle) = shortcut(asked) {
@@ -96,7 +96,7 @@ fn apply(
         call.op,
         call.p,
         call.q,
-        limit,
+        bound,
         capacity,
         count,
         nodes,
@@ -110,15 +110,15 @@ pub fn expand(
     op: u32,
     p: u32,
     q: u32,
-    limit: u32,
+    bound: u32,
     capacity: u32,
     count: &mut u32,
     nodes: &mut [u32],
     lookup: &mut [u32],
     cache: &mut [u32],
 ) -> u32
-    requires { ⌜ FamilyStepAsks (callOf op p q) limit (storeOf capacity (now count)) (now nodes) (now lookup) ⌝ }
-    ensures { λ r. ⌜ Ran (λ B. named op B p q) (storeOf capacity (now (count .entry))) (now (nodes .entry)) (now (lookup .entry)) (now (cache .entry)) (placedAs capacity (now (count .exit)) r) (now (nodes .exit)) (now (lookup .exit)) (now (cache .exit)) ⌝ }
+    requires { ⌜ FamilyStepAsks (callOf op p q) bound (fillOf capacity (now count)) (now nodes) (now lookup) ⌝ }
+    ensures { λ r. ⌜ Ran 0 (λ B. named op B p q) (fillOf capacity (now (count .entry))) (now (nodes .entry)) (now (lookup .entry)) (now (cache .entry)) (reachedAs capacity (now (count .exit)) r) (now (nodes .exit)) (now (lookup .exit)) (now (cache .exit)) ⌝ }
 {
     let call = Call { op: op, p: p, q: q };
     let group = group_of(call, cache.len());
@@ -131,7 +131,7 @@ pub fn expand(
         q0,
         p1,
         q1,
-    } = fork_at(nodes, *count, call, limit)
+    } = fork_at(nodes, *count, call, bound)
     else {
         return DAMAGED;
     };

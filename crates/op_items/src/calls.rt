@@ -25,14 +25,14 @@ fn of_item(
     requires { ⌜ ItemOperation op ⌝ }
     ensures { λ r. ⌜ OperationCall op p item store (now (nodes .entry)) (now (lookup .entry)) (now (cache .entry)) r (now (nodes .exit)) (now (lookup .exit)) (now (cache .exit)) ⌝ }
 {
-    let own = item_test(item);
+    let own = item_test(store.limit, item);
     let found = tested(store, nodes.len(), lookup.len(), p, 0, own, 0, 0);
     if let Test::Refuses(refusal) = found {
         return store.refused(refusal);
     }
     let count = store.count;
     let level = top_of(nodes, count, p);
-    if 512 < level {
+    if store.limit < level {
         return store.refused(Refusal::Damaged);
     }
     let mut held = count;

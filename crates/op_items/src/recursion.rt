@@ -1,9 +1,9 @@
 // Subset1 (1), Subset0 (2) and Change (3): the recursion on the two sides; the top item falls at each call.
 ghost use Rattle.op_items.specs.Inner.{RestrictAsks, ItemStepAsks};
 ghost use Rattle.op_cache.specs.Inner.{callOf};
-ghost use Rattle.store.specs.Coded.{storeOf, placedAs};
+ghost use Rattle.store.specs.Coded.{reachedAs};
 ghost use Rattle.store.specs.Operations.{named};
-ghost use Rattle.store.specs.Inner.{Ran};
+ghost use Rattle.store.specs.Inner.{fillOf, Ran};
 use op_cache::Call;
 use op_cache::Recalled;
 use op_cache::group_of;
@@ -28,8 +28,8 @@ fn restrict(
     lookup: &mut [u32],
     cache: &mut [u32],
 ) -> u32
-    requires { ⌜ RestrictAsks (callOf op p item) level (storeOf capacity (now count)) (now nodes) (now lookup) ⌝ }
-    ensures { λ r. ⌜ Ran (λ B. named op B p item) (storeOf capacity (now (count .entry))) (now (nodes .entry)) (now (lookup .entry)) (now (cache .entry)) (placedAs capacity (now (count .exit)) r) (now (nodes .exit)) (now (lookup .exit)) (now (cache .exit)) ⌝ }
+    requires { ⌜ RestrictAsks (callOf op p item) level (fillOf capacity (now count)) (now nodes) (now lookup) ⌝ }
+    ensures { λ r. ⌜ Ran item (λ B. named op B p item) (fillOf capacity (now (count .entry))) (now (nodes .entry)) (now (lookup .entry)) (now (cache .entry)) (reachedAs capacity (now (count .exit)) r) (now (nodes .exit)) (now (lookup .exit)) (now (cache .exit)) ⌝ }
 {
     // Above the top no member holds the item: Subset1 is {}, and Subset0 is p itself. Neither costs a call.
     if level < item {
@@ -58,8 +58,8 @@ pub fn expand(
     lookup: &mut [u32],
     cache: &mut [u32],
 ) -> u32
-    requires { ⌜ ItemStepAsks (callOf op p item) level (storeOf capacity (now count)) (now nodes) (now lookup) ⌝ }
-    ensures { λ r. ⌜ Ran (λ B. named op B p item) (storeOf capacity (now (count .entry))) (now (nodes .entry)) (now (lookup .entry)) (now (cache .entry)) (placedAs capacity (now (count .exit)) r) (now (nodes .exit)) (now (lookup .exit)) (now (cache .exit)) ⌝ }
+    requires { ⌜ ItemStepAsks (callOf op p item) level (fillOf capacity (now count)) (now nodes) (now lookup) ⌝ }
+    ensures { λ r. ⌜ Ran item (λ B. named op B p item) (fillOf capacity (now (count .entry))) (now (nodes .entry)) (now (lookup .entry)) (now (cache .entry)) (reachedAs capacity (now (count .exit)) r) (now (nodes .exit)) (now (lookup .exit)) (now (cache .exit)) ⌝ }
 {
     let call = Call {
         op: op,

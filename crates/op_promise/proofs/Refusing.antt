@@ -11,7 +11,7 @@ use borrow.Author.Tests.{lt-ltb, le-ltb}
 use Rattle.store.specs.declared.record.Store.{Store}
 use Rattle.store.specs.declared.record.Placed.{Placed}
 use Rattle.store.specs.Capacity.{fitting}
-use Rattle.store.specs.Words.{itemLimit, topAt}
+use Rattle.store.specs.Words.{topAt}
 use Rattle.store.specs.Tests.{itemTest, testsOf}
 use Rattle.store.specs.Operations.{named}
 use Rattle.store.specs.Sound.{Sound}
@@ -33,11 +33,11 @@ module _ (op n p q : ℕ) where
   family-number l = rw (le-ltb op 4 l)
 
 -- a top above the limit is in no sound store
-pub sound-top : {s : Store} {nodes lookup cache : List ℕ} (p : ℕ) → p ≤ s .count + 1 → Sound s nodes lookup cache → topAt nodes p ≤ itemLimit
+pub sound-top : {s : Store} {nodes lookup cache : List ℕ} (p : ℕ) → p ≤ s .count + 1 → Sound s nodes lookup cache → topAt nodes p ≤ limit
 sound-top p l S = let H = sound-holds S in omega (arith, top-at H p (omega arith), within H p (omega arith) .low)
 
-module _ (op p q : ℕ) (s : Store) (nodes lookup : List ℕ) (fits : fitting (s .capacity) (s .count) (length nodes) (length lookup) ≡ true) (cache : List ℕ) where
-  pub refused-top : p ≤ s .count + 1 → itemLimit < topAt nodes p → (r : Placed) → r .store ≡ s → OperationCall op p q s nodes lookup cache r nodes lookup cache
+module _ (op p q : ℕ) (s : Store) (nodes lookup : List ℕ) (fits : fitting s (length nodes) (length lookup) ≡ true) (cache : List ℕ) where
+  pub refused-top : p ≤ s .count + 1 → limit < topAt nodes p → (r : Placed) → r .store ≡ s → OperationCall op p q s nodes lookup cache r nodes lookup cache
   refused-top lp l r es = call-unsound s nodes lookup cache _ _ r fits (λ S. omega (arith, sound-top p lp S)) es
 
   -- a call that ran to its end

@@ -25,12 +25,12 @@ numberOf Diff = 6
 unfoldable pub operationNumber : ℕ → ℕ
 operationNumber n = cond (eqb n 0) 6 (min n 6)
 
--- The number that refuses an operation before it places, 0 where none does: the operations 1 to 3 take a handle and
--- an item, 4 to 6 two handles.
-unfoldable pub operationRefusal : ℕ → ℕ → ℕ → ℕ → ℕ
-operationRefusal op count p q = cond (takesItem op) (testsOf count p 0 (itemTest q) 0 0) (testsOf count p q 0 0 0)
+-- The number that refuses an operation before it places, 0 where none does, in a store of some limit and count: the
+-- operations 1 to 3 take a handle and an item, 4 to 6 two handles.
+unfoldable pub operationRefusal : ℕ → ℕ → ℕ → ℕ → ℕ → ℕ
+operationRefusal op limit count p q = cond (takesItem op) (testsOf count p 0 (itemTest limit q) 0 0) (testsOf count p q 0 0 0)
 
 -- What operation number op on p and q promises: to place the family that it names in the book that the words hold.
 abbrev pub OperationCall : ℕ → ℕ → ℕ → Store → List ℕ → List ℕ → List ℕ → Placed → List ℕ → List ℕ → List ℕ → Type 0
 OperationCall op p q s nodes lookup cache r nodes′ lookup′ cache′ =
-    PlaceCall (operationRefusal op (s .count) p q) (named op (bookOf nodes (s .count)) p q) s nodes lookup cache r nodes′ lookup′ cache′
+    PlaceCall (operationRefusal op (s .limit) (s .count) p q) (named op (bookOf nodes (s .count)) p q) s nodes lookup cache r nodes′ lookup′ cache′

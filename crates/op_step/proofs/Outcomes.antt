@@ -26,7 +26,7 @@ use Rattle.op_step.proofs.Steps.{of}
 
 module _ (s : Store) (nodes lookup cache : List ℕ) where
   -- calls that name the same family
-  pub ran-same : {F G : List Family → Family} {r : Placed} {nodes′ lookup′ cache′ : List ℕ} → ((B : List Family) → Holds B (s .count) nodes lookup → G B ≡ F B)
+  pub ran-same : {F G : List Family → Family} {r : Placed} {nodes′ lookup′ cache′ : List ℕ} → ((limit : ℕ) (B : List Family) → Holds limit B (s .count) nodes lookup → G B ≡ F B)
       → Ran F s nodes lookup cache r nodes′ lookup′ cache′ → Ran G s nodes lookup cache r nodes′ lookup′ cache′
   ran-same e R =
       record {
@@ -39,7 +39,7 @@ module _ (s : Store) (nodes lookup cache : List ℕ) where
       }
 
   module _ (roomy : Roomy s nodes lookup) (call : Call) where
-    pub ran-broken : ((B : List Family) → Holds B (s .count) nodes lookup → ⊥) → Ran (of call) s nodes lookup cache (placedAs (s .capacity) (s .count) damagedNumber) nodes lookup cache
+    pub ran-broken : ((limit : ℕ) (B : List Family) → Holds limit B (s .count) nodes lookup → ⊥) → Ran (of call) s nodes lookup cache (placedAs (s .capacity) (s .count) damagedNumber) nodes lookup cache
     ran-broken f = plain-ran (of call) s nodes lookup cache (plain-broken (of call) s nodes lookup roomy f)
 
     pub ran-recalled : (h : ℕ) {x : Recalled} → 1 ≤ call .op → x ≡ Hit h → RecallOf cache (s .count) call x → Ran (of call) s nodes lookup cache (placedAs (s .capacity) (s .count) h) nodes lookup cache

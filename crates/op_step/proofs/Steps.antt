@@ -16,7 +16,6 @@ use Rattle.store.specs.declared.record.Refusal.{Refusal}
 use Rattle.store.specs.declared.record.PlaceAnswer.{PlaceAnswer}
 use Rattle.store.specs.declared.record.PlaceAnswer.the-variants.{Handle, Refused}
 use Rattle.store.specs.declared.record.Placed.{Placed}
-use Rattle.store.specs.Words.{itemLimit}
 use Rattle.store.specs.Operations.{named}
 use Rattle.store.specs.Cache.{Truth, True}
 use Rattle.store_node.specs.Inner.{NodeAsks, NodeIt}
@@ -38,22 +37,22 @@ of call B = named (call .op) B (call .p) (call .q)
 pub record Taken (call : Call) (n : ℕ) : Type 0 where
   pub operation : (1 ≤ call .op) × (call .op ≤ 6)
   pub first : call .p < n + 2
-  pub second : (call .op < 4 → (1 ≤ call .q) × (call .q ≤ itemLimit)) × (4 ≤ call .op → call .q < n + 2)
+  pub second : (call .op < 4 → (1 ≤ call .q) × (call .q ≤ limit)) × (4 ≤ call .op → call .q < n + 2)
 
 -- a call by its two calls below a level
 pub record Split (call below above : Call) (level : ℕ) (n : ℕ) (nodes lookup : List ℕ) : Type 0 where
   pub taken : Taken call n
   pub other : Taken above n
-  pub is : (B : List Family) → Holds B n nodes lookup → of call B ≡ mk level (of below B) (of above B)
-  pub low : (B : List Family) → Holds B n nodes lookup → top (of below B) < level
-  pub high : (B : List Family) → Holds B n nodes lookup → top (of above B) < level
+  pub is : {limit : ℕ} (B : List Family) → Holds limit B n nodes lookup → of call B ≡ mk level (of below B) (of above B)
+  pub low : {limit : ℕ} (B : List Family) → Holds limit B n nodes lookup → top (of below B) < level
+  pub high : {limit : ℕ} (B : List Family) → Holds limit B n nodes lookup → top (of above B) < level
 
-of-grown : {B C : List Family} {n : ℕ} {nodes lookup : List ℕ} (call : Call) → Taken call n → Holds B n nodes lookup → Grown B C → of call C ≡ of call B
+of-grown : {limit : ℕ} {B C : List Family} {n : ℕ} {nodes lookup : List ℕ} (call : Call) → Taken call n → Holds limit B n nodes lookup → Grown B C → of call C ≡ of call B
 of-grown call t H g = named-grown g (call .op) (call .p) (call .q) (inside H (call .p) (t .first)) (λ l. inside H (call .q) (t .second .1 l))
 
 -- the cache's word for a call whose result was handed over
-truth-of : {B : List Family} {n m h : ℕ} {nodes lookup nodes′ lookup′ : List ℕ} (call : Call) → Taken call n → Holds B n nodes lookup → Handed (place B (of call B)) (of call B) h m nodes′ lookup′
-    → Truth (place B (of call B)) (call .op) (call .p) (call .q) h
+truth-of : {limit : ℕ} {B : List Family} {n m h : ℕ} {nodes lookup nodes′ lookup′ : List ℕ} (call : Call) → Taken call n → Holds limit B n nodes lookup → Handed limit (place B (of call B)) (of call B) h m nodes′ lookup′
+    → Truth limit (place B (of call B)) (call .op) (call .p) (call .q) h
 truth-of {B} {h = h} call t H G =
     let g = place-grown B (of call B) in
     let l = grown-length g in
@@ -80,17 +79,17 @@ module _ (call below above : Call) (level : ℕ) (s : Store) (nodes lookup cache
       }
 
   module _ (z : ℕ) (ez : m₁ .answer ≡ Handle z) {m₂ : Placed} {nodes₂ lookup₂ cache₂ : List ℕ} (S : Ran (of above) (m₁ .store) nodes₁ lookup₁ cache₁ m₂ nodes₂ lookup₂ cache₂) where
-    module _ {B : List Family} (H : Holds B (s .count) nodes lookup) (t : True B cache) where
-      given : Handed (place B (of below B)) (of below B) z (m₁ .store .count) nodes₁ lookup₁
+    module _ {limit : ℕ} {B : List Family} (H : Holds limit B (s .count) nodes lookup) (t : True limit B cache) where
+      given : Handed limit (place B (of below B)) (of below B) z (m₁ .store .count) nodes₁ lookup₁
       given = handed-of ez (R .sound B H t)
 
       same : of above (place B (of below B)) ≡ of above B
       same = of-grown above (K .other) H (place-grown B (of below B))
 
-      second : Outcome (place (place B (of below B)) (of above B)) (of above B) (s .capacity) (m₂ .store .count) nodes₂ lookup₂ (m₂ .answer)
+      second : Outcome limit (place (place B (of below B)) (of above B)) (of above B) (s .capacity) (m₂ .store .count) nodes₂ lookup₂ (m₂ .answer)
       second = rw (same, R .kept .same-capacity) at (S .sound (place B (of below B)) (given .holds) (R .cached B H t z ez))
 
-      second-cache : (o : ℕ) → m₂ .answer ≡ Handle o → True (place (place B (of below B)) (of above B)) cache₂
+      second-cache : (o : ℕ) → m₂ .answer ≡ Handle o → True limit (place (place B (of below B)) (of above B)) cache₂
       second-cache o e = rw same at (S .cached (place B (of below B)) (given .holds) (R .cached B H t z ez) o e)
 
       -- the zero side, in the book after both
@@ -121,7 +120,7 @@ module _ (call below above : Call) (level : ℕ) (s : Store) (nodes lookup cache
     -- both given: the node
     module _ (o : ℕ) (eo : m₂ .answer ≡ Handle o) {r : Placed} {nodes₃ lookup₃ cache₃ : List ℕ} (N : NodeIt (m₂ .store) nodes₂ lookup₂ level z o r nodes₃ lookup₃)
         (M : RememberedAnswer cache₂ call (r .answer) cache₃) where
-      third : {B : List Family} → Holds B (s .count) nodes lookup → True B cache → Outcome (place B (of call B)) (of call B) (s .capacity) (r .store .count) nodes₃ lookup₃ (r .answer)
+      third : {limit : ℕ} {B : List Family} → Holds limit B (s .count) nodes lookup → True limit B cache → Outcome limit (place B (of call B)) (of call B) (s .capacity) (r .store .count) nodes₃ lookup₃ (r .answer)
       third {B} H t =
           let G = handed-of eo (second H t) in
           let ea : at (place (place B (of below B)) (of above B)) z ≡ of below B = still H t in
@@ -149,7 +148,7 @@ module _ (call below above : Call) (level : ℕ) (s : Store) (nodes lookup cache
 -- what Getnode asks, after two results: the zero side and the one side
 pub node-asks : {F G : List Family → Family} {s : Store} {nodes lookup cache : List ℕ} {first second : Placed} {nodes₁ lookup₁ cache₁ nodes₂ lookup₂ cache₂ : List ℕ} {level z o : ℕ}
     → Roomy s nodes lookup → Ran F s nodes lookup cache first nodes₁ lookup₁ cache₁ → first .answer ≡ Handle z → Ran G (first .store) nodes₁ lookup₁ cache₁ second nodes₂ lookup₂ cache₂
-    → second .answer ≡ Handle o → 1 ≤ level → level ≤ itemLimit → NodeAsks (second .store) nodes₂ lookup₂ level z o
+    → second .answer ≡ Handle o → 1 ≤ level → level ≤ limit → NodeAsks (second .store) nodes₂ lookup₂ level z o
 node-asks R L e M d some low =
     record {
       roomy = kept-roomy (kept-trans (L .kept) (M .kept)) R;

@@ -32,7 +32,7 @@ module _ (call : Call) (s : Store) (nodes lookup : List ℕ) (I : ItemCall call 
 
   -- the sides at the item
   module _ (not-below : topAt nodes (call .p) ≤ call .q) {z o : ℕ} (T : Halves nodes (s .count) (call .p) (call .q) z o) where
-    low : {B : List Family} → Holds B (s .count) nodes lookup → top (at B (call .p)) ≤ call .q
+    low : {limit : ℕ} {B : List Family} → Holds limit B (s .count) nodes lookup → top (at B (call .p)) ≤ call .q
     low H = omega (arith, top-at H (call .p) (omega arith))
 
     pub leaf-one : call .op ≡ 1 → RanPlain (λ B. named (call .op) B (call .p) (call .q)) s nodes lookup (placedAs (s .capacity) (s .count) o) nodes lookup

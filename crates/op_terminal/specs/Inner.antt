@@ -4,11 +4,10 @@ use mathlib.Core.Path.{_≡_}
 use mathlib.Core.Logic.{_⊎_}
 use mathlib.Core.List.{List}
 use Rattle.family.specs.Book.{at}
-use Rattle.family.specs.Family.{Family, empty, Ordered}
-use Rattle.store.specs.declared.record.Store.{Store}
+use Rattle.family.specs.Family.{Family, empty, Ordered, largestItem}
 use Rattle.store.specs.Operations.{named}
-use Rattle.store.specs.Words.{itemLimit, topAt}
-use Rattle.store.specs.Inner.{Roomy}
+use Rattle.store.specs.Words.{topAt}
+use Rattle.store.specs.Inner.{Fill, Roomy}
 use Rattle.op_cache.specs.declared.Call.{Call}
 use Rattle.op_cache.specs.declared.Recalled.{Recalled}
 use Rattle.op_cache.specs.declared.Recalled.the-variants.{Hit, Miss}
@@ -19,15 +18,15 @@ pub record ItemOperation (op : ℕ) : Type 0 where
   pub low : op ≤ 3
 
 -- such a call on words that fit: a handle held, and an item
-pub record ItemCall (call : Call) (s : Store) (nodes lookup : List ℕ) : Type 0 where
+pub record ItemCall (call : Call) (s : Fill) (nodes lookup : List ℕ) : Type 0 where
   pub roomy : Roomy s nodes lookup
   pub operation : ItemOperation (call .op)
   pub held : call .p ≤ s .count + 1
   pub item-some : 1 ≤ call .q
-  pub item-low : call .q ≤ itemLimit
+  pub item-low : call .q ≤ largestItem
 
 -- such a call with the top of the family, and an item that is not below it
-pub record LeafAsks (call : Call) (level : ℕ) (s : Store) (nodes lookup : List ℕ) : Type 0 where
+pub record LeafAsks (call : Call) (level : ℕ) (s : Fill) (nodes lookup : List ℕ) : Type 0 where
   pub taken : ItemCall call s nodes lookup
   pub level-is : level ≡ topAt nodes (call .p)
   pub not-below : level ≤ call .q

@@ -1,9 +1,9 @@
 // Subset1 (1), Subset0 (2) and Change (3) by an item that is not below the top.
 ghost use Rattle.op_terminal.specs.Inner.{LeafAsks};
 ghost use Rattle.op_cache.specs.Inner.{callOf};
-ghost use Rattle.store.specs.Coded.{storeOf, placedAs};
+ghost use Rattle.store.specs.Coded.{reachedAs};
 ghost use Rattle.store.specs.Operations.{named};
-ghost use Rattle.store.specs.Inner.{RanPlain};
+ghost use Rattle.store.specs.Inner.{fillOf, RanPlain};
 use store::coded::DAMAGED;
 use store_node::getnode::node_of;
 use store_sides::Cofactors;
@@ -21,8 +21,8 @@ pub fn leaf(
     nodes: &mut [u32],
     lookup: &mut [u32],
 ) -> u32
-    requires { ⌜ LeafAsks (callOf op p item) level (storeOf capacity (now count)) (now nodes) (now lookup) ⌝ }
-    ensures { λ r. ⌜ RanPlain (λ B. named op B p item) (storeOf capacity (now (count .entry))) (now (nodes .entry)) (now (lookup .entry)) (placedAs capacity (now (count .exit)) r) (now (nodes .exit)) (now (lookup .exit)) ⌝ }
+    requires { ⌜ LeafAsks (callOf op p item) level (fillOf capacity (now count)) (now nodes) (now lookup) ⌝ }
+    ensures { λ r. ⌜ RanPlain item (λ B. named op B p item) (fillOf capacity (now (count .entry))) (now (nodes .entry)) (now (lookup .entry)) (reachedAs capacity (now (count .exit)) r) (now (nodes .exit)) (now (lookup .exit)) ⌝ }
 {
     let Cofactors::Two { zero, one } = cofactors_at(nodes, *count, p, level, item) else {
         return DAMAGED;

@@ -43,7 +43,7 @@ has-base (x ∷ c) = refl
 -- on the way down from p: the rest is a member here exactly when the combination is one of p, and the top is at most
 -- what is left
 pub record Along (nodes : List ℕ) (n p : ℕ) (c : List ℕ) (at′ : ℕ) (rest : List ℕ) (left : ℕ) : Type 0 where
-  pub same : (B : List Family) (lookup : List ℕ) → Holds B n nodes lookup → (at′ ≤ n + 1) × (has (at B at′) rest ≡ has (at B p) c) × (top (at B at′) ≤ left)
+  pub same : {limit : ℕ} (B : List Family) (lookup : List ℕ) → Holds limit B n nodes lookup → (at′ ≤ n + 1) × (has (at B at′) rest ≡ has (at B p) c) × (top (at B at′) ≤ left)
 
 module _ (nodes : List ℕ) (n p : ℕ) (c : List ℕ) where
   pub along-start : p ≤ n + 1 → Along nodes n p c p c 512
@@ -71,10 +71,10 @@ module _ (nodes : List ℕ) (n p : ℕ) (c : List ℕ) where
       abbrev o : ℕ
       o = getD nodes (3 * (at′ - 2) + 2) 0
 
-      is-node : {B : List Family} {lookup : List ℕ} → Holds B n nodes lookup → at B at′ ≡ node i (at B z) (at B o)
+      is-node : {limit : ℕ} {B : List Family} {lookup : List ℕ} → Holds limit B n nodes lookup → at B at′ ≡ node i (at B z) (at B o)
       is-node {B} {lookup} H = at-node H at′ h (omega (arith, A .same B lookup H .0))
 
-      falls : {B : List Family} {lookup : List ℕ} → Holds B n nodes lookup → Ordered (node i (at B z) (at B o))
+      falls : {limit : ℕ} {B : List Family} {lookup : List ℕ} → Holds limit B n nodes lookup → Ordered (node i (at B z) (at B o))
       falls {B} {lookup} H = rw (is-node H) at (within H at′ (omega (arith, A .same B lookup H .0)) .ordered)
 
       pub along-end : left ≡ 0 → Memberly nodes n p c false

@@ -16,4 +16,4 @@ pub record Stepped (nodes : List ℕ) (base : ℕ) (c : List ℕ) (next : ℕ) (
 
 -- whether a combination is a member of p
 pub record Memberly (nodes : List ℕ) (n p : ℕ) (c : List ℕ) (r : Bool) : Type 0 where
-  pub is : (B : List Family) (lookup : List ℕ) → Holds B n nodes lookup → r ≡ has (at B p) c
+  pub is : {limit : ℕ} (B : List Family) (lookup : List ℕ) → Holds limit B n nodes lookup → r ≡ has (at B p) c

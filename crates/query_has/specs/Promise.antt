@@ -40,7 +40,7 @@ hasAnswer B p c = record { refusal = hasRefusal B p; member = cond (eqb (hasRefu
 -- Has's promise. It changes no word, and hands the record back as it came.
 pub record HasCall (s : Store) (nodes lookup : List ℕ) (p : ℕ) (c : List ℕ) (r : Asked) : Type 0 where
   -- a certain 10
-  pub misfit : fitting (s .capacity) (s .count) (length nodes) (length lookup) ≡ false → r .answer ≡ Refused Damaged
+  pub misfit : fitting s (length nodes) (length lookup) ≡ false → r .answer ≡ Refused Damaged
   -- a sound store; no cache is lent
   pub answer-is : Sound s nodes lookup [] → hasGivenBy (r .answer) ≡ hasAnswer (bookOf nodes (s .count)) p c
   -- any store

@@ -43,7 +43,7 @@ sizeScratch B p scratch = cond (eqb (scratchTests B p (length scratch)) 0) (size
 -- Size's promise. It changes no word but its scratch, and hands the record back as it came.
 pub record SizeCall (s : Store) (nodes lookup : List ℕ) (p : ℕ) (scratch : List ℕ) (r : Measured) (scratch′ : List ℕ) : Type 0 where
   -- a certain 10
-  pub misfit : fitting (s .capacity) (s .count) (length nodes) (length lookup) ≡ false → (r .answer ≡ Refused Damaged) × (scratch′ ≡ scratch)
+  pub misfit : fitting s (length nodes) (length lookup) ≡ false → (r .answer ≡ Refused Damaged) × (scratch′ ≡ scratch)
   -- a sound store; no cache is lent
   pub answer-is : Sound s nodes lookup [] → sizeGivenBy (r .answer) ≡ sizeAnswer (bookOf nodes (s .count)) p (length scratch)
   pub scratch-is : Sound s nodes lookup [] → scratch′ ≡ sizeScratch (bookOf nodes (s .count)) p scratch

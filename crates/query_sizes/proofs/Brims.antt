@@ -31,14 +31,14 @@ Known sizes B n = (k : ℕ) → k < n → getD sizes k 0 ≡ min (size (at B (k 
 -- the way down from p: the size at this handle is p's, and its top is at most what is left
 pub record Down (nodes sizes : List ℕ) (n p at′ left : ℕ) : Type 0 where
   pub inside : at′ ≤ n + 1
-  pub same : (B : List Family) (lookup : List ℕ) → Holds B n nodes lookup → Known sizes B n → most ≤ size (at B p) → (size (at B at′) ≡ size (at B p)) × (top (at B at′) ≤ left)
+  pub same : {limit : ℕ} (B : List Family) (lookup : List ℕ) → Holds limit B n nodes lookup → Known sizes B n → most ≤ size (at B p) → (size (at B at′) ≡ size (at B p)) × (top (at B at′) ≤ left)
 
 module _ (nodes sizes : List ℕ) (n p : ℕ) where
   pub down-start : p ≤ n + 1 → Down nodes sizes n p p 512
   down-start l = record { inside = l; same = λ B lookup H K m. (refl, within H p (omega arith) .low) }
 
   module _ (at′ left : ℕ) (D : Down nodes sizes n p at′ left) where
-    leaf-size : {B : List Family} {lookup : List ℕ} → Holds B n nodes lookup → (h : ℕ) → h < 2 → size (at B h) ≤ 1
+    leaf-size : {limit : ℕ} {B : List Family} {lookup : List ℕ} → Holds limit B n nodes lookup → (h : ℕ) → h < 2 → size (at B h) ≤ 1
     leaf-size H zero l = rw (at-0 H) (omega arith)
     leaf-size H (suc zero) l = rw (at-1 H) (omega arith)
     leaf-size H (suc (suc h)) l = absurd (omega arith)
@@ -54,7 +54,7 @@ module _ (nodes sizes : List ℕ) (n p : ℕ) where
       abbrev o : ℕ
       o = getD nodes (3 * (at′ - 2) + 2) 0
 
-      module _ {B : List Family} {lookup : List ℕ} (H : Holds B n nodes lookup) where
+      module _ {limit : ℕ} {B : List Family} {lookup : List ℕ} (H : Holds limit B n nodes lookup) where
         here : Entry B (at′ - 2) (getD nodes (3 * (at′ - 2)) 0) z o
         here = H .each (at′ - 2) (omega (arith, D .inside))
 

@@ -17,7 +17,7 @@ use Rattle.query_sizes.specs.Inner.{Filled}
 use Rattle.store.proofs.Handles.{word-leaf, word-node}
 
 -- words that hold the sizes below j give the size of every handle below j + 2
-pub size-known : {B : List Family} {n : ℕ} {nodes lookup : List ℕ} → Holds B n nodes lookup → (sizes : List ℕ) (j : ℕ) → ((k : ℕ) → k < j → getD sizes k 0 ≡ min (size (at B (k + 2))) most)
+pub size-known : {limit : ℕ} {B : List Family} {n : ℕ} {nodes lookup : List ℕ} → Holds limit B n nodes lookup → (sizes : List ℕ) (j : ℕ) → ((k : ℕ) → k < j → getD sizes k 0 ≡ min (size (at B (k + 2))) most)
     → (h : ℕ) → h < j + 2 → wordOf sizes h ≡ min (size (at B h)) most
 size-known H sizes j e zero l = sym (word-leaf sizes 0 (omega arith)) ∙ rw (at-0 H) (omega arith)
 size-known H sizes j e (suc zero) l = sym (word-leaf sizes 1 (omega arith)) ∙ rw (at-1 H) (omega arith)
@@ -28,7 +28,7 @@ capped : (x y : ℕ) → min (min x most + min y most) most ≡ min (x + y) most
 capped x y = omega arith
 
 -- the size of node k + 2 by its words
-pub size-node : {B : List Family} {n : ℕ} {nodes lookup : List ℕ} → Holds B n nodes lookup → (k : ℕ) → k < n
+pub size-node : {limit : ℕ} {B : List Family} {n : ℕ} {nodes lookup : List ℕ} → Holds limit B n nodes lookup → (k : ℕ) → k < n
     → size (at B (k + 2)) ≡ size (at B (getD nodes (3 * k + 1) 0)) + size (at B (getD nodes (3 * k + 2) 0))
 size-node H k l = ap size (H .each k l .is)
 
@@ -46,7 +46,7 @@ filled-step {nodes} {n} {j} {sizes} {sizes₁} a b v l m ea eb e F =
           (λ p d. getD-set-other sizes₁ j k v 0 p ∙ F .each B lookup H k (omega arith));
     }
   where
-    here : {B : List Family} {lookup : List ℕ} → Holds B n nodes lookup → v ≡ min (size (at B (j + 2))) most
+    here : {limit : ℕ} {B : List Family} {lookup : List ℕ} → Holds limit B n nodes lookup → v ≡ min (size (at B (j + 2))) most
     here {B} {lookup} H =
         let E = H .each j l in
         let z = size-known H sizes₁ j (F .each B lookup H) (getD nodes (3 * j + 1) 0) (E .zero-before) in
@@ -62,7 +62,7 @@ getD-map [] k l = absurd (omega arith)
 getD-map (F ∷ Fs) zero l = refl
 getD-map (F ∷ Fs) (suc k) l = getD-map Fs k (omega arith)
 
-pub filled-is : {B : List Family} {n : ℕ} {nodes lookup sizes sizes′ : List ℕ} → Holds B n nodes lookup → n ≤ length sizes → Filled nodes n n sizes sizes′ → sizes′ ≡ sizesOf B ++ drop (length B - 2) sizes
+pub filled-is : {limit : ℕ} {B : List Family} {n : ℕ} {nodes lookup sizes sizes′ : List ℕ} → Holds limit B n nodes lookup → n ≤ length sizes → Filled nodes n n sizes sizes′ → sizes′ ≡ sizesOf B ++ drop (length B - 2) sizes
 unfolding sizesOf
 filled-is {B} {n} {nodes} {lookup} {sizes} {sizes′} H l F =
     ext-getD 0 sizes′ (new ++ drop (length B - 2) sizes)

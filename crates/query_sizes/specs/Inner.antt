@@ -12,7 +12,7 @@ use Rattle.query_sizes.specs.NodeSizes.{most}
 
 -- the words of the first j of n nodes are their sizes
 abbrev pub SizesTo : List ℕ → ℕ → ℕ → List ℕ → Type 0
-SizesTo nodes n j sizes = (B : List Family) (lookup : List ℕ) → Holds B n nodes lookup → (k : ℕ) → k < j → getD sizes k 0 ≡ min (size (at B (k + 2))) most
+SizesTo nodes n j sizes = {limit : ℕ} (B : List Family) (lookup : List ℕ) → Holds limit B n nodes lookup → (k : ℕ) → k < j → getD sizes k 0 ≡ min (size (at B (k + 2))) most
 
 -- the words of the nodes held, and a word for each
 pub record FillAsks (nodes sizes : List ℕ) (count : ℕ) : Type 0 where
@@ -28,5 +28,5 @@ pub record Filled (nodes : List ℕ) (n j : ℕ) (sizes sizes′ : List ℕ) : T
 
 -- whether the size of p, whose word is 2^64 - 1, is above that
 pub record Exceeding (nodes sizes : List ℕ) (n p : ℕ) (r : Bool) : Type 0 where
-  pub is : (B : List Family) (lookup : List ℕ) → Holds B n nodes lookup → ((k : ℕ) → k < n → getD sizes k 0 ≡ min (size (at B (k + 2))) most) → most ≤ size (at B p)
+  pub is : {limit : ℕ} (B : List Family) (lookup : List ℕ) → Holds limit B n nodes lookup → ((k : ℕ) → k < n → getD sizes k 0 ≡ min (size (at B (k + 2))) most) → most ≤ size (at B p)
       → r ≡ ltb most (size (at B p))

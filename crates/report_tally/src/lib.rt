@@ -67,11 +67,11 @@ pub fn tally_of(store: Store, passed: u32, returned: u32, lines: u64, ending: En
     }
 }
 
-// Opens a log on fresh words.
+// Opens a log on fresh words, for all items.
 pub fn open_log(nodes: &mut [u32], lookup: &mut [u32], cache: &mut [u32]) -> Tally
     ensures { λ r. ⌜ OpenCall (now (nodes .entry)) (now (lookup .entry)) r (now (nodes .exit)) (now (lookup .exit)) (now (cache .exit)) ⌝ }
 {
-    let freshened = fresh(nodes, lookup, cache);
+    let freshened = fresh(nodes, lookup, cache, 512);
     let store = freshened.store;
     tally_of(store, empty(), empty(), 0, Ending::Going)
 }

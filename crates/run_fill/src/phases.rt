@@ -136,7 +136,7 @@ pub fn all(
     node_copy: &mut [u32],
     lookup_copy: &mut [u32],
 ) {
-    let freshened = fresh(nodes, lookup, cache);
+    let freshened = fresh(nodes, lookup, cache, 512);
     text(b"fresh: ");
     record(freshened.store);
     let mut at = start(freshened.store);

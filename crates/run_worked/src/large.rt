@@ -122,7 +122,7 @@ fn size_lines(store: Store, nodes: &mut [u32], lookup: &mut [u32], cache: &mut [
 
 // The lines on lent words.
 fn lines_on(nodes: &mut [u32], lookup: &mut [u32], cache: &mut [u32]) {
-    let freshened = fresh(nodes, lookup, cache);
+    let freshened = fresh(nodes, lookup, cache, 512);
     let sized = size_lines(freshened.store, nodes, lookup, cache);
     lines(11, 15, sized, nodes, lookup, cache);
 }

@@ -45,7 +45,7 @@ fn slot_line(lookup: &[u32]) {
 
 // The lines of Fresh and of the operations.
 fn operation_lines(nodes: &mut [u32], lookup: &mut [u32], cache: &mut [u32]) -> Store {
-    let freshened = fresh(nodes, lookup, cache);
+    let freshened = fresh(nodes, lookup, cache, 512);
     fresh_text(freshened);
     let one = lines(0, 1, freshened.store, nodes, lookup, cache);
     slot_line(lookup);

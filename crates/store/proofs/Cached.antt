@@ -12,7 +12,7 @@ use Rattle.store.specs.Cache.{Truth, True}
 use Rattle.store.proofs.Naming.{named-grown}
 
 -- a true cache, in a book that grew
-pub truth-grown : {B C : List Family} {op p q h : ℕ} → Grown B C → Truth B op p q h → Truth C op p q h
+pub truth-grown : {limit : ℕ} {B C : List Family} {op p q h : ℕ} → Grown B C → Truth limit B op p q h → Truth limit C op p q h
 truth-grown {B} {C} {op} {p} {q} {h} g t =
     let l = grown-length g in
     record {
@@ -23,5 +23,5 @@ truth-grown {B} {C} {op} {p} {q} {h} g t =
       means = grown-at g h (t .result) ∙ t .means ∙ sym (named-grown g op p q (t .first) (t .second .1));
     }
 
-pub true-grown : {B C : List Family} {cache : List ℕ} → Grown B C → True B cache → True C cache
+pub true-grown : {limit : ℕ} {B C : List Family} {cache : List ℕ} → Grown B C → True limit B cache → True limit C cache
 true-grown g t = record { each = λ r op p q h G. ⊎-elim (λ z. inl z) (λ u. inr (truth-grown g u)) (t .each r op p q h G) }

@@ -22,7 +22,7 @@ use Rattle.store.specs.Refusals.{refusalNumber, Given, givenBy}
 use Rattle.store.specs.Sound.{Sound}
 use Rattle.store.specs.Placing.{costOf, tooLarge, placeAnswer}
 use Rattle.store.specs.Promise.{Left, leaves, placing, cacheRefused, PlaceCall}
-use Rattle.store.specs.Inner.{Roomy}
+use Rattle.store.specs.Inner.{fillIn, Roomy}
 use Rattle.store.proofs.Fitting.{fits-true, true-fits}
 
 pub placed-is : {r : Placed} {s : Store} {a : PlaceAnswer} → r .store ≡ s → r .answer ≡ a → r ≡ record { store = s; answer = a }
@@ -46,13 +46,14 @@ refusal-some x e = go x e
     go Refusal.Output e = omega arith
     go Refusal.NoFile e = omega arith
     go Refusal.Damaged e = omega arith
+    go Refusal.AboveLimit e = omega arith
 
-pub sound-fits : {s : Store} {nodes lookup cache : List ℕ} → Sound s nodes lookup cache → fitting (s .capacity) (s .count) (length nodes) (length lookup) ≡ true
-sound-fits {s} {nodes} {lookup} S = true-fits (s .capacity) (s .count) (length nodes) (length lookup) (record { is = S .capacity-is; longer = S .longer; within = S .within })
+pub sound-fits : {s : Store} {nodes lookup cache : List ℕ} → Sound s nodes lookup cache → fitting s (length nodes) (length lookup) ≡ true
+sound-fits {s} {nodes} {lookup} S = true-fits s (length nodes) (length lookup) (record { limit-is = (S .limit-some, S .limit-low); is = S .capacity-is; longer = S .longer; within = S .within })
 
-pub fits-roomy : (s : Store) (nodes lookup : List ℕ) → fitting (s .capacity) (s .count) (length nodes) (length lookup) ≡ true → Roomy s nodes lookup
+pub fits-roomy : (s : Store) (nodes lookup : List ℕ) → fitting s (length nodes) (length lookup) ≡ true → Roomy (fillIn s) nodes lookup
 fits-roomy s nodes lookup e =
-    let f = fits-true (s .capacity) (s .count) (length nodes) (length lookup) e in
+    let f = fits-true s (length nodes) (length lookup) e in
     record { within = f .within; words = omega (arith, f .is); small = omega (arith, f .is); longer = f .longer }
 
 -- the room for the parts not held is what the placed book's length says
@@ -66,7 +67,7 @@ module _ (capacity : ℕ) (B : List Family) (F : Family) (n : ℕ) (size : lengt
   not-large l = le-ltb (capacity - (length B - 2)) (length (distinct (absent B (parts F)))) (omega (arith, place-length B F))
 
 module _ (s : Store) (nodes lookup cache : List ℕ) where
-  pub call-misfit : (refusal : ℕ) (F : Family) (r : Placed) → fitting (s .capacity) (s .count) (length nodes) (length lookup) ≡ false → r .store ≡ s → r .answer ≡ Refused Damaged
+  pub call-misfit : (refusal : ℕ) (F : Family) (r : Placed) → fitting s (length nodes) (length lookup) ≡ false → r .store ≡ s → r .answer ≡ Refused Damaged
       → PlaceCall refusal F s nodes lookup cache r nodes lookup cache
   call-misfit refusal F r e es ea =
       record {
@@ -74,11 +75,12 @@ module _ (s : Store) (nodes lookup cache : List ℕ) where
         on-sound = λ S. clash (sound-fits S) e;
         lengths = (refl, refl, refl);
         capacity = ap (λ x. x .capacity) es;
+        limit = ap (λ x. x .limit) es;
         refused = λ d. es;
       }
 
   -- refused as damaged where the store is not sound, all words as they came
-  pub call-unsound : (refusal : ℕ) (F : Family) (r : Placed) → fitting (s .capacity) (s .count) (length nodes) (length lookup) ≡ true → (Sound s nodes lookup cache → ⊥) → r .store ≡ s
+  pub call-unsound : (refusal : ℕ) (F : Family) (r : Placed) → fitting s (length nodes) (length lookup) ≡ true → (Sound s nodes lookup cache → ⊥) → r .store ≡ s
       → PlaceCall refusal F s nodes lookup cache r nodes lookup cache
   call-unsound refusal F r e f es =
       record {
@@ -86,11 +88,12 @@ module _ (s : Store) (nodes lookup cache : List ℕ) where
         on-sound = λ S. absurd (f S);
         lengths = (refl, refl, refl);
         capacity = ap (λ x. x .capacity) es;
+        limit = ap (λ x. x .limit) es;
         refused = λ d. es;
       }
 
   -- refused before anything is placed
-  pub call-refused : (n : ℕ) (F : Family) (r : Placed) (x : Refusal) → fitting (s .capacity) (s .count) (length nodes) (length lookup) ≡ true → refusalNumber x ≡ n → (n ≡ 5 → ⊥)
+  pub call-refused : (n : ℕ) (F : Family) (r : Placed) (x : Refusal) → fitting s (length nodes) (length lookup) ≡ true → refusalNumber x ≡ n → (n ≡ 5 → ⊥)
       → r .store ≡ s → r .answer ≡ Refused x → PlaceCall n F s nodes lookup cache r nodes lookup cache
   unfolding placing placeAnswer cacheRefused
   call-refused n F r x e en five es ea =
@@ -106,5 +109,6 @@ module _ (s : Store) (nodes lookup cache : List ℕ) where
         };
         lengths = (refl, refl, refl);
         capacity = ap (λ x. x .capacity) es;
+        limit = ap (λ x. x .limit) es;
         refused = λ d. es;
       }

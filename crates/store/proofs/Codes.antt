@@ -12,15 +12,15 @@ use Rattle.store.specs.declared.record.Refusal.the-variants.{Full, Damag
 use Rattle.store.specs.declared.record.PlaceAnswer.{PlaceAnswer}
 use Rattle.store.specs.declared.record.PlaceAnswer.the-variants.{Handle, Refused}
 use Rattle.store.specs.declared.record.Placed.{Placed}
-use Rattle.store.specs.Inner.{Roomy}
-use Rattle.store.specs.Coded.{fullNumber, answerOf, storeOf, placedAs}
+use Rattle.store.specs.Inner.{Fill, Roomy}
+use Rattle.store.specs.Coded.{fullNumber, answerOf}
 
 pub coded-handle : (r : ℕ) → r < fullNumber → answerOf r ≡ Handle r
 unfolding answerOf
 coded-handle r l = rw (lt-ltb r fullNumber l)
 
 -- a handle held
-pub coded-held : {s : Store} {nodes lookup : List ℕ} {n : ℕ} (h : ℕ) → Roomy s nodes lookup → n ≤ s .capacity → h ≤ n + 1 → answerOf h ≡ Handle h
+pub coded-held : {s : Fill} {nodes lookup : List ℕ} {n : ℕ} (h : ℕ) → Roomy s nodes lookup → n ≤ s .capacity → h ≤ n + 1 → answerOf h ≡ Handle h
 coded-held h R l m = coded-handle h (omega (arith, R .small))
 
 pub coded-full : (r : ℕ) → r ≡ fullNumber → answerOf r ≡ Refused Full
@@ -35,7 +35,7 @@ pub coded-refused : (r : ℕ) → fullNumber ≤ r → (x : Refusal) × (answerO
 coded-refused r l = by-eq r fullNumber (λ e d. (Full, coded-full r e)) (λ n d. (Damaged, coded-damaged r l n))
 
 -- an answer of a record, with the number that stands for it
-pub coded-placed : {capacity n : ℕ} {a : PlaceAnswer} (r : ℕ) (x : Placed) → x .store ≡ storeOf capacity n → x .answer ≡ a → answerOf r ≡ a → x ≡ placedAs capacity n r
+pub coded-placed : {s : Store} {a : PlaceAnswer} (r : ℕ) (x : Placed) → x .store ≡ s → x .answer ≡ a → answerOf r ≡ a → x ≡ record { store = s; answer = answerOf r }
 coded-placed r x es ea er = joined (x .store) (x .answer) es (ea ∙ sym er)
   where
     joined : (s : Store) {s′ : Store} (a : PlaceAnswer) {a′ : PlaceAnswer} → s ≡ s′ → a ≡ a′ → _≡_ {A = Placed} record { store = s; answer = a } record { store = s′; answer = a′ }

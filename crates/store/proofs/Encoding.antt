@@ -38,7 +38,7 @@ three l j h =
 take-three : (l : List ℕ) (j m : ℕ) → j + 3 ≤ length l → take (3 + m) (drop j l) ≡ getD l j 0 ∷ getD l (j + 1) 0 ∷ getD l (j + 2) 0 ∷ take m (drop (j + 3) l)
 take-three l j m h = take-add 3 m (drop j l) ∙ rw (three l j h, drop-drop 3 j l)
 
-module _ {B : List Family} {n : ℕ} {nodes lookup : List ℕ} (H : Holds B n nodes lookup) (fits : 3 * n ≤ length nodes) where
+module _ {limit : ℕ} {B : List Family} {n : ℕ} {nodes lookup : List ℕ} (H : Holds limit B n nodes lookup) (fits : 3 * n ≤ length nodes) where
   -- the words of the nodes from j on
   encoded-from : (m j : ℕ) → j + m ≡ n → flat (triplesOf B (drop (j + 2) B)) ≡ take (3 * m) (drop (3 * j) nodes)
   encoded-from zero j e = ap (λ X. flat (triplesOf B X)) (drop-of-length-le B {i = j + 2} (omega (arith, H .size)))

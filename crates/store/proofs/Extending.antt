@@ -13,24 +13,24 @@ use Rattle.family.proofs.Books.{add-new, book-add, grown-at}
 use Rattle.words.proofs.Cases.{by-eq}
 use Rattle.table.specs.Entered.{entered, startAt}
 use Rattle.table.proofs.Stops.{Has}
-use Rattle.store.specs.Words.{itemLimit}
 use Rattle.store.specs.Inner.{Entry, Holds}
 use Rattle.store.proofs.Held.{inside, held}
 use Rattle.store.proofs.Put.{entered-same}
 
 -- words that agree below the count, with the lookup of their nodes
-pub holds-kept : {B : List Family} {n : ℕ} {nodes lookup : List ℕ} (nodes′ lookup′ : List ℕ) → Holds B n nodes lookup → ((k : ℕ) → k < 3 * n → getD nodes′ k 0 ≡ getD nodes k 0)
-    → lookup′ ≡ entered (startAt nodes (length lookup′)) (length lookup′) n → Holds B n nodes′ lookup′
+pub holds-kept : {limit : ℕ} {B : List Family} {n : ℕ} {nodes lookup : List ℕ} (nodes′ lookup′ : List ℕ) → Holds limit B n nodes lookup → ((k : ℕ) → k < 3 * n → getD nodes′ k 0 ≡ getD nodes k 0)
+    → lookup′ ≡ entered (startAt nodes (length lookup′)) (length lookup′) n → Holds limit B n nodes′ lookup′
 holds-kept {B} {n} {nodes} nodes′ lookup′ H same e =
     record {
+      limit-low = H .limit-low;
       book = H .book;
       size = H .size;
       each = λ k l. rw (same (3 * k) (omega arith), same (3 * k + 1) (omega arith), same (3 * k + 2) (omega arith)) (H .each k l);
       lookup-is = e ∙ entered-same nodes nodes′ (length lookup′) n same;
     }
 
-module _ {B : List Family} {n : ℕ} {nodes lookup : List ℕ} (H : Holds B n nodes lookup) (i z o : ℕ) (w : Has nodes n i z o) (lz : z < n + 2) (lo : o < n + 2)
-    (within : Within itemLimit (node i (at B z) (at B o))) (lacks : length B ≤ number B (node i (at B z) (at B o))) where
+module _ {limit : ℕ} {B : List Family} {n : ℕ} {nodes lookup : List ℕ} (H : Holds limit B n nodes lookup) (i z o : ℕ) (w : Has nodes n i z o) (lz : z < n + 2) (lo : o < n + 2)
+    (within : Within limit (node i (at B z) (at B o))) (lacks : length B ≤ number B (node i (at B z) (at B o))) where
   grown : Grown B (B ++ (node i (at B z) (at B o) ∷ []))
   grown = record { new = node i (at B z) (at B o) ∷ []; eq = refl }
 
@@ -52,9 +52,10 @@ module _ {B : List Family} {n : ℕ} {nodes lookup : List ℕ} (H : Holds B n no
         one-before = E .one-before;
       })
 
-  pub extended : (lookup′ : List ℕ) → lookup′ ≡ entered (startAt nodes (length lookup′)) (length lookup′) (suc n) → Holds (B ++ (node i (at B z) (at B o) ∷ [])) (n + 1) nodes lookup′
+  pub extended : (lookup′ : List ℕ) → lookup′ ≡ entered (startAt nodes (length lookup′)) (length lookup′) (suc n) → Holds limit (B ++ (node i (at B z) (at B o) ∷ [])) (n + 1) nodes lookup′
   extended lookup′ e =
       record {
+        limit-low = H .limit-low;
         book = rw (← add-new B (node i (at B z) (at B o)) lacks) (book-add B i (at B z) (at B o) (H .book) within (held H z lz) (held H o lo));
         size = length-append B (node i (at B z) (at B o) ∷ []) ∙ omega (arith, H .size);
         each = entries;

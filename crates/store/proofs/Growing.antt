@@ -6,16 +6,15 @@ use mathlib.Core.Path.{_≡_, refl, sym, _∙_}
 use mathlib.Core.List.{List}
 use native.Mathlib.Omega.{arith}
 use Rattle.words.proofs.Cases.{by-lt}
-use Rattle.store.specs.declared.record.Store.{Store}
 use Rattle.store.specs.Words.{topAt}
-use Rattle.store.specs.Inner.{Roomy, Kept, Added}
+use Rattle.store.specs.Inner.{Fill, Roomy, Kept, Added}
 use Rattle.store.proofs.Held.{top-leaf, top-node}
 
-pub kept-self : (s : Store) (nodes lookup : List ℕ) → s .count ≤ s .capacity → Kept s nodes lookup s nodes lookup
+pub kept-self : (s : Fill) (nodes lookup : List ℕ) → s .count ≤ s .capacity → Kept s nodes lookup s nodes lookup
 kept-self s nodes lookup h =
     record { same-capacity = refl; grows = omega arith; fits = h; long = refl; long-lookup = refl; below = λ k l. refl; above = λ k l. refl }
 
-pub kept-trans : {s s₁ s₂ : Store} {nodes lookup nodes₁ lookup₁ nodes₂ lookup₂ : List ℕ}
+pub kept-trans : {s s₁ s₂ : Fill} {nodes lookup nodes₁ lookup₁ nodes₂ lookup₂ : List ℕ}
     → Kept s nodes lookup s₁ nodes₁ lookup₁ → Kept s₁ nodes₁ lookup₁ s₂ nodes₂ lookup₂ → Kept s nodes lookup s₂ nodes₂ lookup₂
 kept-trans K L =
     record {
@@ -28,7 +27,7 @@ kept-trans K L =
       above = λ k l. L .above k l ∙ K .above k (omega (arith, L .grows));
     }
 
-pub kept-roomy : {s s₁ : Store} {nodes lookup nodes₁ lookup₁ : List ℕ} → Kept s nodes lookup s₁ nodes₁ lookup₁ → Roomy s nodes lookup → Roomy s₁ nodes₁ lookup₁
+pub kept-roomy : {s s₁ : Fill} {nodes lookup nodes₁ lookup₁ : List ℕ} → Kept s nodes lookup s₁ nodes₁ lookup₁ → Roomy s nodes lookup → Roomy s₁ nodes₁ lookup₁
 kept-roomy K R =
     record {
       within = omega (arith, K .fits, K .same-capacity);
@@ -38,7 +37,7 @@ kept-roomy K R =
     }
 
 -- nodes that may have been added
-pub kept-added : {s s₁ : Store} {nodes lookup nodes₁ lookup₁ : List ℕ} → Kept s nodes lookup s₁ nodes₁ lookup₁ → Added (s .count) nodes (s₁ .count) nodes₁
+pub kept-added : {s s₁ : Fill} {nodes lookup nodes₁ lookup₁ : List ℕ} → Kept s nodes lookup s₁ nodes₁ lookup₁ → Added (s .count) nodes (s₁ .count) nodes₁
 kept-added K = record { grows = K .grows; below = K .below }
 
 pub added-self : (n : ℕ) (nodes : List ℕ) → Added n nodes n nodes
@@ -53,5 +52,5 @@ added-top {nodes = nodes} {nodes₁} K p h =
     (λ l e. top-leaf nodes₁ p l ∙ sym (top-leaf nodes p l))
     (λ l e. top-node nodes₁ p l ∙ K .below (3 * (p - 2)) (omega arith) ∙ sym (top-node nodes p l))
 
-pub kept-top : {s s₁ : Store} {nodes lookup nodes₁ lookup₁ : List ℕ} → Kept s nodes lookup s₁ nodes₁ lookup₁ → (p : ℕ) → p ≤ s .count + 1 → topAt nodes₁ p ≡ topAt nodes p
+pub kept-top : {s s₁ : Fill} {nodes lookup nodes₁ lookup₁ : List ℕ} → Kept s nodes lookup s₁ nodes₁ lookup₁ → (p : ℕ) → p ≤ s .count + 1 → topAt nodes₁ p ≡ topAt nodes p
 kept-top K p h = added-top (kept-added K) p h

@@ -12,7 +12,7 @@ use Rattle.family.specs.Book.{at, number, Held}
 use Rattle.family.proofs.Books.{held-at}
 use Rattle.table.proofs.Stops.{Has}
 use Rattle.table.proofs.OwnSlots.{Distinct, Items}
-use Rattle.store.specs.Words.{itemLimit, topAt}
+use Rattle.store.specs.Words.{topAt}
 use Rattle.store.specs.Inner.{Entry, Holds}
 
 pub top-leaf : (nodes : List ℕ) (p : ℕ) → p < 2 → topAt nodes p ≡ 0
@@ -23,7 +23,7 @@ pub top-node : (nodes : List ℕ) (p : ℕ) → 2 ≤ p → topAt nodes p ≡ ge
 unfolding topAt
 top-node nodes p h = rw (le-ltb p 2 h)
 
-module _ {B : List Family} {n : ℕ} {nodes lookup : List ℕ} (H : Holds B n nodes lookup) where
+module _ {limit : ℕ} {B : List Family} {n : ℕ} {nodes lookup : List ℕ} (H : Holds limit B n nodes lookup) where
   pub at-0 : at B 0 ≡ empty
   at-0 = ap (λ X. at X 0) (H .book .begins .eq)
 
@@ -42,7 +42,7 @@ module _ {B : List Family} {n : ℕ} {nodes lookup : List ℕ} (H : Holds B n no
   pub at-inj : (j k : ℕ) → j < n + 2 → k < n + 2 → at B j ≡ at B k → j ≡ k
   at-inj j k l m e = sym (handle-of j l) ∙ ap (λ X. number B X) e ∙ handle-of k m
 
-  pub within : (h : ℕ) → h < n + 2 → Within itemLimit (at B h)
+  pub within : (h : ℕ) → h < n + 2 → Within limit (at B h)
   within h l = H .book .within (at B h) (held h l)
 
   -- a node of the book, from its handle
@@ -103,12 +103,12 @@ module _ {B : List Family} {n : ℕ} {nodes lookup : List ℕ} (H : Holds B n no
             omega arith;
       }
 
-  node-within : (k : ℕ) → k < n → Within itemLimit (node (getD nodes (3 * k) 0) (at B (getD nodes (3 * k + 1) 0)) (at B (getD nodes (3 * k + 2) 0)))
+  node-within : (k : ℕ) → k < n → Within limit (node (getD nodes (3 * k) 0) (at B (getD nodes (3 * k + 1) 0)) (at B (getD nodes (3 * k + 2) 0)))
   node-within k l = rw (H .each k l .is) at (within (k + 2) (omega arith))
 
   pub words-items : Items nodes n
-  words-items = record { low = λ k l. let w = node-within k l in omega (arith, w .ordered .0); high = λ k l. node-within k l .low }
+  words-items = record { low = λ k l. let w = node-within k l in omega (arith, w .ordered .0); high = λ k l. let w = node-within k l in omega (arith, w .low, H .limit-low) }
 
 -- a handle whose top is at most t
-pub low-at : {B : List Family} {n : ℕ} {nodes lookup : List ℕ} → Holds B n nodes lookup → (h t : ℕ) → h ≤ n + 1 → topAt nodes h ≤ t → Within t (at B h)
+pub low-at : {limit : ℕ} {B : List Family} {n : ℕ} {nodes lookup : List ℕ} → Holds limit B n nodes lookup → (h t : ℕ) → h ≤ n + 1 → topAt nodes h ≤ t → Within t (at B h)
 low-at H h t l m = record { ordered = within H h (omega arith) .ordered; low = omega (arith, top-at H h (omega arith)) }

@@ -8,11 +8,9 @@ use native.Mathlib.Omega.{arith}
 use Rattle.family.specs.Family.{Family}
 use Rattle.family.specs.Book.{at, place}
 use Rattle.family.proofs.Placing.{place-grown, place-held}
-use Rattle.store.specs.declared.record.Store.{Store}
 use Rattle.store.specs.declared.record.PlaceAnswer.the-variants.{Handle}
-use Rattle.store.specs.declared.record.Placed.{Placed}
-use Rattle.store.specs.Coded.{damagedNumber, placedAs}
-use Rattle.store.specs.Inner.{Roomy, Holds, gave, Ran, RanPlain}
+use Rattle.store.specs.Coded.{damagedNumber, reachedAs}
+use Rattle.store.specs.Inner.{Fill, Reached, Roomy, Holds, gave, Ran, RanPlain}
 use Rattle.store.proofs.Held.{held}
 use Rattle.store.proofs.Answers.{handle-is, damaged-not}
 use Rattle.store.proofs.Codes.{coded-held, coded-damaged}
@@ -20,42 +18,42 @@ use Rattle.store.proofs.Growing.{kept-self}
 use Rattle.store.proofs.Cached.{true-grown}
 
 -- placing a held family
-pub place-at : {B : List Family} {n : ℕ} {nodes lookup : List ℕ} → Holds B n nodes lookup → (h : ℕ) → h < n + 2 → place B (at B h) ≡ B
+pub place-at : {limit : ℕ} {B : List Family} {n : ℕ} {nodes lookup : List ℕ} → Holds limit B n nodes lookup → (h : ℕ) → h < n + 2 → place B (at B h) ≡ B
 place-at {B} H h l = place-held B (at B h) (H .book) (held H h l)
 
-module _ (F : List Family → Family) (s : Store) (nodes lookup : List ℕ) where
+module _ (least : ℕ) (F : List Family → Family) (s : Fill) (nodes lookup : List ℕ) where
   -- a handle in the book already
-  pub plain-handle : Roomy s nodes lookup → (r : Placed) (h : ℕ) → r .store ≡ s → r .answer ≡ Handle h → h ≤ s .count + 1
-      → ((B : List Family) → Holds B (s .count) nodes lookup → at B h ≡ F B) → RanPlain F s nodes lookup r nodes lookup
+  pub plain-handle : Roomy s nodes lookup → (r : Reached) (h : ℕ) → r .store ≡ s → r .answer ≡ Handle h → h ≤ s .count + 1
+      → ((limit : ℕ) (B : List Family) → Holds limit B (s .count) nodes lookup → at B h ≡ F B) → RanPlain least F s nodes lookup r nodes lookup
   plain-handle R r h es ea l means =
       record {
         kept = rw es (kept-self s nodes lookup (R .within));
         handle = λ k e. rw es (omega (arith, handle-is (sym ea ∙ e)));
-        sound = λ B H. rw (ea, es, ← means B H, place-at H h (omega arith)) (gave {h = h} (record { holds = H; within = omega arith; means = refl }));
+        sound = λ B m H. rw (ea, es, ← means _ B H, place-at H h (omega arith)) (gave {h = h} (record { holds = H; within = omega arith; means = refl }));
       }
 
   -- the same with the handle as a number
-  pub plain-coded : Roomy s nodes lookup → (h : ℕ) → h ≤ s .count + 1 → ((B : List Family) → Holds B (s .count) nodes lookup → at B h ≡ F B)
-      → RanPlain F s nodes lookup (placedAs (s .capacity) (s .count) h) nodes lookup
-  plain-coded R h l means = plain-handle R (placedAs (s .capacity) (s .count) h) h refl (coded-held h R (R .within) l) l means
+  pub plain-coded : Roomy s nodes lookup → (h : ℕ) → h ≤ s .count + 1 → ((limit : ℕ) (B : List Family) → Holds limit B (s .count) nodes lookup → at B h ≡ F B)
+      → RanPlain least F s nodes lookup (reachedAs (s .capacity) (s .count) h) nodes lookup
+  plain-coded R h l means = plain-handle R (reachedAs (s .capacity) (s .count) h) h refl (coded-held h R (R .within) l) l means
 
   -- words that hold no book
-  pub plain-broken : Roomy s nodes lookup → ((B : List Family) → Holds B (s .count) nodes lookup → ⊥) → RanPlain F s nodes lookup (placedAs (s .capacity) (s .count) damagedNumber) nodes lookup
+  pub plain-broken : Roomy s nodes lookup → ((limit : ℕ) (B : List Family) → Holds limit B (s .count) nodes lookup → ⊥) → RanPlain least F s nodes lookup (reachedAs (s .capacity) (s .count) damagedNumber) nodes lookup
   plain-broken R f =
       record {
         kept = kept-self s nodes lookup (R .within);
         handle = λ h e. damaged-not h (coded-damaged damagedNumber (omega arith) (omega arith)) e;
-        sound = λ B H. absurd (f B H);
+        sound = λ B m H. absurd (f _ B H);
       }
 
   -- a call that leaves the cache alone
-  pub plain-ran : {r : Placed} {nodes′ lookup′ : List ℕ} (cache : List ℕ) → RanPlain F s nodes lookup r nodes′ lookup′ → Ran F s nodes lookup cache r nodes′ lookup′ cache
+  pub plain-ran : {r : Reached} {nodes′ lookup′ : List ℕ} (cache : List ℕ) → RanPlain least F s nodes lookup r nodes′ lookup′ → Ran least F s nodes lookup cache r nodes′ lookup′ cache
   plain-ran cache P =
       record {
         kept = P .kept;
         handle = P .handle;
         long-cache = refl;
         rest = λ k l. refl;
-        sound = λ B H t. P .sound B H;
-        cached = λ B H t h e. true-grown (place-grown B (F B)) t;
+        sound = λ B m H t. P .sound B m H;
+        cached = λ B m H t h e. true-grown (place-grown B (F B)) t;
       }

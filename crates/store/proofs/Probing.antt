@@ -36,7 +36,7 @@ pub record Absent (B : List Family) (n : ℕ) (nodes lookup : List ℕ) (i z o :
   pub first : slot ≡ firstFree (entered (startAt nodes (length lookup)) (length lookup) n) (startOf i z o (length lookup))
   pub lacks : length B ≤ number B F
 
-module _ {B : List Family} {n : ℕ} {nodes lookup : List ℕ} (H : Holds B n nodes lookup) (room : n < length lookup) where
+module _ {limit : ℕ} {B : List Family} {n : ℕ} {nodes lookup : List ℕ} (H : Holds limit B n nodes lookup) (room : n < length lookup) where
   -- the lookup, as entered
   abbrev starts : ℕ → ℕ
   starts = startAt nodes (length lookup)

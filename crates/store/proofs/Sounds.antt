@@ -7,7 +7,7 @@ use mathlib.Core.Logic.{inl}
 use native.Mathlib.Omega.{arith}
 use lib.ListN.{length, getD, replicate}
 use lib.Seq.{ext-getD}
-use Rattle.family.specs.Family.{Family, node, Within}
+use Rattle.family.specs.Family.{Family, node, Within, largestItem}
 use Rattle.family.specs.Book.{start, at}
 use Rattle.family.proofs.Books.{book-start}
 use Rattle.words.specs.Words.{zeroed}
@@ -15,22 +15,22 @@ use Rattle.words.proofs.Zeroed.{zeroed-length, zeroed-inside, zeros-length, zer
 use Rattle.table.specs.Entered.{entered}
 use Rattle.store.specs.declared.record.Store.{Store}
 use Rattle.store.specs.Capacity.{capacityOf}
-use Rattle.store.specs.Words.{itemLimit, bookOf}
+use Rattle.store.specs.Words.{bookOf}
 use Rattle.store.specs.Cache.{Group, True}
 use Rattle.store.specs.Sound.{Node, Sound}
 use Rattle.store.specs.Inner.{Holds}
 use Rattle.store.proofs.Held.{within, top-at, one-positive, words-apart}
 use Rattle.store.proofs.Decoding.{decoded}
 
-module _ {B : List Family} {n : ℕ} {nodes lookup : List ℕ} (H : Holds B n nodes lookup) where
-  node-rules : (k : ℕ) → k < n → Node nodes k (getD nodes (3 * k) 0) (getD nodes (3 * k + 1) 0) (getD nodes (3 * k + 2) 0)
+module _ {limit : ℕ} {B : List Family} {n : ℕ} {nodes lookup : List ℕ} (H : Holds limit B n nodes lookup) where
+  node-rules : (k : ℕ) → k < n → Node limit nodes k (getD nodes (3 * k) 0) (getD nodes (3 * k + 1) 0) (getD nodes (3 * k + 2) 0)
   node-rules k l =
       let E = H .each k l in
       let z = getD nodes (3 * k + 1) 0 in
       let o = getD nodes (3 * k + 2) 0 in
       let lz : z < n + 2 = omega (arith, E .zero-before) in
       let lo : o < n + 2 = omega (arith, E .one-before) in
-      let w : Within itemLimit (node (getD nodes (3 * k) 0) (at B z) (at B o)) = rw (E .is) at (within H (k + 2) (omega arith)) in
+      let w : Within limit (node (getD nodes (3 * k) 0) (at B z) (at B o)) = rw (E .is) at (within H (k + 2) (omega arith)) in
       record {
         item-limit = w .low;
         one-some = one-positive H o lo (w .ordered .2);
@@ -40,13 +40,15 @@ module _ {B : List Family} {n : ℕ} {nodes lookup : List ℕ} (H : Holds B n no
         one-below = omega (arith, w .ordered .1, top-at H o lo);
       }
 
-pub holds-sound : {B : List Family} {nodes lookup cache : List ℕ} (s : Store) → Holds B (s .count) nodes lookup → s .capacity ≡ capacityOf (length nodes) → s .capacity < length lookup → s .count ≤ s .capacity
-    → ((k : ℕ) → 3 * s .count ≤ k → k < 3 * s .capacity → getD nodes k 0 ≡ 0) → True B cache → Sound s nodes lookup cache
-holds-sound s H c l w b t =
+pub holds-sound : {B : List Family} {nodes lookup cache : List ℕ} (s : Store) → 1 ≤ s .limit → Holds (s .limit) B (s .count) nodes lookup → s .capacity ≡ capacityOf (length nodes) → s .capacity < length lookup → s .count ≤ s .capacity
+    → ((k : ℕ) → 3 * s .count ≤ k → k < 3 * s .capacity → getD nodes k 0 ≡ 0) → True (s .limit) B cache → Sound s nodes lookup cache
+holds-sound s i H c l w b t =
     record {
       capacity-is = c;
       longer = l;
       within = w;
+      limit-some = i;
+      limit-low = H .limit-low;
       each = node-rules H;
       apart = λ j k f h p q r. words-apart H .apart j k f h (record { item-is = p; zero-is = q; one-is = r });
       blank = b;
@@ -55,7 +57,7 @@ holds-sound s H c l w b t =
     }
 
 -- whole groups of zeros are true of every book
-pub zeroed-true : (B : List Family) (cache : List ℕ) → True B (zeroed 0 (length cache / 4 * 4) cache)
+pub zeroed-true : {limit : ℕ} (B : List Family) (cache : List ℕ) → True limit B (zeroed 0 (length cache / 4 * 4) cache)
 zeroed-true B cache = record { each = λ g op p q h G. inl (blank g (G .within)) }
   where
     end : ℕ
@@ -74,12 +76,14 @@ zeroed-true B cache = record { each = λ g op p q h G. inl (blank g (G .within))
         record { within = l; op-is = word (4 * g) (omega arith); first-is = word (4 * g + 1) (omega arith); second-is = word (4 * g + 2) (omega arith); result-is = word (4 * g + 3) (omega arith) }
 
 -- the same store with another true cache
-pub sound-with : {s : Store} {nodes lookup cache : List ℕ} (other : List ℕ) → Sound s nodes lookup cache → True (bookOf nodes (s .count)) other → Sound s nodes lookup other
+pub sound-with : {s : Store} {nodes lookup cache : List ℕ} (other : List ℕ) → Sound s nodes lookup cache → True (s .limit) (bookOf nodes (s .count)) other → Sound s nodes lookup other
 sound-with other S t =
     record {
       capacity-is = S .capacity-is;
       longer = S .longer;
       within = S .within;
+      limit-some = S .limit-some;
+      limit-low = S .limit-low;
       each = S .each;
       apart = S .apart;
       blank = S .blank;
@@ -98,15 +102,15 @@ all-zero l =
     (λ k h. zeroed-inside 0 (length l) l (omega arith) (omega arith) k (omega arith) (omega arith) ∙ sym (zero-getD (length l) k))
 
 -- what Fresh leaves
-pub fresh-sound : (nodes lookup cache : List ℕ) → capacityOf (length nodes) < length lookup
-    → Sound (record { capacity = capacityOf (length nodes); count = 0 }) (zeroed 0 (3 * capacityOf (length nodes)) nodes) (zeroed 0 (length lookup) lookup) (zeroed 0 (length cache / 4 * 4) cache)
+pub fresh-sound : (limit : ℕ) (nodes lookup cache : List ℕ) → 1 ≤ limit → limit ≤ largestItem → capacityOf (length nodes) < length lookup
+    → Sound (record { capacity = capacityOf (length nodes); count = 0; limit = limit }) (zeroed 0 (3 * capacityOf (length nodes)) nodes) (zeroed 0 (length lookup) lookup) (zeroed 0 (length cache / 4 * 4) cache)
 unfolding entered
-fresh-sound nodes lookup cache l =
+fresh-sound limit nodes lookup cache some low l =
     let n = zeroed-length 0 (3 * capacityOf (length nodes)) nodes (omega arith) (omega arith) in
     let k = zeroed-length 0 (length lookup) lookup (omega arith) (omega arith) in
     let e = all-zero lookup in
-    holds-sound {B = start} (record { capacity = capacityOf (length nodes); count = 0 })
-    (record { book = book-start itemLimit; size = refl; each = λ j h. absurd (omega arith); lookup-is = rw (k, e) })
+    holds-sound {B = start} (record { capacity = capacityOf (length nodes); count = 0; limit = limit }) some
+    (record { limit-low = low; book = book-start limit; size = refl; each = λ j h. absurd (omega arith); lookup-is = rw (k, e) })
     (ap capacityOf (sym n)) (omega arith) (omega arith)
     (λ j h g. zeroed-inside 0 (3 * capacityOf (length nodes)) nodes (omega arith) (omega arith) j (omega arith) g)
     (zeroed-true start cache)

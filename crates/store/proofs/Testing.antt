@@ -16,9 +16,8 @@ use Rattle.store.specs.declared.tests.Test.{Test}
 use Rattle.store.specs.declared.tests.Test.the-variants.{Clear, Refuses}
 use Rattle.store.specs.Capacity.{fitting}
 use Rattle.store.specs.Refusals.{refusalNumber}
-use Rattle.store.specs.Words.{itemLimit}
 use Rattle.store.specs.Tests.{testNumber, isItem, itemTest, testsOf, Found}
-use Rattle.store.specs.Inner.{Roomy}
+use Rattle.store.specs.Inner.{fillIn, Roomy}
 use Rattle.family.specs.Family.{Family}
 use Rattle.store.specs.declared.record.PlaceAnswer.the-variants.{Refused}
 use Rattle.store.specs.declared.record.Placed.{Placed}
@@ -26,31 +25,31 @@ use Rattle.store.specs.Promise.{PlaceCall}
 use Rattle.store.proofs.Calls.{refusal-some, fits-roomy, call-misfit, call-refused}
 
 -- the test of an item
-pub item-low : (v : ℕ) → v < 1 → isItem v ≡ false
+pub item-low : (limit v : ℕ) → v < 1 → isItem limit v ≡ false
 unfolding isItem
-item-low v l = rw (le-ltb 0 v (omega arith))
+item-low limit v l = rw (le-ltb 0 v (omega arith))
 
-pub item-high : (v : ℕ) → itemLimit < v → isItem v ≡ false
+pub item-high : (limit v : ℕ) → limit < v → isItem limit v ≡ false
 unfolding isItem
-item-high v l = rw (lt-ltb 0 v (omega arith), lt-leb v itemLimit l)
+item-high limit v l = rw (lt-ltb 0 v (omega arith), lt-leb v limit l)
 
-pub item-taken : (v : ℕ) → 1 ≤ v → v ≤ itemLimit → isItem v ≡ true
+pub item-taken : (limit v : ℕ) → 1 ≤ v → v ≤ limit → isItem limit v ≡ true
 unfolding isItem
-item-taken v l m = rw (lt-ltb 0 v l, le-leb v itemLimit m)
+item-taken limit v l m = rw (lt-ltb 0 v l, le-leb v limit m)
 
-pub no-item : (v : ℕ) → isItem v ≡ false → 3 ≡ itemTest v
-no-item v e = rw e
+pub no-item : (limit v : ℕ) → isItem limit v ≡ false → 3 ≡ itemTest limit v
+no-item limit v e = rw e
 
-pub an-item : (v : ℕ) → isItem v ≡ true → 0 ≡ itemTest v
-an-item v e = rw e
+pub an-item : (limit v : ℕ) → isItem limit v ≡ true → 0 ≡ itemTest limit v
+an-item limit v e = rw e
 
-pub item-passed : (v : ℕ) → itemTest v ≡ 0 → (1 ≤ v) × (v ≤ itemLimit)
-item-passed v e =
-    by-lt v 1 (λ l d. absurd (omega (arith, no-item v (item-low v l))))
-    (λ l d. by-lt itemLimit v (λ k b. absurd (omega (arith, no-item v (item-high v k)))) (λ k b. (l, k)))
+pub item-passed : (limit v : ℕ) → itemTest limit v ≡ 0 → (1 ≤ v) × (v ≤ limit)
+item-passed limit v e =
+    by-lt v 1 (λ l d. absurd (omega (arith, no-item limit v (item-low limit v l))))
+    (λ l d. by-lt limit v (λ k b. absurd (omega (arith, no-item limit v (item-high limit v k)))) (λ k b. (l, k)))
 
-pub item-not-five : (v : ℕ) {n : ℕ} → n ≡ itemTest v → n ≡ 5 → ⊥
-item-not-five v e d = by-test (isItem v) (λ t. omega (arith, an-item v t)) (λ t. omega (arith, no-item v t))
+pub item-not-five : (limit v : ℕ) {n : ℕ} → n ≡ itemTest limit v → n ≡ 5 → ⊥
+item-not-five limit v e d = by-test (isItem limit v) (λ t. omega (arith, an-item limit v t)) (λ t. omega (arith, no-item limit v t))
 
 module _ (n p q own scratch need : ℕ) where
   pub tests-first : n + 1 < p → testsOf n p q own scratch need ≡ 4
@@ -78,10 +77,10 @@ module _ (n p q own scratch need : ℕ) where
 
 -- the ways out of `tested`: 10 where the words do not fit the record, else the number of the tests
 module _ (s : Store) (nodes lookup p q own scratch need : ℕ) where
-  pub found-misfit : fitting (s .capacity) (s .count) nodes lookup ≡ false → Found s nodes lookup p q own scratch need (Refuses Damaged)
+  pub found-misfit : fitting s nodes lookup ≡ false → Found s nodes lookup p q own scratch need (Refuses Damaged)
   found-misfit e = record { number-is = rw e }
 
-  pub found-number : (a : Test) → fitting (s .capacity) (s .count) nodes lookup ≡ true → testsOf (s .count) p q own scratch need ≡ testNumber a → Found s nodes lookup p q own scratch need a
+  pub found-number : (a : Test) → fitting s nodes lookup ≡ true → testsOf (s .count) p q own scratch need ≡ testNumber a → Found s nodes lookup p q own scratch need a
   found-number a e d = record { number-is = rw (e, d) }
 
 pub refuses-some : {a : Test} (x : Refusal) → a ≡ Refuses x → testNumber a ≡ 0 → ⊥
@@ -98,6 +97,7 @@ only-damaged Refusal.Scratch e = absurd (omega arith)
 only-damaged Refusal.Output e = absurd (omega arith)
 only-damaged Refusal.NoFile e = absurd (omega arith)
 only-damaged Refusal.Damaged e = refl
+only-damaged Refusal.AboveLimit e = absurd (omega arith)
 
 -- the tests that passed, where nothing refuses
 pub record Passes (n p q own scratch need : ℕ) : Type 0 where
@@ -125,24 +125,24 @@ tests-not-five n p q own scratch need five e =
 
 -- what `tested` says of words where nothing refuses
 pub record Tested (s : Store) (nodes lookup : List ℕ) (p q own scratch need : ℕ) : Type 0 where
-  pub fits : fitting (s .capacity) (s .count) (length nodes) (length lookup) ≡ true
-  pub roomy : Roomy s nodes lookup
+  pub fits : fitting s (length nodes) (length lookup) ≡ true
+  pub roomy : Roomy (fillIn s) nodes lookup
   pub number-is : testsOf (s .count) p q own scratch need ≡ 0
   pub passed : Passes (s .count) p q own scratch need
 
 module _ (nodes lookup : List ℕ) {s : Store} {p q own scratch need : ℕ} {a : Test} (T : Found s (length nodes) (length lookup) p q own scratch need a) where
   pub tested-clear : a ≡ Clear → Tested s nodes lookup p q own scratch need
   tested-clear e =
-      by-test (fitting (s .capacity) (s .count) (length nodes) (length lookup))
+      by-test (fitting s (length nodes) (length lookup))
       (λ t. let z : testsOf (s .count) p q own scratch need ≡ 0 = sym (sym (ap testNumber e) ∙ T .number-is ∙ rw t) in
       record { fits = t; roomy = fits-roomy s nodes lookup t; number-is = z; passed = passes (s .count) p q own scratch need z })
       (λ t. absurd (let z : 0 ≡ 10 = sym (ap testNumber e) ∙ T .number-is ∙ rw t in omega arith))
 
   -- a refusal is a certain 10, or has the number of the tests
-  pub tested-refuses {ℓ} : {A : Type ℓ} {x : Refusal} → a ≡ Refuses x → (fitting (s .capacity) (s .count) (length nodes) (length lookup) ≡ false → x ≡ Damaged → A)
-      → (fitting (s .capacity) (s .count) (length nodes) (length lookup) ≡ true → refusalNumber x ≡ testsOf (s .count) p q own scratch need → A) → A
+  pub tested-refuses {ℓ} : {A : Type ℓ} {x : Refusal} → a ≡ Refuses x → (fitting s (length nodes) (length lookup) ≡ false → x ≡ Damaged → A)
+      → (fitting s (length nodes) (length lookup) ≡ true → refusalNumber x ≡ testsOf (s .count) p q own scratch need → A) → A
   tested-refuses {x = x} e misfit refused =
-      by-test (fitting (s .capacity) (s .count) (length nodes) (length lookup))
+      by-test (fitting s (length nodes) (length lookup))
       (λ t. refused t (sym (ap testNumber e) ∙ T .number-is ∙ rw t))
       (λ t. misfit t (only-damaged x (sym (ap testNumber e) ∙ T .number-is ∙ rw t)))
 

@@ -16,14 +16,14 @@ pub record Group (cache : List ℕ) (g op p q h : ℕ) : Type 0 where
   pub second-is : getD cache (4 * g + 2) 0 ≡ q
   pub result-is : getD cache (4 * g + 3) 0 ≡ h
 
--- "true: operands that the call takes, and the handle it gives"
-pub record Truth (B : List Family) (op p q h : ℕ) : Type 0 where
+-- "true: operands that the call takes, and the handle it gives", in a store of some limit
+pub record Truth (limit : ℕ) (B : List Family) (op p q h : ℕ) : Type 0 where
   pub operation : (1 ≤ op) × (op ≤ 6)
   pub first : p < length B
-  pub second : Takes op B q
+  pub second : Takes limit op B q
   pub result : h < length B
   pub means : at B h ≡ named op B p q
 
 -- "A group is all zero or true": of every whole group, for the book that the store holds
-pub record True (B : List Family) (cache : List ℕ) : Type 0 where
-  pub each : (g op p q h : ℕ) → Group cache g op p q h → Group cache g 0 0 0 0 ⊎ Truth B op p q h
+pub record True (limit : ℕ) (B : List Family) (cache : List ℕ) : Type 0 where
+  pub each : (g op p q h : ℕ) → Group cache g op p q h → Group cache g 0 0 0 0 ⊎ Truth limit B op p q h

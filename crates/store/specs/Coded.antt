@@ -7,6 +7,7 @@ use Rattle.store.specs.declared.record.Refusal.the-variants.{Full, Damag
 use Rattle.store.specs.declared.record.PlaceAnswer.{PlaceAnswer}
 use Rattle.store.specs.declared.record.PlaceAnswer.the-variants.{Handle, Refused}
 use Rattle.store.specs.declared.record.Placed.{Placed}
+use Rattle.store.specs.Inner.{fillOf, Reached}
 
 -- the numbers for full and damaged, the two largest of a word
 abbrev pub fullNumber : ℕ
@@ -19,10 +20,10 @@ damagedNumber = 4294967295
 unfoldable pub answerOf : ℕ → PlaceAnswer
 answerOf r = cond (ltb r fullNumber) (Handle r) (cond (eqb r fullNumber) (Refused Full) (Refused Damaged))
 
--- the record of a capacity and a count
-abbrev pub storeOf : ℕ → ℕ → Store
-storeOf capacity n = record { capacity = capacity; count = n }
+-- what an inner call comes to: so many nodes held, and the answer that a number stands for
+abbrev pub reachedAs : ℕ → ℕ → ℕ → Reached
+reachedAs capacity n r = record { store = fillOf capacity n; answer = answerOf r }
 
--- what a call gives back: the record of so many nodes, and the answer that a number stands for
-abbrev pub placedAs : ℕ → ℕ → ℕ → Placed
-placedAs capacity n r = record { store = storeOf capacity n; answer = answerOf r }
+-- the same with the record
+abbrev pub placedAs : Store → ℕ → ℕ → Placed
+placedAs s n r = record { store = record { capacity = s .capacity; count = n; limit = s .limit }; answer = answerOf r }

@@ -8,7 +8,6 @@ use lib.ListN.{length}
 use Rattle.family.specs.Family.{Family}
 use Rattle.family.specs.Operation.{subset1, subset0, change, minus, combine}
 use Rattle.family.specs.Book.{at}
-use Rattle.store.specs.Words.{itemLimit}
 
 -- "operation (1 Subset1, 2 Subset0, 3 Change, 4 Union, 5 Intsec, 6 Diff)": whether its second operand is an item
 abbrev pub takesItem : ℕ → Bool
@@ -26,6 +25,6 @@ rule op = cond (eqb op 4) _||_ (cond (eqb op 5) _&&_ minus)
 unfoldable pub named : ℕ → List Family → ℕ → ℕ → Family
 named op B p q = cond (takesItem op) (restrict op q (at B p)) (combine (rule op) (at B p) (at B q))
 
--- the second operand that an operation takes: an item, or a handle
-abbrev pub Takes : ℕ → List Family → ℕ → Type 0
-Takes op B q = (op < 4 → (1 ≤ q) × (q ≤ itemLimit)) × (4 ≤ op → q < length B)
+-- the second operand that an operation takes in a store of some limit: an item up to the limit, or a handle
+abbrev pub Takes : ℕ → ℕ → List Family → ℕ → Type 0
+Takes limit op B q = (op < 4 → (1 ≤ q) × (q ≤ limit)) × (4 ≤ op → q < length B)

@@ -37,7 +37,7 @@ placing refusal F s nodes lookup =
     cond (eqb (a .refusal) 0)
     (record {
       given = a;
-      store = record { capacity = s .capacity; count = length C - 2 };
+      store = record { capacity = s .capacity; count = length C - 2; limit = s .limit };
       nodes = nodesWith (s .capacity) C nodes;
       lookup = lookupOf (length lookup) C;
     })
@@ -59,10 +59,11 @@ pub record Placed-sound (refusal : ℕ) (F : Family) (s : Store) (nodes lookup c
 -- places, and the family that it takes.
 pub record PlaceCall (refusal : ℕ) (F : Family) (s : Store) (nodes lookup cache : List ℕ) (r : Placed) (nodes′ lookup′ cache′ : List ℕ) : Type 0 where
   -- a certain 10: every word and the record stay
-  pub misfit : fitting (s .capacity) (s .count) (length nodes) (length lookup) ≡ false
+  pub misfit : fitting s (length nodes) (length lookup) ≡ false
       → (r ≡ record { store = s; answer = Refused Damaged }) × (nodes′ ≡ nodes) × (lookup′ ≡ lookup) × (cache′ ≡ cache)
   pub on-sound : Sound s nodes lookup cache → Placed-sound refusal F s nodes lookup cache r nodes′ lookup′ cache′
-  -- on any store: lengths and capacity stay, and a refusal hands the record back as it came
+  -- on any store: lengths, capacity and limit stay, and a refusal hands the record back as it came
   pub lengths : (length nodes′ ≡ length nodes) × (length lookup′ ≡ length lookup) × (length cache′ ≡ length cache)
   pub capacity : r .store .capacity ≡ s .capacity
+  pub limit : r .store .limit ≡ s .limit
   pub refused : (givenBy (r .answer) .refusal ≡ 0 → ⊥) → r .store ≡ s

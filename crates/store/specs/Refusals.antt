@@ -1,7 +1,8 @@
--- The refusals by document 01's numbers, and the values of an answer: document 01, 'Numbers and trade words'.
+-- The refusals by document 01's numbers, and the values of an answer: document 01, 'Numbers and trade words'; 13 is
+-- document 02's.
 use Prim.Native.Nat.{ℕ}
 use Rattle.store.specs.declared.record.Refusal.{Refusal}
-use Rattle.store.specs.declared.record.Refusal.the-variants.{Tiny, ShortLookup, Item, Handle as NoHandle, Full, Large, Scratch, Output, NoFile, Damaged}
+use Rattle.store.specs.declared.record.Refusal.the-variants.{Tiny, ShortLookup, Item, Handle as NoHandle, Full, Large, Scratch, Output, NoFile, Damaged, AboveLimit}
 use Rattle.store.specs.declared.record.PlaceAnswer.{PlaceAnswer}
 use Rattle.store.specs.declared.record.PlaceAnswer.the-variants.{Handle, Refused}
 
@@ -17,6 +18,7 @@ refusalNumber Scratch = 7
 refusalNumber Output = 8
 refusalNumber NoFile = 9
 refusalNumber Damaged = 10
+refusalNumber AboveLimit = 13
 
 -- What a call that places gives besides the record: the refusal's number, 0 where there is none, and the handle, "0
 -- where the answer has such a field" and is refused.

@@ -8,19 +8,18 @@ use Rattle.store.specs.declared.tests.Test.the-variants.{Clear, Refuses}
 use Rattle.store.specs.declared.record.Store.{Store}
 use Rattle.store.specs.Capacity.{fitting}
 use Rattle.store.specs.Refusals.{refusalNumber}
-use Rattle.store.specs.Words.{itemLimit}
 
 -- the number of what tests find, 0 where nothing refuses the call
 abbrev pub testNumber : Test → ℕ
 testNumber Clear = 0
 testNumber (Refuses r) = refusalNumber r
 
--- whether a number is an item: 3 is "item 0 or above 512"
-unfoldable pub isItem : ℕ → Bool
-isItem v = ltb 0 v && leb v itemLimit
+-- whether a number is an item of a store: 3 is "item 0 or above 512", and "Item checks use the store's own limit"
+unfoldable pub isItem : ℕ → ℕ → Bool
+isItem limit v = ltb 0 v && leb v limit
 
-abbrev pub itemTest : ℕ → ℕ
-itemTest v = cond (isItem v) 0 3
+abbrev pub itemTest : ℕ → ℕ → ℕ
+itemTest limit v = cond (isItem limit v) 0 3
 
 -- 4: "a handle above count + 1", of two handles; then what the call finds by its own test, as 3; then 7: "scratch
 -- shorter than stated". 0 where nothing refuses the call.
@@ -32,4 +31,4 @@ testsOf count p q own scratch need =
 -- What the tests of a call find over words of these lengths: 10 where the record does not fit them, else the number
 -- of the tests.
 pub record Found (s : Store) (nodes lookup p q own scratch need : ℕ) (r : Test) : Type 0 where
-  pub number-is : testNumber r ≡ cond (fitting (s .capacity) (s .count) nodes lookup) (testsOf (s .count) p q own scratch need) 10
+  pub number-is : testNumber r ≡ cond (fitting s nodes lookup) (testsOf (s .count) p q own scratch need) 10

@@ -10,10 +10,6 @@ use Rattle.family.specs.Record.{Triple, triple}
 use Rattle.family.specs.File.{triplesOf}
 use Rattle.table.specs.Entered.{entered, startAt}
 
--- "Items 1 and 512 are taken, 0 and 513 get 3": the largest item of a store
-abbrev pub itemLimit : ℕ
-itemLimit = 512
-
 -- "Node k (2, 3, ..) stands in words 3(k − 2) onward": the top of handle p, 0 for the handles 0 and 1
 unfoldable pub topAt : List ℕ → ℕ → ℕ
 topAt nodes p = cond (ltb p 2) 0 (getD nodes (3 * (p - 2)) 0)

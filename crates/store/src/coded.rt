@@ -12,18 +12,19 @@ pub const FULL: u32 = 4294967294;
 pub const DAMAGED: u32 = 4294967295;
 
 // The answer that a number stands for, with the record of so many nodes.
-pub fn answered(capacity: u32, count: u32, coded: u32) -> Placed
-    ensures { λ r. ⌜ r ≡ placedAs capacity count coded ⌝ }
+pub fn answered(store: Store, count: u32, coded: u32) -> Placed
+    ensures { λ r. ⌜ r ≡ placedAs store count coded ⌝ }
 {
-    let store = Store {
-        capacity: capacity,
+    let after = Store {
+        capacity: store.capacity,
         count: count,
+        limit: store.limit,
     };
     if coded < FULL {
-        return store.placed(coded);
+        return after.placed(coded);
     }
     if coded == FULL {
-        return store.refused(Refusal::Full);
+        return after.refused(Refusal::Full);
     }
-    store.refused(Refusal::Damaged)
+    after.refused(Refusal::Damaged)
 }

@@ -3,9 +3,9 @@ ghost use mathlib.Core.Path.{_≡_};
 ghost use mathlib.Core.Bool.{true, false};
 ghost use Prim.Native.Nat.{_+_, _<_};
 ghost use lib.Dec.{leb};
-ghost use Rattle.store.specs.Capacity.{capacityOf, fitting};
+ghost use Rattle.store.specs.Capacity.{capacityOf, isLimit, fitting};
 
-// The refusals, numbered 1 to 10 in this order.
+// The refusals, numbered 1 to 10 in this order, and 13.
 pub enum Refusal {
     Tiny,
     ShortLookup,
@@ -17,13 +17,16 @@ pub enum Refusal {
     Output,
     NoFile,
     Damaged,
+    AboveLimit,
 }
 
-// The record, laid out as C has it: how many nodes there is room for, and how many are held.
+// The record, laid out as C has it: how many nodes there is room for, how many are held, and the largest item that
+// they may have.
 #[repr(C)]
 pub struct Store {
     pub capacity: u32,
     pub count: u32,
+    pub limit: u32,
 }
 
 // What a call that places a family answers.
@@ -49,21 +52,32 @@ pub fn capacity_of(words: usize) -> u32
     1000000
 }
 
+// Whether a number is an item limit, 1 to 512.
+pub fn is_limit(limit: u32) -> bool
+    ensures { λ r. ⌜ r ≡ isLimit limit ⌝ }
+{
+    if limit < 1 {
+        return false;
+    }
+    limit <= 512
+}
+
 impl Store {
     // The record of an empty store.
-    pub fn new(capacity: u32) -> Self
-        ensures { λ r. ⌜ (r .capacity ≡ capacity) × (r .count ≡ 0) ⌝ }
+    pub fn new(capacity: u32, limit: u32) -> Self
+        ensures { λ r. ⌜ (r .capacity ≡ capacity) × (r .count ≡ 0) × (r .limit ≡ limit) ⌝ }
     {
         Store {
             capacity: capacity,
             count: 0,
+            limit: limit,
         }
     }
 
     // The record with one node more.
     pub fn appended(mut self) -> Self
         requires { ⌜ self .count < 1000000 ⌝ }
-        ensures { λ r. ⌜ (r .capacity ≡ self .capacity) × (r .count ≡ self .count + 1) ⌝ }
+        ensures { λ r. ⌜ (r .capacity ≡ self .capacity) × (r .count ≡ self .count + 1) × (r .limit ≡ self .limit) ⌝ }
     {
         self.count = self.count + 1;
         self
@@ -71,7 +85,7 @@ impl Store {
 
     // The record after the nodes from `count` on were taken back.
     pub fn rolled_back(mut self, count: u32) -> Self
-        ensures { λ r. ⌜ (r .capacity ≡ self .capacity) × (r .count ≡ count) ⌝ }
+        ensures { λ r. ⌜ (r .capacity ≡ self .capacity) × (r .count ≡ count) × (r .limit ≡ self .limit) ⌝ }
     {
         self.count = count;
         self
@@ -87,10 +101,13 @@ impl Store {
         handle - 2 < self.count
     }
 
-    // Whether the record fits words of these lengths: none of the three certain causes of 10.
+    // Whether the record fits words of these lengths: none of the four certain causes of 10.
     pub fn fits(self, nodes: usize, lookup: usize) -> bool
-        ensures { λ r. ⌜ r ≡ fitting (self .capacity) (self .count) nodes lookup ⌝ }
+        ensures { λ r. ⌜ r ≡ fitting self nodes lookup ⌝ }
     {
+        if !is_limit(self.limit) {
+            return false;
+        }
         if self.capacity != capacity_of(nodes) {
             return false;
         }

@@ -10,14 +10,14 @@ pub enum Test {
     Refuses(Refusal),
 }
 
-// The test of an item.
-pub fn item_test(item: u32) -> Test
-    ensures { λ r. ⌜ testNumber r ≡ itemTest item ⌝ }
+// The test of an item in a store of some limit.
+pub fn item_test(limit: u32, item: u32) -> Test
+    ensures { λ r. ⌜ testNumber r ≡ itemTest limit item ⌝ }
 {
     if item < 1 {
         return Test::Refuses(Refusal::Item);
     }
-    if 512 < item {
+    if limit < item {
         return Test::Refuses(Refusal::Item);
     }
     Test::Clear

@@ -32,7 +32,7 @@ module _ (s : Store) (nodes lookup : List ℕ) where
     shorter : s .count < length lookup
     shorter = omega (arith, S .within, S .longer)
 
-    pub sound-fits : fitting (s .capacity) (s .count) (length nodes) (length lookup) ≡ true
+    pub sound-fits : fitting s (length nodes) (length lookup) ≡ true
     sound-fits = true-fits _ _ _ _ (record { is = S .capacity-is; longer = S .longer; within = S .within })
 
     pub sound-used : used lookup ≡ s .count
@@ -51,11 +51,11 @@ module _ (s : Store) (nodes lookup : List ℕ) where
     sound-nodes = record { each = S .each; own = entered-own nodes lookup (s .count) shorter (S .lookup-is) distinct items }
 
   -- a store that passes each test is sound
-  pub tells-last : (r : Bool) → fitting (s .capacity) (s .count) (length nodes) (length lookup) ≡ true → used lookup ≡ s .count → Blank nodes (3 * s .count) (3 * s .capacity)
+  pub tells-last : (r : Bool) → fitting s (length nodes) (length lookup) ≡ true → used lookup ≡ s .count → Blank nodes (3 * s .count) (3 * s .capacity)
       → Decides (NodesTo nodes lookup (s .count)) r → TellsSound s nodes lookup r
   tells-last r e many blank d = record { says-yes = λ p. sound (d .says-yes p); says-no = λ p cache S. d .says-no p (sound-nodes S) }
     where
-      sound : NodesTo nodes lookup (s .count) → (cache : List ℕ) → True (bookOf nodes (s .count)) cache → Sound s nodes lookup cache
+      sound : NodesTo nodes lookup (s .count) → (cache : List ℕ) → True limit (bookOf nodes (s .count)) cache → Sound s nodes lookup cache
       sound N cache T =
           let f = fits-true _ _ _ _ e in
           let g : s .count < length lookup = omega (arith, f .longer, f .within) in

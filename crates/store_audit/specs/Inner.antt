@@ -23,7 +23,7 @@ pub record RowsAsks (nodes lookup : List ℕ) (count : ℕ) : Type 0 where
 
 -- an answer is yes exactly when the store is sound with each cache that is true of its book
 pub record TellsSound (s : Store) (nodes lookup : List ℕ) (r : Bool) : Type 0 where
-  pub says-yes : r ≡ true → (cache : List ℕ) → True (bookOf nodes (s .count)) cache → Sound s nodes lookup cache
+  pub says-yes : r ≡ true → (cache : List ℕ) → True (s .limit) (bookOf nodes (s .count)) cache → Sound s nodes lookup cache
   pub says-no : r ≡ false → (cache : List ℕ) → Sound s nodes lookup cache → ⊥
 
 -- an answer is yes exactly when a fact holds
@@ -32,16 +32,16 @@ pub record Decides (P : Type 0) (r : Bool) : Type 0 where
   pub says-no : r ≡ false → P → ⊥
 
 -- the words of node number k + 2 obey the rules of a node
-abbrev pub NodeAt : List ℕ → ℕ → Type 0
-NodeAt nodes k = Node nodes k (getD nodes (3 * k) 0) (getD nodes (3 * k + 1) 0) (getD nodes (3 * k + 2) 0)
+abbrev pub NodeAt : ℕ → List ℕ → ℕ → Type 0
+NodeAt limit nodes k = Node limit nodes k (getD nodes (3 * k) 0) (getD nodes (3 * k + 1) 0) (getD nodes (3 * k + 2) 0)
 
 -- the search for the words of node number k + 2 among the nodes before it stops at the slot that holds its number
 abbrev pub OwnAt : List ℕ → List ℕ → ℕ → Type 0
 OwnAt nodes lookup k = getD lookup (ownOf nodes lookup k) 0 ≡ k + 2
 
 -- both, for the first n nodes
-pub record NodesTo (nodes lookup : List ℕ) (n : ℕ) : Type 0 where
-  pub each : (k : ℕ) → k < n → NodeAt nodes k
+pub record NodesTo (limit : ℕ) (nodes lookup : List ℕ) (n : ℕ) : Type 0 where
+  pub each : (k : ℕ) → k < n → NodeAt limit nodes k
   pub own : (k : ℕ) → k < n → OwnAt nodes lookup k
 
 -- the words from one place up to another are 0

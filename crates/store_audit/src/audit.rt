@@ -27,7 +27,7 @@ fn is_sound(store: Store, nodes: &[u32], lookup: &[u32]) -> bool
     if !are_zero(nodes, 3 * count as usize, 3 * store.capacity as usize) {
         return false;
     }
-    all_obey(nodes, lookup, count)
+    all_obey(store, nodes, lookup)
 }
 
 // Zeroes the whole cache groups and says whether the store is then sound.

@@ -3,19 +3,20 @@ ghost use Rattle.store_audit.specs.Inner.{RowAsks, RowsAsks};
 ghost use Prim.Native.Nat.{_+_, _*_, _<_};
 ghost use Rattle.store_audit.specs.Inner.{Decides, NodeAt, NodesTo};
 use crate::slots::is_entered;
+use store::record::Store;
 use store_sides::top_of;
 
-// Whether the words of node k + 2 are an item, a child before it, and a child before it that is not {}, both with
-// smaller tops.
-fn obeys(nodes: &[u32], k: u32) -> bool
+// Whether the words of node k + 2 are an item up to the limit, a child before it, and a child before it that is not
+// {}, both with smaller tops.
+fn obeys(nodes: &[u32], k: u32, limit: u32) -> bool
     requires { ⌜ RowAsks (now nodes) k ⌝ }
-    ensures { λ r. ⌜ Decides (NodeAt (now (nodes .entry)) k) r ⌝ }
+    ensures { λ r. ⌜ Decides (NodeAt limit (now (nodes .entry)) k) r ⌝ }
 {
     let base = 3 * k as usize;
     let item = nodes[base];
     let zero = nodes[base + 1];
     let one = nodes[base + 2];
-    if 512 < item {
+    if limit < item {
         return false;
     }
     if one == 0 {
@@ -33,14 +34,16 @@ fn obeys(nodes: &[u32], k: u32) -> bool
     top_of(nodes, k, one) < item
 }
 
-// Whether each of the first count nodes obeys the rules of a node and has its own slot.
-pub fn all_obey(nodes: &[u32], lookup: &[u32], count: u32) -> bool
-    requires { ⌜ RowsAsks (now nodes) (now lookup) count ⌝ }
-    ensures { λ r. ⌜ Decides (NodesTo (now (nodes .entry)) (now (lookup .entry)) count) r ⌝ }
+// Whether each node held obeys the rules of a node and has its own slot.
+pub fn all_obey(store: Store, nodes: &[u32], lookup: &[u32]) -> bool
+    requires { ⌜ RowsAsks (now nodes) (now lookup) (store .count) ⌝ }
+    ensures { λ r. ⌜ Decides (NodesTo (store .limit) (now (nodes .entry)) (now (lookup .entry)) (store .count)) r ⌝ }
 {
+    let count = store.count;
+    let limit = store.limit;
     let mut k: u32 = 0;
     while k < count {
-        if !obeys(nodes, k) {
+        if !obeys(nodes, k, limit) {
             return false;
         }
         if !is_entered(nodes, lookup, k) {

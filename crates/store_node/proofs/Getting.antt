@@ -16,7 +16,6 @@ use Rattle.store.specs.declared.record.PlaceAnswer.the-variants.{Handle}
 use Rattle.store_node.specs.declared.unique.Made.{Made}
 use Rattle.store_node.specs.declared.unique.Made.the-variants.{Found, New, Full as NoRoom, Damaged as Bad}
 use Rattle.store_node.specs.declared.unique.Making.{Making}
-use Rattle.store.specs.Words.{itemLimit}
 use Rattle.store.specs.Coded.{fullNumber, damagedNumber, answerOf, storeOf, placedAs}
 use Rattle.store.specs.Inner.{Holds, Handed, Outcome, gave, full, Kept}
 use Rattle.store_node.specs.Inner.{NodeAsks, MadeOf, found, new, MadeIt, NodeIt}
@@ -31,22 +30,22 @@ made-inhabited B i a Family.base t = refl
 made-inhabited B i a (node j c d) t = refl
 
 -- what `make` says, out of its cases
-found-handed : {B : List Family} {F : Family} {capacity n : ℕ} {nodes lookup : List ℕ} {h : ℕ} → MadeOf B F capacity n nodes lookup (Found h) → Handed B F h n nodes lookup
+found-handed : {limit : ℕ} {B : List Family} {F : Family} {capacity n : ℕ} {nodes lookup : List ℕ} {h : ℕ} → MadeOf limit B F capacity n nodes lookup (Found h) → Handed limit B F h n nodes lookup
 found-handed (found G) = G
 
-new-lacks : {B : List Family} {F : Family} {capacity n : ℕ} {nodes lookup : List ℕ} {h : ℕ} → MadeOf B F capacity n nodes lookup (New h) → length B ≤ number B F
+new-lacks : {limit : ℕ} {B : List Family} {F : Family} {capacity n : ℕ} {nodes lookup : List ℕ} {h : ℕ} → MadeOf limit B F capacity n nodes lookup (New h) → length B ≤ number B F
 new-lacks (new l G) = l
 
-new-handed : {B : List Family} {F : Family} {capacity n : ℕ} {nodes lookup : List ℕ} {h : ℕ} → MadeOf B F capacity n nodes lookup (New h) → Handed (B ++ (F ∷ [])) F h n nodes lookup
+new-handed : {limit : ℕ} {B : List Family} {F : Family} {capacity n : ℕ} {nodes lookup : List ℕ} {h : ℕ} → MadeOf limit B F capacity n nodes lookup (New h) → Handed limit (B ++ (F ∷ [])) F h n nodes lookup
 new-handed (new l G) = G
 
-full-lacks : {B : List Family} {F : Family} {capacity n : ℕ} {nodes lookup : List ℕ} → MadeOf B F capacity n nodes lookup NoRoom → (length B ≤ number B F) × (capacity + 2 ≤ length B)
+full-lacks : {limit : ℕ} {B : List Family} {F : Family} {capacity n : ℕ} {nodes lookup : List ℕ} → MadeOf limit B F capacity n nodes lookup NoRoom → (length B ≤ number B F) × (capacity + 2 ≤ length B)
 full-lacks (MadeOf.full l m H) = (l, m)
 
-full-holds : {B : List Family} {F : Family} {capacity n : ℕ} {nodes lookup : List ℕ} → MadeOf B F capacity n nodes lookup NoRoom → Holds B n nodes lookup
+full-holds : {limit : ℕ} {B : List Family} {F : Family} {capacity n : ℕ} {nodes lookup : List ℕ} → MadeOf limit B F capacity n nodes lookup NoRoom → Holds limit B n nodes lookup
 full-holds (MadeOf.full l m H) = H
 
-not-bad : {B : List Family} {F : Family} {capacity n : ℕ} {nodes lookup : List ℕ} {m : Made} → m ≡ Bad → MadeOf B F capacity n nodes lookup m → ⊥
+not-bad : {limit : ℕ} {B : List Family} {F : Family} {capacity n : ℕ} {nodes lookup : List ℕ} {m : Made} → m ≡ Bad → MadeOf limit B F capacity n nodes lookup m → ⊥
 not-bad e (found G) = let z : _≡_ {A = ℕ} 0 1 = cc in omega arith
 not-bad e (new l G) = let z : _≡_ {A = ℕ} 0 1 = cc in omega arith
 not-bad e (MadeOf.full l k H) = let z : _≡_ {A = ℕ} 0 1 = cc in omega arith
@@ -63,32 +62,32 @@ module _ (s : Store) (nodes lookup : List ℕ) (i z o : ℕ) (A : NodeAsks s nod
       }
 
   module _ (some : o ≡ 0 → ⊥) {m : Making} {nodes′ lookup′ : List ℕ} (M : MadeIt s nodes lookup i z o m nodes′ lookup′) where
-    full-one : {B : List Family} → Holds B (s .count) nodes lookup → T (inhabited (at B o))
+    full-one : {limit : ℕ} {B : List Family} → Holds limit B (s .count) nodes lookup → T (inhabited (at B o))
     full-one H = positive-one H o (omega (arith, A .one-held)) (omega arith)
 
-    is-within : {B : List Family} → Holds B (s .count) nodes lookup → top (at B z) < i → top (at B o) < i → Within itemLimit (node i (at B z) (at B o))
+    is-within : {limit : ℕ} {B : List Family} → Holds limit B (s .count) nodes lookup → top (at B z) < i → top (at B o) < i → Within limit (node i (at B z) (at B o))
     is-within H tz to =
         record {
           ordered = (tz, to, full-one H, within H z (omega (arith, A .zero-held)) .ordered, within H o (omega (arith, A .one-held)) .ordered);
           low = A .item-low;
         }
 
-    got : {B : List Family} → Holds B (s .count) nodes lookup → top (at B z) < i → top (at B o) < i
-        → MadeOf B (node i (at B z) (at B o)) (s .capacity) (m .store .count) nodes′ lookup′ (m .made)
+    got : {limit : ℕ} {B : List Family} → Holds limit B (s .count) nodes lookup → top (at B z) < i → top (at B o) < i
+        → MadeOf limit B (node i (at B z) (at B o)) (s .capacity) (m .store .count) nodes′ lookup′ (m .made)
     got {B} H tz to = M .sound B H (is-within H tz to)
 
     kept : Kept s nodes lookup (storeOf (s .capacity) (m .store .count)) nodes′ lookup′
     kept = rw (M .kept .same-capacity) at (M .kept)
 
     -- the family and the book of an inhabited one side
-    as-node : {B : List Family} → Holds B (s .count) nodes lookup → (C : List Family) {a : PlaceAnswer} → add B (node i (at B z) (at B o)) ≡ C
-        → Outcome C (node i (at B z) (at B o)) (s .capacity) (m .store .count) nodes′ lookup′ a
-        → Outcome (made B i (at B z) (at B o)) (mk i (at B z) (at B o)) (s .capacity) (m .store .count) nodes′ lookup′ a
+    as-node : {limit : ℕ} {B : List Family} → Holds limit B (s .count) nodes lookup → (C : List Family) {a : PlaceAnswer} → add B (node i (at B z) (at B o)) ≡ C
+        → Outcome limit C (node i (at B z) (at B o)) (s .capacity) (m .store .count) nodes′ lookup′ a
+        → Outcome limit (made B i (at B z) (at B o)) (mk i (at B z) (at B o)) (s .capacity) (m .store .count) nodes′ lookup′ a
     as-node {B} H C e A = rw (mk-node i (at B z) (at B o) (full-one H), made-inhabited B i (at B z) (at B o) (full-one H), e) A
 
     -- a handle that is held, with what it means
-    node-handle : (h : ℕ) → h ≤ m .store .count + 1 → ((B : List Family) → Holds B (s .count) nodes lookup → top (at B z) < i → top (at B o) < i
-        → Outcome (made B i (at B z) (at B o)) (mk i (at B z) (at B o)) (s .capacity) (m .store .count) nodes′ lookup′ (Handle h))
+    node-handle : (h : ℕ) → h ≤ m .store .count + 1 → ((limit : ℕ) (B : List Family) → Holds limit B (s .count) nodes lookup → top (at B z) < i → top (at B o) < i
+        → Outcome limit (made B i (at B z) (at B o)) (mk i (at B z) (at B o)) (s .capacity) (m .store .count) nodes′ lookup′ (Handle h))
         → NodeIt s nodes lookup i z o (placedAs (s .capacity) (m .store .count) h) nodes′ lookup′
     node-handle h l f =
         let ea : answerOf h ≡ Handle h = coded-held h (A .roomy) (M .kept .fits) l in

@@ -4,16 +4,14 @@ use Prim.Native.Nat.{ℕ, _+_, _≤_, _-_, _<_, _*_}
 use mathlib.Core.Path.{_≡_}
 use mathlib.Core.List.{List, [], _∷_, _++_}
 use lib.ListN.{length, set}
-use Rattle.family.specs.Family.{Family, node, Within, top, mk}
+use Rattle.family.specs.Family.{Family, node, Within, top, mk, largestItem}
 use Rattle.family.specs.Book.{at, number, made}
 use Rattle.store.specs.declared.record.PlaceAnswer.the-variants.{Handle}
 use Rattle.store.specs.declared.record.Placed.{Placed}
 use Rattle.store.specs.declared.record.Store.{Store}
-use Rattle.store.specs.Words.{itemLimit}
-use Rattle.store.specs.Inner.{putNode, Holds, Handed, Kept, Outcome, Roomy}
+use Rattle.store.specs.Inner.{putNode, Fill, fillOf, fillIn, Reached, reachedBy, Holds, Handed, Kept, Outcome, Roomy}
 use Rattle.store_node.specs.declared.unique.Made.{Made}
-use Rattle.store_node.specs.declared.unique.Made.the-variants.{Found, New, Full as NoRoom}
-use Rattle.store_node.specs.declared.unique.Making.{Making}
+use Rattle.store_node.specs.declared.unique.Made.the-variants.{Found, New, Full as NoRoom, Damaged as Bad}
 
 -- room for the words of the node after `count` others, and a slot
 pub record SlotAsks (nodes lookup : List ℕ) (count slot : ℕ) : Type 0 where
@@ -27,29 +25,41 @@ pub record EnteredIt (nodes lookup : List ℕ) (count slot item z o : ℕ) (node
   pub lookup-is : lookup′ ≡ set lookup slot (count + 2)
 
 -- the words of a node whose children are held
-pub record NodeAsks (s : Store) (nodes lookup : List ℕ) (item z o : ℕ) : Type 0 where
+pub record NodeAsks (s : Fill) (nodes lookup : List ℕ) (item z o : ℕ) : Type 0 where
   pub roomy : Roomy s nodes lookup
   pub item-some : 1 ≤ item
-  pub item-low : item ≤ itemLimit
+  pub item-low : item ≤ largestItem
   pub zero-held : z ≤ s .count + 1
   pub one-held : o ≤ s .count + 1
 
+-- how many nodes are held once a node is made, of n before
+abbrev pub heldAfter : ℕ → Made → ℕ
+heldAfter n (Found h) = n
+heldAfter n (New h) = n + 1
+heldAfter n NoRoom = n
+heldAfter n Bad = n
+
 -- making the node F in a book: found there, new at its end, or no room for it
-pub data MadeOf (B : List Family) (F : Family) (capacity n : ℕ) (nodes lookup : List ℕ) : Made → Type 0 where
-  found : {h : ℕ} → Handed B F h n nodes lookup → MadeOf B F capacity n nodes lookup (Found h)
-  new : {h : ℕ} → length B ≤ number B F → Handed (B ++ (F ∷ [])) F h n nodes lookup → MadeOf B F capacity n nodes lookup (New h)
-  full : length B ≤ number B F → capacity + 2 ≤ length B → Holds B n nodes lookup → MadeOf B F capacity n nodes lookup NoRoom
+pub data MadeOf (limit : ℕ) (B : List Family) (F : Family) (capacity n : ℕ) (nodes lookup : List ℕ) : Made → Type 0 where
+  found : {h : ℕ} → Handed limit B F h n nodes lookup → MadeOf limit B F capacity n nodes lookup (Found h)
+  new : {h : ℕ} → length B ≤ number B F → Handed limit (B ++ (F ∷ [])) F h n nodes lookup → MadeOf limit B F capacity n nodes lookup (New h)
+  full : length B ≤ number B F → capacity + 2 ≤ length B → Holds limit B n nodes lookup → MadeOf limit B F capacity n nodes lookup NoRoom
 
-pub record MadeIt (s : Store) (nodes lookup : List ℕ) (i z o : ℕ) (r : Making) (nodes′ lookup′ : List ℕ) : Type 0 where
-  pub kept : Kept s nodes lookup (r .store) nodes′ lookup′
-  pub found-within : (h : ℕ) → r .made ≡ Found h → h ≤ r .store .count + 1
-  pub new-within : (h : ℕ) → r .made ≡ New h → h ≤ r .store .count + 1
-  pub sound : (B : List Family) → Holds B (s .count) nodes lookup → Within itemLimit (node i (at B z) (at B o))
-      → MadeOf B (node i (at B z) (at B o)) (s .capacity) (r .store .count) nodes′ lookup′ (r .made)
+pub record MadeIt (s : Fill) (nodes lookup : List ℕ) (i z o : ℕ) (r : Made) (nodes′ lookup′ : List ℕ) : Type 0 where
+  pub kept : Kept s nodes lookup (fillOf (s .capacity) (heldAfter (s .count) r)) nodes′ lookup′
+  pub found-within : (h : ℕ) → r ≡ Found h → h ≤ s .count + 1
+  pub new-within : (h : ℕ) → r ≡ New h → h ≤ s .count + 2
+  pub sound : {limit : ℕ} (B : List Family) → Holds limit B (s .count) nodes lookup → Within limit (node i (at B z) (at B o))
+      → MadeOf limit B (node i (at B z) (at B o)) (s .capacity) (heldAfter (s .count) r) nodes′ lookup′ r
 
--- Getnode: the family of an item and two sides that the book holds
-pub record NodeIt (s : Store) (nodes lookup : List ℕ) (i z o : ℕ) (r : Placed) (nodes′ lookup′ : List ℕ) : Type 0 where
+-- Getnode: the family of an item and two sides that the book holds, in every store whose limit is at least the item
+pub record NodeIt (s : Fill) (nodes lookup : List ℕ) (i z o : ℕ) (r : Reached) (nodes′ lookup′ : List ℕ) : Type 0 where
   pub kept : Kept s nodes lookup (r .store) nodes′ lookup′
   pub handle : (h : ℕ) → r .answer ≡ Handle h → h ≤ r .store .count + 1
-  pub sound : (B : List Family) → Holds B (s .count) nodes lookup → top (at B z) < i → top (at B o) < i
-      → Outcome (made B i (at B z) (at B o)) (mk i (at B z) (at B o)) (s .capacity) (r .store .count) nodes′ lookup′ (r .answer)
+  pub sound : {limit : ℕ} (B : List Family) → i ≤ limit → Holds limit B (s .count) nodes lookup → top (at B z) < i → top (at B o) < i
+      → Outcome limit (made B i (at B z) (at B o)) (mk i (at B z) (at B o)) (s .capacity) (r .store .count) nodes′ lookup′ (r .answer)
+
+-- the same on a record, which keeps its limit
+pub record NodeGot (s : Store) (nodes lookup : List ℕ) (i z o : ℕ) (r : Placed) (nodes′ lookup′ : List ℕ) : Type 0 where
+  pub node-is : NodeIt (fillIn s) nodes lookup i z o (reachedBy r) nodes′ lookup′
+  pub limit : r .store .limit ≡ s .limit

@@ -1,12 +1,13 @@
 // Getnode of document 001: the family of an item and two sides.
-ghost use Rattle.store.specs.Coded.{storeOf, placedAs};
-ghost use Rattle.store_node.specs.Inner.{NodeAsks, NodeIt};
+ghost use Rattle.store.specs.Coded.{reachedAs};
+ghost use Rattle.store.specs.Inner.{fillOf, fillIn};
+ghost use Rattle.store_node.specs.Inner.{NodeAsks, NodeIt, NodeGot};
 use crate::unique::Made;
 use crate::unique::make;
 use store::coded::DAMAGED;
 use store::coded::FULL;
-use store::coded::answered;
 use store::record::Placed;
+use store::record::Refusal;
 use store::record::Store;
 
 // The family of this item and these two sides, as a number: the zero side itself where the one side is {}, else the
@@ -20,23 +21,19 @@ pub fn node_of(
     zero: u32,
     one: u32,
 ) -> u32
-    requires { ⌜ NodeAsks (storeOf capacity (now count)) (now nodes) (now lookup) item zero one ⌝ }
-    ensures { λ r. ⌜ NodeIt (storeOf capacity (now (count .entry))) (now (nodes .entry)) (now (lookup .entry)) item zero one (placedAs capacity (now (count .exit)) r) (now (nodes .exit)) (now (lookup .exit)) ⌝ }
+    requires { ⌜ NodeAsks (fillOf capacity (now count)) (now nodes) (now lookup) item zero one ⌝ }
+    ensures { λ r. ⌜ NodeIt (fillOf capacity (now (count .entry))) (now (nodes .entry)) (now (lookup .entry)) item zero one (reachedAs capacity (now (count .exit)) r) (now (nodes .exit)) (now (lookup .exit)) ⌝ }
 {
     if one == 0 {
         return zero;
     }
-    let store = Store {
-        capacity: capacity,
-        count: *count,
-    };
-    let making = make(store, nodes, lookup, item, zero, one);
-    let after = making.store;
-    *count = after.count;
-    let made = making.made;
-    match made {
+    let held = *count;
+    match make(capacity, held, nodes, lookup, item, zero, one) {
         Made::Found(handle) => handle,
-        Made::New(handle) => handle,
+        Made::New(handle) => {
+            *count = held + 1;
+            handle
+        }
         Made::Full => FULL,
         Made::Damaged => DAMAGED,
     }
@@ -51,10 +48,16 @@ pub fn get_node(
     zero: u32,
     one: u32,
 ) -> Placed
-    requires { ⌜ NodeAsks store (now nodes) (now lookup) item zero one ⌝ }
-    ensures { λ r. ⌜ NodeIt store (now (nodes .entry)) (now (lookup .entry)) item zero one r (now (nodes .exit)) (now (lookup .exit)) ⌝ }
+    requires { ⌜ NodeAsks (fillIn store) (now nodes) (now lookup) item zero one ⌝ }
+    ensures { λ r. ⌜ NodeGot store (now (nodes .entry)) (now (lookup .entry)) item zero one r (now (nodes .exit)) (now (lookup .exit)) ⌝ }
 {
-    let mut count = store.count;
-    let coded = node_of(store.capacity, &mut count, nodes, lookup, item, zero, one);
-    answered(store.capacity, count, coded)
+    if one == 0 {
+        return store.placed(zero);
+    }
+    match make(store.capacity, store.count, nodes, lookup, item, zero, one) {
+        Made::Found(handle) => store.placed(handle),
+        Made::New(handle) => store.appended().placed(handle),
+        Made::Full => store.refused(Refusal::Full),
+        Made::Damaged => store.refused(Refusal::Damaged),
+    }
 }

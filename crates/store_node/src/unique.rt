@@ -1,7 +1,7 @@
 // A node found in the unique table, or added to it.
 ghost use Prim.Native.Nat.{_+_, _*_, _<_};
+ghost use Rattle.store.specs.Inner.{fillOf};
 ghost use Rattle.store_node.specs.Inner.{SlotAsks, EnteredIt, NodeAsks, MadeIt};
-use store::record::Store;
 use table::probe::probe;
 
 // What making a node comes to: found among the nodes, a new node, no room, or words that no sound store has.
@@ -10,11 +10,6 @@ pub enum Made {
     New(u32),
     Full,
     Damaged,
-}
-
-pub struct Making {
-    pub store: Store,
-    pub made: Made,
 }
 
 // Writes the words of the node after `count` others, and its number into its slot.
@@ -39,53 +34,34 @@ fn enter(
 
 // The node with these words: found, or new.
 pub fn make(
-    store: Store,
+    capacity: u32,
+    count: u32,
     nodes: &mut [u32],
     lookup: &mut [u32],
     item: u32,
     zero: u32,
     one: u32,
-) -> Making
-    requires { ⌜ NodeAsks store (now nodes) (now lookup) item zero one ⌝ }
-    ensures { λ r. ⌜ MadeIt store (now (nodes .entry)) (now (lookup .entry)) item zero one r (now (nodes .exit)) (now (lookup .exit)) ⌝ }
+) -> Made
+    requires { ⌜ NodeAsks (fillOf capacity count) (now nodes) (now lookup) item zero one ⌝ }
+    ensures { λ r. ⌜ MadeIt (fillOf capacity count) (now (nodes .entry)) (now (lookup .entry)) item zero one r (now (nodes .exit)) (now (lookup .exit)) ⌝ }
 {
-    let count = store.count;
-    let capacity = store.capacity;
     let slot = probe(nodes, lookup, count, item, zero, one);
     if lookup.len() <= slot {
-        return Making {
-            store: store,
-            made: Made::Damaged,
-        };
+        return Made::Damaged;
     }
     let number = lookup[slot];
     if number == 0 {
         if capacity <= count {
-            return Making {
-                store: store,
-                made: Made::Full,
-            };
+            return Made::Full;
         }
         enter(nodes, lookup, count, slot, item, zero, one);
-        return Making {
-            store: store.appended(),
-            made: Made::New(count + 2),
-        };
+        return Made::New(count + 2);
     }
     if number < 2 {
-        return Making {
-            store: store,
-            made: Made::Damaged,
-        };
+        return Made::Damaged;
     }
     if count + 1 < number {
-        return Making {
-            store: store,
-            made: Made::Damaged,
-        };
+        return Made::Damaged;
     }
-    Making {
-        store: store,
-        made: Made::Found(number),
-    }
+    Made::Found(number)
 }

@@ -8,20 +8,20 @@ use mathlib.Core.List.{List}
 use native.Mathlib.Omega.{arith}
 use lib.ListN.{getD}
 use borrow.Author.Tests.{eq-eqb}
-use Rattle.family.specs.Family.{Family, node, top, Within}
+use Rattle.family.specs.Family.{Family, node, top, Within, largestItem}
 use Rattle.family.specs.Operation.{lacking, holding}
 use Rattle.family.specs.Book.{at}
 use Rattle.family.proofs.Diagrams.{lacking-above, holding-above}
 use Rattle.words.proofs.Cases.{by-lt}
-use Rattle.store.specs.Words.{itemLimit, topAt}
+use Rattle.store.specs.Words.{topAt}
 use Rattle.store.specs.Inner.{Holds, Added}
 use Rattle.store_sides.specs.Inner.{Low, Halves}
 use Rattle.store.proofs.Held.{at-0, top-leaf, top-node, top-at, within, entry, at-node}
 use Rattle.store.proofs.Growing.{added-self, added-trans, added-top}
 
 -- what is low now
-pub low-now : {B : List Family} {nodes lookup : List ℕ} {n level p : ℕ} → Low nodes n level p → Holds B n nodes lookup → topAt nodes p < level
-low-now {B} {nodes} {lookup} {n} L H = L .falls B n nodes lookup (added-self n nodes) H
+pub low-now : {limit : ℕ} {B : List Family} {nodes lookup : List ℕ} {n level p : ℕ} → Low nodes n level p → Holds limit B n nodes lookup → topAt nodes p < level
+low-now {B = B} {nodes} {lookup} {n} L H = L .falls B n nodes lookup (added-self n nodes) H
 
 -- and after nodes were added
 pub low-added : {nodes nodes₁ : List ℕ} {n n₁ level p : ℕ} → Added n nodes n₁ nodes₁ → Low nodes n level p → Low nodes₁ n₁ level p
@@ -31,12 +31,12 @@ low-added K L = record { falls = λ B m words lookup M H. L .falls B m words loo
 low-top : {nodes : List ℕ} {n level p : ℕ} → p ≤ n + 1 → topAt nodes p < level → Low nodes n level p
 low-top {p = p} h l = record { falls = λ B m words lookup K H. omega (arith, added-top K p h) }
 
--- a book's items are within the limit
-pub low-limit : {nodes : List ℕ} {n p : ℕ} → p ≤ n + 1 → Low nodes n (itemLimit + 1) p
-low-limit {p = p} h = record { falls = λ B m words lookup K H. let l = K .grows in omega (arith, top-at H p (omega arith), within H p (omega arith) .low) }
+-- a book's items are within its limit, and no limit is above the largest item
+pub low-largest : {nodes : List ℕ} {n p : ℕ} → p ≤ n + 1 → Low nodes n (largestItem + 1) p
+low-largest {p = p} h = record { falls = λ B m words lookup K H. let l = K .grows in omega (arith, top-at H p (omega arith), within H p (omega arith) .low, H .limit-low) }
 
 module _ (nodes : List ℕ) (n p level : ℕ) (lp : p ≤ n + 1) (some : 0 < level) where
-  below-top : {B : List Family} {lookup : List ℕ} → Holds B n nodes lookup → topAt nodes p < level → Within (level - 1) (at B p)
+  below-top : {limit : ℕ} {B : List Family} {lookup : List ℕ} → Holds limit B n nodes lookup → topAt nodes p < level → Within (level - 1) (at B p)
   below-top H l = record { ordered = within H p (omega arith) .ordered; low = omega (arith, top-at H p (omega arith)) }
 
   one-level : suc (level - 1) ≡ level
@@ -58,18 +58,18 @@ module _ (nodes : List ℕ) (n p level : ℕ) (lp : p ≤ n + 1) (some : 0 < lev
     is-inner = by-lt p 2 (λ l e. absurd (omega (arith, top-leaf nodes p l))) (λ l e. l)
 
     -- where the words hold a book, p is the node of the level and these children
-    is-node : {B : List Family} {lookup : List ℕ} → Holds B n nodes lookup → at B p ≡ node level (at B (getD nodes (3 * (p - 2) + 1) 0)) (at B (getD nodes (3 * (p - 2) + 2) 0))
-    is-node {B} H =
+    is-node : {limit : ℕ} {B : List Family} {lookup : List ℕ} → Holds limit B n nodes lookup → at B p ≡ node level (at B (getD nodes (3 * (p - 2) + 1) 0)) (at B (getD nodes (3 * (p - 2) + 2) 0))
+    is-node {B = B} H =
         let e : getD nodes (3 * (p - 2)) 0 ≡ level = omega (arith, top-node nodes p is-inner) in
         at-node H p is-inner (omega arith) ∙ rw e
 
-    pub zero-inside : {B : List Family} {lookup : List ℕ} → Holds B n nodes lookup → getD nodes (3 * (p - 2) + 1) 0 ≤ n + 1
+    pub zero-inside : {limit : ℕ} {B : List Family} {lookup : List ℕ} → Holds limit B n nodes lookup → getD nodes (3 * (p - 2) + 1) 0 ≤ n + 1
     zero-inside H = omega (arith, entry H p is-inner (omega arith) .zero-before, is-inner)
 
-    pub one-inside : {B : List Family} {lookup : List ℕ} → Holds B n nodes lookup → getD nodes (3 * (p - 2) + 2) 0 ≤ n + 1
+    pub one-inside : {limit : ℕ} {B : List Family} {lookup : List ℕ} → Holds limit B n nodes lookup → getD nodes (3 * (p - 2) + 2) 0 ≤ n + 1
     one-inside H = omega (arith, entry H p is-inner (omega arith) .one-before, is-inner)
 
-    children-low : {B : List Family} {lookup : List ℕ} → Holds B n nodes lookup
+    children-low : {limit : ℕ} {B : List Family} {lookup : List ℕ} → Holds limit B n nodes lookup
         → (topAt nodes (getD nodes (3 * (p - 2) + 1) 0) < level) × (topAt nodes (getD nodes (3 * (p - 2) + 2) 0) < level)
     children-low H =
         let w = rw (is-node H) at (within H p (omega arith)) in
@@ -81,7 +81,7 @@ module _ (nodes : List ℕ) (n p level : ℕ) (lp : p ≤ n + 1) (some : 0 < lev
 
 module _ (nodes : List ℕ) (n p level : ℕ) (lp : p ≤ n + 1) (some : 0 < level) (high : level ≤ topAt nodes p) (fits : topAt nodes p ≤ level) where
   -- the children, after nodes were added
-  still-low : {B : List Family} {m : ℕ} {words lookup : List ℕ} → Added n nodes m words → Holds B m words lookup
+  still-low : {limit : ℕ} {B : List Family} {m : ℕ} {words lookup : List ℕ} → Added n nodes m words → Holds limit B m words lookup
       → (topAt words (getD nodes (3 * (p - 2) + 1) 0) < level) × (topAt words (getD nodes (3 * (p - 2) + 2) 0) < level)
   still-low {m = m} {words} K H =
       let e = added-top K p lp in

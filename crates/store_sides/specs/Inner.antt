@@ -20,7 +20,7 @@ pub record TopAsks (nodes : List ℕ) (n p : ℕ) : Type 0 where
 
 -- a handle whose top is below the level wherever these words hold a book, also after nodes were added
 pub record Low (nodes : List ℕ) (n level p : ℕ) : Type 0 where
-  pub falls : (B : List Family) (n′ : ℕ) (nodes′ lookup : List ℕ) → Added n nodes n′ nodes′ → Holds B n′ nodes′ lookup → topAt nodes′ p < level
+  pub falls : {limit : ℕ} (B : List Family) (n′ : ℕ) (nodes′ lookup : List ℕ) → Added n nodes n′ nodes′ → Holds limit B n′ nodes′ lookup → topAt nodes′ p < level
 
 -- a handle with its top, the words of the nodes, and a level that is not below the top
 pub record CofactorsAsks (nodes : List ℕ) (n p top level : ℕ) : Type 0 where
@@ -37,13 +37,13 @@ pub record Halves (nodes : List ℕ) (n p level z o : ℕ) : Type 0 where
   pub one-within : o ≤ n + 1
   pub zero-low : Low nodes n level z
   pub one-low : Low nodes n level o
-  pub lacks : (B : List Family) (lookup : List ℕ) → Holds B n nodes lookup → at B z ≡ lacking level (at B p)
-  pub holds : (B : List Family) (lookup : List ℕ) → Holds B n nodes lookup → at B o ≡ holding level (at B p)
+  pub lacks : {limit : ℕ} (B : List Family) (lookup : List ℕ) → Holds limit B n nodes lookup → at B z ≡ lacking level (at B p)
+  pub holds : {limit : ℕ} (B : List Family) (lookup : List ℕ) → Holds limit B n nodes lookup → at B o ≡ holding level (at B p)
 
 -- the two sides, or words that no sound store has
 pub data CofactorsOf (nodes : List ℕ) (n p level : ℕ) : Cofactors → Type 0 where
   split : {z o : ℕ} → Halves nodes n p level z o → CofactorsOf nodes n p level (TwoCofactors z o)
-  none : ((B : List Family) (lookup : List ℕ) → Holds B n nodes lookup → ⊥) → CofactorsOf nodes n p level NoCofactors
+  none : ((limit : ℕ) (B : List Family) (lookup : List ℕ) → Holds limit B n nodes lookup → ⊥) → CofactorsOf nodes n p level NoCofactors
 
 -- a handle, the words of the nodes, and a level that is not below the handle's top
 pub record SidesAsks (nodes : List ℕ) (n p level : ℕ) : Type 0 where
@@ -64,4 +64,4 @@ pub record TwoSides (nodes : List ℕ) (n p level z o zt ot : ℕ) : Type 0 wher
 -- the two sides, or words that no sound store has
 pub data SidesOf (nodes : List ℕ) (n p level : ℕ) : Sides → Type 0 where
   two : {z o zt ot : ℕ} → TwoSides nodes n p level z o zt ot → SidesOf nodes n p level (Two z o zt ot)
-  broken : ((B : List Family) (lookup : List ℕ) → Holds B n nodes lookup → ⊥) → SidesOf nodes n p level Broken
+  broken : ((limit : ℕ) (B : List Family) (lookup : List ℕ) → Holds limit B n nodes lookup → ⊥) → SidesOf nodes n p level Broken

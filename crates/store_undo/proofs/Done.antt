@@ -38,7 +38,7 @@ use Rattle.store_undo.proofs.Undoing.{undone-nodes, undone-lookup}
 use Rattle.store.proofs.Calls.{fits-roomy, not-large, left-is, large}
 
 module _ (s : Store) (nodes lookup cache : List ℕ) where
-  module _ (F : List Family → Family) (e : fitting (s .capacity) (s .count) (length nodes) (length lookup) ≡ true) {m : Placed} {nodes₁ lookup₁ cache₁ : List ℕ} (R : Ran F s nodes lookup cache m nodes₁ lookup₁ cache₁)
+  module _ (F : List Family → Family) (e : fitting s (length nodes) (length lookup) ≡ true) {m : Placed} {nodes₁ lookup₁ cache₁ : List ℕ} (R : Ran F s nodes lookup cache m nodes₁ lookup₁ cache₁)
       {r : Placed} {nodes₂ lookup₂ cache₂ : List ℕ} (E : Finished m (s .count) nodes₁ lookup₁ cache₁ r nodes₂ lookup₂ cache₂) where
     K : Kept s nodes lookup (m .store) nodes₁ lookup₁
     K = R .kept
@@ -52,7 +52,7 @@ module _ (s : Store) (nodes lookup cache : List ℕ) where
 
     module _ (h : ℕ) (eh : m .answer ≡ Handle h) where
       module _ (S : Sound s nodes lookup cache) where
-        given : Handed (place (bookOf nodes (s .count)) (F (bookOf nodes (s .count)))) (F (bookOf nodes (s .count))) h (m .store .count) nodes₁ lookup₁
+        given : Handed limit (place (bookOf nodes (s .count)) (F (bookOf nodes (s .count)))) (F (bookOf nodes (s .count))) h (m .store .count) nodes₁ lookup₁
         given = handed-of eh (R .sound (bookOf nodes (s .count)) (sound-holds S) (S .cached))
 
         fits : tooLarge (s .capacity) (bookOf nodes (s .count)) (F (bookOf nodes (s .count))) ≡ false
@@ -121,14 +121,14 @@ module _ (s : Store) (nodes lookup cache : List ℕ) where
         record Over : Type 0 where
           is : x ≡ Full
           D : List Family
-          holds : Holds D (m .store .count) nodes₁ lookup₁
+          holds : Holds limit D (m .store .count) nodes₁ lookup₁
           big : s .capacity + 2 < length (place (bookOf nodes (s .count)) (F (bookOf nodes (s .count))))
 
         over : Over
         over = out (m .answer) ex (R .sound (bookOf nodes (s .count)) (sound-holds S) (S .cached))
           where
             out : (a : PlaceAnswer) → a ≡ Refused x
-                → Outcome (place (bookOf nodes (s .count)) (F (bookOf nodes (s .count)))) (F (bookOf nodes (s .count))) (s .capacity) (m .store .count) nodes₁ lookup₁ a → Over
+                → Outcome limit (place (bookOf nodes (s .count)) (F (bookOf nodes (s .count)))) (F (bookOf nodes (s .count))) (s .capacity) (m .store .count) nodes₁ lookup₁ a → Over
             out a q (gave G) = absurd (let z : _≡_ {A = ℕ} 0 1 = cc in omega arith)
             out a q (full D H l) = record { is = cc; D = D; holds = H; big = l }
 

@@ -42,7 +42,7 @@ module _ {s s₁ s₂ : Store} {nodes lookup nodes₁ lookup₁ nodes₂ lookup�
           (λ m d. zeroed-inside (3 * s .count) (3 * s₁ .count) nodes₁ a b k l m ∙ sym (blank k l (omega (arith, K .fits))))
           (λ m d. zeroed-after (3 * s .count) (3 * s₁ .count) nodes₁ a b k m ∙ K .above k m))
 
-  pub undone-lookup : {B D : List Family} → Holds B (s .count) nodes lookup → Holds D (s₁ .count) nodes₁ lookup₁ → lookup₂ ≡ lookup
+  pub undone-lookup : {B D : List Family} → Holds limit B (s .count) nodes lookup → Holds limit D (s₁ .count) nodes₁ lookup₁ → lookup₂ ≡ lookup
   undone-lookup H G =
       U .lookup-is
       ∙ ap (λ l. cleared nodes₁ l (s .count) (s₁ .count - s .count)) (G .lookup-is ∙ ap (λ k. entered (startAt nodes₁ k) k (s₁ .count)) (K .long-lookup) ∙ ap (λ k. entered (startAt nodes₁ (length lookup)) (length lookup) k) (sym sum))

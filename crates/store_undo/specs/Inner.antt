@@ -9,17 +9,18 @@ use Rattle.store.specs.declared.record.Store.{Store}
 use Rattle.store.specs.declared.record.Refusal.{Refusal}
 use Rattle.store.specs.declared.record.PlaceAnswer.the-variants.{Handle, Refused}
 use Rattle.store.specs.declared.record.Placed.{Placed}
-use Rattle.store.specs.Inner.{Roomy}
+use Rattle.store.specs.Inner.{fillIn, Roomy}
 
 -- words that fit the record, and no more nodes to keep than are held
 pub record UndoAsks (s : Store) (nodes lookup : List ℕ) (keep : ℕ) : Type 0 where
-  pub roomy : Roomy s nodes lookup
+  pub roomy : Roomy (fillIn s) nodes lookup
   pub fewer : keep ≤ s .count
 
 -- the newest nodes taken back until `keep` are left
 pub record RolledBack (s : Store) (nodes lookup : List ℕ) (keep : ℕ) (s′ : Store) (nodes′ lookup′ : List ℕ) : Type 0 where
   pub capacity : s′ .capacity ≡ s .capacity
   pub count : s′ .count ≡ keep
+  pub limit : s′ .limit ≡ s .limit
   pub nodes-are : nodes′ ≡ zeroed (3 * keep) (3 * s .count) nodes
   pub lookup-is : lookup′ ≡ cleared nodes lookup keep (s .count - keep)
 

@@ -1,5 +1,5 @@
 // Taking back the newest nodes.
-ghost use Rattle.store.specs.Coded.{storeOf, placedAs};
+ghost use Rattle.store.specs.Coded.{placedAs};
 ghost use Rattle.store_undo.specs.Inner.{UndoAsks, RolledBack, Finished};
 use store::coded::answered;
 use store::record::PlaceAnswer;
@@ -53,9 +53,9 @@ pub fn finish_coded(
     lookup: &mut [u32],
     cache: &mut [u32],
 ) -> Placed
-    requires { ⌜ UndoAsks (storeOf (store .capacity) held) (now nodes) (now lookup) (store .count) ⌝ }
-    ensures { λ r. ⌜ Finished (placedAs (store .capacity) held coded) (store .count) (now (nodes .entry)) (now (lookup .entry)) (now (cache .entry)) r (now (nodes .exit)) (now (lookup .exit)) (now (cache .exit)) ⌝ }
+    requires { ⌜ UndoAsks (placedAs store held coded .store) (now nodes) (now lookup) (store .count) ⌝ }
+    ensures { λ r. ⌜ Finished (placedAs store held coded) (store .count) (now (nodes .entry)) (now (lookup .entry)) (now (cache .entry)) r (now (nodes .exit)) (now (lookup .exit)) (now (cache .exit)) ⌝ }
 {
-    let placed = answered(store.capacity, held, coded);
+    let placed = answered(store, held, coded);
     finish(placed, store.count, nodes, lookup, cache)
 }

@@ -9,12 +9,17 @@ use store_fresh::base;
 use store_fresh::empty;
 use store_fresh::fresh;
 
-// Makes an empty store of the lent words.
+// Makes an empty store of the lent words for the items up to the limit.
 #[no_mangle]
-pub extern "C" fn zdd_fresh(nodes: &mut [u32], lookup: &mut [u32], cache: &mut [u32]) -> CFreshened
-    ensures { λ r. ⌜ Exported freshenedOf (λ b. FreshCall (now (nodes .entry)) (now (lookup .entry)) (now (cache .entry)) b (now (nodes .exit)) (now (lookup .exit)) (now (cache .exit))) r ⌝ }
+pub extern "C" fn zdd_fresh(
+    nodes: &mut [u32],
+    lookup: &mut [u32],
+    cache: &mut [u32],
+    limit: u32,
+) -> CFreshened
+    ensures { λ r. ⌜ Exported freshenedOf (λ b. FreshCall limit (now (nodes .entry)) (now (lookup .entry)) (now (cache .entry)) b (now (nodes .exit)) (now (lookup .exit)) (now (cache .exit))) r ⌝ }
 {
-    freshened(fresh(nodes, lookup, cache))
+    freshened(fresh(nodes, lookup, cache, limit))
 }
 
 // The handle of {}.

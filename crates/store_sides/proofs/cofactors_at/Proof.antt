@@ -69,7 +69,7 @@ returns-2 c =
     let at-if1 : tie.Else1 = search in
     let a = (start-of at-if1) .args in
     let pre = (start-of at-if1) .pre in
-    none (λ B lookup H. omega (arith, zero-inside (a .nodes .now) (a .count) (a .p) (a .level) (pre .held) (pre .some) (here at-if1 .high) (here at-if1 .fits) H))
+    none (λ l B lookup H. omega (arith, zero-inside (a .nodes .now) (a .count) (a .p) (a .level) (pre .held) (pre .some) (here at-if1 .high) (here at-if1 .fits) H))
 
 add-if3 : tie.Need-add-if3
 add-if3 c = search needs
@@ -79,7 +79,7 @@ returns-3 c =
     let at-if1 : tie.Else1 = search in
     let a = (start-of at-if1) .args in
     let pre = (start-of at-if1) .pre in
-    none (λ B lookup H. omega (arith, one-inside (a .nodes .now) (a .count) (a .p) (a .level) (pre .held) (pre .some) (here at-if1 .high) (here at-if1 .fits) H))
+    none (λ l B lookup H. omega (arith, one-inside (a .nodes .now) (a .count) (a .p) (a .level) (pre .held) (pre .some) (here at-if1 .high) (here at-if1 .fits) H))
 
 returns-4 : tie.Need-returns-4
 returns-4 c =

@@ -41,7 +41,7 @@ returns-2 c =
     let at-top : tie.After-top-of2 = search in
     let at-zero : tie.After-zero = search in
     let K = halves-two (at-zero .zero .given .1) ((split-of at-zero) .cofactors-at .ensures) in
-    broken (λ B lookup H. omega (arith, low-now (K .zero-low) H, at-top .top-of2 .ensures))
+    broken (λ l B lookup H. omega (arith, low-now (K .zero-low) H, at-top .top-of2 .ensures))
 
 top-of-requires-3 : tie.Need-top-of-requires-3
 top-of-requires-3 c κs =
@@ -54,7 +54,7 @@ returns-3 c =
     let at-top : tie.After-top-of3 = search in
     let at-zero : tie.After-zero = search in
     let K = halves-two (at-zero .zero .given .1) ((split-of at-zero) .cofactors-at .ensures) in
-    broken (λ B lookup H. omega (arith, low-now (K .one-low) H, at-top .top-of3 .ensures))
+    broken (λ l B lookup H. omega (arith, low-now (K .one-low) H, at-top .top-of3 .ensures))
 
 returns-4 : tie.Need-returns-4
 returns-4 c =

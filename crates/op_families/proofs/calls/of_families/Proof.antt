@@ -3,11 +3,10 @@
 use mathlib.Core.Path.{_≡_, sym, _∙_}
 use native.Mathlib.Omega.{arith}
 use Prim.Native.Nat.{_+_}
-use Rattle.store.specs.Words.{itemLimit}
 use Rattle.store.proofs.Growing.{kept-roomy}
 use Rattle.store.proofs.Testing.{Tested, tested-clear, placing-refused}
 use Rattle.store_undo.proofs.Finishing.{finished-gave}
-use Rattle.store_sides.proofs.Splitting.{low-limit}
+use Rattle.store_sides.proofs.Splitting.{low-largest}
 use Rattle.op_cache.specs.Inner.{callOf}
 use Rattle.op_promise.specs.Promise.{operationRefusal}
 use Rattle.op_promise.proofs.Refusing.{family-number, done}
@@ -33,14 +32,14 @@ none c =
     let a = (start-of c) .args in
     family-number (a .op) (a .store .count) (a .p) (a .q) ((start-of c) .pre .some) ∙ passed c .number-is
 
-asks : (c : tie.After-enum-told) → let a = (start-of c) .args in ApplyAsks (callOf (a .op) (a .p) (a .q)) (itemLimit + 1) (a .store) (a .nodes .now) (a .lookup .now)
+asks : (c : tie.After-enum-told) → let a = (start-of c) .args in ApplyAsks (callOf (a .op) (a .p) (a .q)) (limit + 1) (a .store) (a .nodes .now) (a .lookup .now)
 asks c =
     let P = passed c in
     record {
       taken = record { roomy = P .roomy; operation = (start-of c) .pre; first = P .passed .first; second = P .passed .second };
-      first-low = low-limit (P .passed .first);
-      second-low = low-limit (P .passed .second);
-      limit-low = omega arith;
+      first-low = low-largest (P .passed .first);
+      second-low = low-largest (P .passed .second);
+      bound-low = omega arith;
     }
 
 tested-requires : tie.Need-tested-requires

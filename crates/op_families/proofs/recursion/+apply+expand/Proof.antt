@@ -1,5 +1,5 @@
--- `apply` and `expand` run the operation on two families: the limit falls from `expand` to each `apply`, and `apply`
--- comes just above `expand` of its limit.
+-- `apply` and `expand` run the operation on two families: the bound falls from `expand` to each `apply`, and `apply`
+-- comes just above `expand` of its bound.
 -- Every way out is a terminal case, a recalled result, or one step over the two results below.
 use Prim.Native.Nat.{ℕ, _+_, _*_, _<_}
 use native.Mathlib.Omega.{arith}
@@ -137,7 +137,7 @@ expand-apply-requires t c κs =
         taken = search needs;
         first-low = search;
         second-low = search;
-        limit-low = omega (arith, K .lower, p .1 .asks .limit-low);
+        bound-low = omega (arith, K .lower, p .1 .asks .bound-low);
       },
     )
 
@@ -171,7 +171,7 @@ expand-apply-requires-2 t c κs =
         };
         first-low = low-added (kept-added L) (K .first .one-low);
         second-low = low-added (kept-added L) (K .second .one-low);
-        limit-low = omega (arith, K .lower, p .1 .asks .limit-low);
+        bound-low = omega (arith, K .lower, p .1 .asks .bound-low);
       },
     )
 

@@ -6,7 +6,7 @@ use native.Mathlib.Omega.{arith}
 use Rattle.store.specs.Words.{topAt}
 use Rattle.op_families.specs.Inner.{two, broken}
 use Rattle.store_sides.proofs.Answers.{halves-two, halves-none}
-use Rattle.op_families.proofs.Forks.{no-level, past-limit}
+use Rattle.op_families.proofs.Forks.{no-level, past-bound}
 use borrow.Author.Needs.{needs}
 use Rattle.op_families.proofs.recursion.fork_at.Statement.{statement}
 use Rattle.op_families.proofs.recursion.fork_at.Tie as tie
@@ -38,7 +38,7 @@ returns c =
 returns-2 : tie.Need-returns-2
 returns-2 c =
     let at-larger : tie.After-larger = search in
-    past-limit ((start-of at-larger) .pre) (level-is at-larger) (omega (arith, c .if2 .taken))
+    past-bound ((start-of at-larger) .pre) (level-is at-larger) (omega (arith, c .if2 .taken))
 
 cofactors-at-requires : tie.Need-cofactors-at-requires
 cofactors-at-requires c κs = search needs

@@ -1,6 +1,7 @@
 -- `make` finds the node or enters it at the slot that the probe found; each way out is one law of the nodes.
 -- Where the words hold a book no test fails, so it is never damaged.
 use Rattle.store_node.proofs.Nodes.{made-damaged, not-past, not-one, not-above, made-full, made-found, made-new}
+use Rattle.store.specs.Inner.{fillOf}
 use borrow.Author.Needs.{needs}
 use Rattle.store_node.proofs.unique.make.Statement.{statement}
 use Rattle.store_node.proofs.unique.make.Tie as tie
@@ -19,8 +20,8 @@ returns c =
     let at-start : tie.Start = search in
     let a = at-start .args in
     let p = at-start .pre in
-    made-damaged (a .store) (a .nodes .now) (a .lookup .now) (a .item) (a .zero) (a .one) _ (p .roomy) (p .zero-held) (p .one-held) ((c .before) .probe .ensures)
-    (not-past (a .store) (a .nodes .now) (a .lookup .now) (a .item) (a .zero) (a .one) _ (p .roomy) (p .zero-held) (p .one-held) ((c .before) .probe .ensures) (c .if1 .taken))
+    made-damaged (fillOf (a .capacity) (a .count)) (a .nodes .now) (a .lookup .now) (a .item) (a .zero) (a .one) _ (p .roomy) (p .zero-held) (p .one-held) ((c .before) .probe .ensures)
+    (not-past (fillOf (a .capacity) (a .count)) (a .nodes .now) (a .lookup .now) (a .item) (a .zero) (a .one) _ (p .roomy) (p .zero-held) (p .one-held) ((c .before) .probe .ensures) (c .if1 .taken))
 
 mul-number : tie.Need-mul-number
 mul-number c = search needs
@@ -40,11 +41,8 @@ returns-2 c = search made-full
 enter-requires : tie.Need-enter-requires
 enter-requires c κs = search needs
 
-appended-requires : tie.Need-appended-requires
-appended-requires c κs = search needs
-
-add-t28 : tie.Need-add-t28
-add-t28 c = search needs
+add-result : tie.Need-add-result
+add-result c = search needs
 
 same-length-5 : tie.Need-same-length-5
 same-length-5 c =
@@ -71,8 +69,8 @@ returns-4 c =
     let at-start : tie.Start = search in
     let a = at-start .args in
     let p = at-start .pre in
-    made-damaged (a .store) (a .nodes .now) (a .lookup .now) (a .item) (a .zero) (a .one) _ (p .roomy) (p .zero-held) (p .one-held) (at-probe .probe .ensures)
-    (not-one (a .store) (a .nodes .now) (a .lookup .now) (a .item) (a .zero) (a .one) _ (p .roomy) (p .zero-held) (p .one-held) (at-probe .probe .ensures) ((c .before) .if2 .left) (c .if4 .taken))
+    made-damaged (fillOf (a .capacity) (a .count)) (a .nodes .now) (a .lookup .now) (a .item) (a .zero) (a .one) _ (p .roomy) (p .zero-held) (p .one-held) (at-probe .probe .ensures)
+    (not-one (fillOf (a .capacity) (a .count)) (a .nodes .now) (a .lookup .now) (a .item) (a .zero) (a .one) _ (p .roomy) (p .zero-held) (p .one-held) (at-probe .probe .ensures) ((c .before) .if2 .left) (c .if4 .taken))
 
 add-if5 : tie.Need-add-if5
 add-if5 c = search needs
@@ -89,8 +87,8 @@ returns-5 c =
     let at-start : tie.Start = search in
     let a = at-start .args in
     let p = at-start .pre in
-    made-damaged (a .store) (a .nodes .now) (a .lookup .now) (a .item) (a .zero) (a .one) _ (p .roomy) (p .zero-held) (p .one-held) (at-probe .probe .ensures)
-    (not-above (a .store) (a .nodes .now) (a .lookup .now) (a .item) (a .zero) (a .one) _ (p .roomy) (p .zero-held) (p .one-held) (at-probe .probe .ensures) ((c .before .before) .if2 .left) (c .if5 .taken))
+    made-damaged (fillOf (a .capacity) (a .count)) (a .nodes .now) (a .lookup .now) (a .item) (a .zero) (a .one) _ (p .roomy) (p .zero-held) (p .one-held) (at-probe .probe .ensures)
+    (not-above (fillOf (a .capacity) (a .count)) (a .nodes .now) (a .lookup .now) (a .item) (a .zero) (a .one) _ (p .roomy) (p .zero-held) (p .one-held) (at-probe .probe .ensures) ((c .before .before) .if2 .left) (c .if5 .taken))
 
 same-length-11 : tie.Need-same-length-11
 same-length-11 c = search needs
@@ -115,8 +113,7 @@ make-spec =
     same-length-4
     returns-2
     enter-requires
-    appended-requires
-    add-t28
+    add-result
     same-length-5
     same-length-6
     returns-3
