@@ -35,8 +35,8 @@ module _ (nodes lookup : List ℕ) (k slot : ℕ) (is : slot ≡ ownOf nodes loo
   own-test = rw (← is) (decides-eq (getD lookup slot 0) (k + 2))
 
 -- the rules of a node
-module _ (nodes : List ℕ) (k item z o t u : ℕ) (zero-top : t ≡ topAt nodes z) (one-top : u ≡ topAt nodes o) where
-  pub rules-last : item ≤ 512 → (o ≡ 0 → ⊥) → z ≤ k + 1 → o ≤ k + 1 → t < item → Decides (Node nodes k item z o) (ltb u item)
+module _ (limit : ℕ) (nodes : List ℕ) (k item z o t u : ℕ) (zero-top : t ≡ topAt nodes z) (one-top : u ≡ topAt nodes o) where
+  pub rules-last : item ≤ limit → (o ≡ 0 → ⊥) → z ≤ k + 1 → o ≤ k + 1 → t < item → Decides (Node limit nodes k item z o) (ltb u item)
   rules-last a b c d e =
       record {
         says-yes = λ p. record {
@@ -51,16 +51,16 @@ module _ (nodes : List ℕ) (k item z o t u : ℕ) (zero-top : t ≡ topAt nodes
       }
 
 -- all nodes
-module _ (nodes lookup : List ℕ) where
-  pub nodes-none : NodesTo nodes lookup 0
+module _ (limit : ℕ) (nodes lookup : List ℕ) where
+  pub nodes-none : NodesTo limit nodes lookup 0
   nodes-none = record { each = λ k h. absurd (omega arith); own = λ k h. absurd (omega arith) }
 
-  pub nodes-more : (n : ℕ) → NodesTo nodes lookup n → NodeAt nodes n → OwnAt nodes lookup n → NodesTo nodes lookup (n + 1)
+  pub nodes-more : (n : ℕ) → NodesTo limit nodes lookup n → NodeAt limit nodes n → OwnAt nodes lookup n → NodesTo limit nodes lookup (n + 1)
   nodes-more n a p q =
       record {
         each = λ k h. by-eq k n (λ e d. rw e p) (λ e d. a .each k (omega arith));
         own = λ k h. by-eq k n (λ e d. rw e q) (λ e d. a .own k (omega arith));
       }
 
-  pub nodes-to : (n m : ℕ) → NodesTo nodes lookup n → m ≤ n → NodesTo nodes lookup m
+  pub nodes-to : (n m : ℕ) → NodesTo limit nodes lookup n → m ≤ n → NodesTo limit nodes lookup m
   nodes-to n m a h = record { each = λ k g. a .each k (omega arith); own = λ k g. a .own k (omega arith) }

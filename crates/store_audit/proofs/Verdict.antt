@@ -16,7 +16,7 @@ use Rattle.store.specs.Capacity.{fitting}
 use Rattle.store.specs.Words.{bookOf}
 use Rattle.store.specs.Cache.{True}
 use Rattle.store.specs.Sound.{Sound}
-use Rattle.store.proofs.Fitting.{fits-true, true-fits}
+use Rattle.store.proofs.Fitting.{fits-true}
 use Rattle.store.proofs.Sounds.{zeroed-true}
 use Rattle.store_audit.specs.Promise.{AuditCall}
 use Rattle.store_audit.specs.Inner.{Decides, NodesTo, Blank}
@@ -32,9 +32,6 @@ module _ (s : Store) (nodes lookup : List ℕ) where
     shorter : s .count < length lookup
     shorter = omega (arith, S .within, S .longer)
 
-    pub sound-fits : fitting s (length nodes) (length lookup) ≡ true
-    sound-fits = true-fits _ _ _ _ (record { is = S .capacity-is; longer = S .longer; within = S .within })
-
     pub sound-used : used lookup ≡ s .count
     sound-used = entered-used nodes lookup (s .count) shorter (S .lookup-is)
 
@@ -45,24 +42,26 @@ module _ (s : Store) (nodes lookup : List ℕ) where
     distinct = record { apart = λ j k f h w. S .apart j k f h (w .item-is) (w .zero-is) (w .one-is) }
 
     items : Items nodes (s .count)
-    items = record { low = λ k h. omega (arith, S .each k h .zero-below); high = λ k h. S .each k h .item-limit }
+    items = record { low = λ k h. omega (arith, S .each k h .zero-below); high = λ k h. omega (arith, S .each k h .item-limit, S .limit-low) }
 
-    pub sound-nodes : NodesTo nodes lookup (s .count)
+    pub sound-nodes : NodesTo (s .limit) nodes lookup (s .count)
     sound-nodes = record { each = S .each; own = entered-own nodes lookup (s .count) shorter (S .lookup-is) distinct items }
 
   -- a store that passes each test is sound
   pub tells-last : (r : Bool) → fitting s (length nodes) (length lookup) ≡ true → used lookup ≡ s .count → Blank nodes (3 * s .count) (3 * s .capacity)
-      → Decides (NodesTo nodes lookup (s .count)) r → TellsSound s nodes lookup r
+      → Decides (NodesTo (s .limit) nodes lookup (s .count)) r → TellsSound s nodes lookup r
   tells-last r e many blank d = record { says-yes = λ p. sound (d .says-yes p); says-no = λ p cache S. d .says-no p (sound-nodes S) }
     where
-      sound : NodesTo nodes lookup (s .count) → (cache : List ℕ) → True limit (bookOf nodes (s .count)) cache → Sound s nodes lookup cache
+      sound : NodesTo (s .limit) nodes lookup (s .count) → (cache : List ℕ) → True (s .limit) (bookOf nodes (s .count)) cache → Sound s nodes lookup cache
       sound N cache T =
-          let f = fits-true _ _ _ _ e in
+          let f = fits-true s (length nodes) (length lookup) e in
           let g : s .count < length lookup = omega (arith, f .longer, f .within) in
           record {
             capacity-is = f .is;
             longer = f .longer;
             within = f .within;
+            limit-some = f .limit-is .0;
+            limit-low = f .limit-is .1;
             each = N .each;
             apart = λ j k l h a b c. are-distinct nodes lookup (s .count) g (N .own) many .apart j k l h (record { item-is = a; zero-is = b; one-is = c });
             blank = blank .is;

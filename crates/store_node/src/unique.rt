@@ -55,7 +55,8 @@ pub fn make(
             return Made::Full;
         }
         enter(nodes, lookup, count, slot, item, zero, one);
-        return Made::New(count + 2);
+        let handle = count + 2;
+        return Made::New(handle);
     }
     if number < 2 {
         return Made::Damaged;

@@ -27,7 +27,7 @@ use Rattle.store.specs.Sound.{Sound}
 use Rattle.store.specs.Placing.{tooLarge, placeAnswer, placeBook}
 use Rattle.store.specs.Promise.{leaves, placing, cacheRefused, PlaceCall}
 use Rattle.store_undo.specs.Inner.{RolledBack, Finished}
-use Rattle.store.specs.Inner.{Roomy, Holds, Handed, Outcome, gave, full, Kept, Ran}
+use Rattle.store.specs.Inner.{fillIn, reachedBy, Roomy, Holds, Handed, Outcome, gave, full, Kept, Ran}
 use Rattle.store.proofs.Fitting.{store-is}
 use Rattle.store.proofs.Held.{handle-of}
 use Rattle.store.proofs.Decoding.{sound-holds}
@@ -38,12 +38,12 @@ use Rattle.store_undo.proofs.Undoing.{undone-nodes, undone-lookup}
 use Rattle.store.proofs.Calls.{fits-roomy, not-large, left-is, large}
 
 module _ (s : Store) (nodes lookup cache : List ℕ) where
-  module _ (F : List Family → Family) (e : fitting s (length nodes) (length lookup) ≡ true) {m : Placed} {nodes₁ lookup₁ cache₁ : List ℕ} (R : Ran F s nodes lookup cache m nodes₁ lookup₁ cache₁)
-      {r : Placed} {nodes₂ lookup₂ cache₂ : List ℕ} (E : Finished m (s .count) nodes₁ lookup₁ cache₁ r nodes₂ lookup₂ cache₂) where
-    K : Kept s nodes lookup (m .store) nodes₁ lookup₁
+  module _ (F : List Family → Family) (e : fitting s (length nodes) (length lookup) ≡ true) {least : ℕ} (low : least ≤ s .limit) {m : Placed} {nodes₁ lookup₁ cache₁ : List ℕ}
+      (R : Ran least F (fillIn s) nodes lookup cache (reachedBy m) nodes₁ lookup₁ cache₁) (el : m .store .limit ≡ s .limit) {r : Placed} {nodes₂ lookup₂ cache₂ : List ℕ} (E : Finished m (s .count) nodes₁ lookup₁ cache₁ r nodes₂ lookup₂ cache₂) where
+    K : Kept (fillIn s) nodes lookup (fillIn (m .store)) nodes₁ lookup₁
     K = R .kept
 
-    roomy : Roomy s nodes lookup
+    roomy : Roomy (fillIn s) nodes lookup
     roomy = fits-roomy s nodes lookup e
 
     -- words past the whole groups stay
@@ -52,8 +52,8 @@ module _ (s : Store) (nodes lookup cache : List ℕ) where
 
     module _ (h : ℕ) (eh : m .answer ≡ Handle h) where
       module _ (S : Sound s nodes lookup cache) where
-        given : Handed limit (place (bookOf nodes (s .count)) (F (bookOf nodes (s .count)))) (F (bookOf nodes (s .count))) h (m .store .count) nodes₁ lookup₁
-        given = handed-of eh (R .sound (bookOf nodes (s .count)) (sound-holds S) (S .cached))
+        given : Handed (s .limit) (place (bookOf nodes (s .count)) (F (bookOf nodes (s .count)))) (F (bookOf nodes (s .count))) h (m .store .count) nodes₁ lookup₁
+        given = handed-of eh (R .sound (bookOf nodes (s .count)) low (sound-holds S) (S .cached))
 
         fits : tooLarge (s .capacity) (bookOf nodes (s .count)) (F (bookOf nodes (s .count))) ≡ false
         fits = not-large (s .capacity) (bookOf nodes (s .count)) (F (bookOf nodes (s .count))) (s .count) (sound-holds S .size) (S .within) (omega (arith, given .holds .size, K .fits))
@@ -72,14 +72,14 @@ module _ (s : Store) (nodes lookup cache : List ℕ) where
         left =
             rw fits (left-is
             (ap givenBy eh ∙ ap (λ k. record { refusal = 0; handle = k }) (sym (ap (λ X. number (place (bookOf nodes (s .count)) (F (bookOf nodes (s .count)))) X) (sym (given .means)) ∙ handle-of (given .holds) h (given .within))))
-            (store-is (K .same-capacity) (omega (arith, given .holds .size)))
+            (store-is (K .same-capacity) (omega (arith, given .holds .size)) el)
             (sym (laid-out (given .holds) words (s .capacity) nodes (K .fits) (omega (arith, K .long, roomy .words)) blank past))
             (sym (ap (λ k. lookupOf k (place (bookOf nodes (s .count)) (F (bookOf nodes (s .count))))) (sym (K .long-lookup)) ∙ looked-up (given .holds) words)))
 
         sound : Sound (m .store) nodes₁ lookup₁ cache₁
         sound =
-            holds-sound (m .store) (given .holds) (K .same-capacity ∙ S .capacity-is ∙ ap capacityOf (sym (K .long))) (omega (arith, K .same-capacity, K .long-lookup, S .longer)) (omega (arith, K .fits, K .same-capacity))
-            (λ k l g. blank k l (omega (arith, K .same-capacity))) (R .cached (bookOf nodes (s .count)) (sound-holds S) (S .cached) h eh)
+            holds-sound {B = place (bookOf nodes (s .count)) (F (bookOf nodes (s .count)))} (m .store) (omega (arith, el, S .limit-some)) (rw el (given .holds)) (K .same-capacity ∙ S .capacity-is ∙ ap capacityOf (sym (K .long))) (omega (arith, K .same-capacity, K .long-lookup, S .longer)) (omega (arith, K .fits, K .same-capacity))
+            (λ k l g. blank k l (omega (arith, K .same-capacity))) (rw el (R .cached (bookOf nodes (s .count)) low (sound-holds S) (S .cached) h eh))
 
       gave-call : PlaceCall 0 (F (bookOf nodes (s .count))) s nodes lookup cache r nodes₂ lookup₂ cache₂
       gave-call =
@@ -94,6 +94,7 @@ module _ (s : Store) (nodes lookup cache : List ℕ) where
             };
             lengths = (K .long, K .long-lookup, R .long-cache);
             capacity = K .same-capacity;
+            limit = el;
             refused = λ d. absurd (d (ap (λ a. givenBy a .refusal) eh));
           }
 
@@ -105,7 +106,7 @@ module _ (s : Store) (nodes lookup cache : List ℕ) where
       ea = E .undone x ex .1
 
       as-came : r .store ≡ s
-      as-came = store-is (U .capacity ∙ K .same-capacity) (U .count)
+      as-came = store-is (U .capacity ∙ K .same-capacity) (U .count) (U .limit ∙ el)
 
       -- the cache: its whole groups are zero, and the rest is as it came
       zero-cache : cache₂ ≡ zeroed 0 (length cache / 4 * 4) cache
@@ -121,14 +122,14 @@ module _ (s : Store) (nodes lookup cache : List ℕ) where
         record Over : Type 0 where
           is : x ≡ Full
           D : List Family
-          holds : Holds limit D (m .store .count) nodes₁ lookup₁
+          holds : Holds (s .limit) D (m .store .count) nodes₁ lookup₁
           big : s .capacity + 2 < length (place (bookOf nodes (s .count)) (F (bookOf nodes (s .count))))
 
         over : Over
-        over = out (m .answer) ex (R .sound (bookOf nodes (s .count)) (sound-holds S) (S .cached))
+        over = out (m .answer) ex (R .sound (bookOf nodes (s .count)) low (sound-holds S) (S .cached))
           where
             out : (a : PlaceAnswer) → a ≡ Refused x
-                → Outcome limit (place (bookOf nodes (s .count)) (F (bookOf nodes (s .count)))) (F (bookOf nodes (s .count))) (s .capacity) (m .store .count) nodes₁ lookup₁ a → Over
+                → Outcome (s .limit) (place (bookOf nodes (s .count)) (F (bookOf nodes (s .count)))) (F (bookOf nodes (s .count))) (s .capacity) (m .store .count) nodes₁ lookup₁ a → Over
             out a q (gave G) = absurd (let z : _≡_ {A = ℕ} 0 1 = cc in omega arith)
             out a q (full D H l) = record { is = cc; D = D; holds = H; big = l }
 
@@ -169,6 +170,7 @@ module _ (s : Store) (nodes lookup cache : List ℕ) where
               ap length zero-cache ∙ zeroed-length 0 (length cache / 4 * 4) cache (omega arith) (omega arith),
             );
             capacity = U .capacity ∙ K .same-capacity;
+            limit = U .limit ∙ el;
             refused = λ d. as-came;
           }
 

@@ -16,11 +16,11 @@ use Rattle.table.specs.Own.{cleared}
 use Rattle.table.proofs.OwnSlots.{rolled-back}
 use Rattle.store.specs.declared.record.Store.{Store}
 use Rattle.store_undo.specs.Inner.{RolledBack}
-use Rattle.store.specs.Inner.{Roomy, Holds, Kept}
+use Rattle.store.specs.Inner.{Fill, fillIn, Roomy, Holds, Kept}
 use Rattle.store.proofs.Held.{words-apart, words-items}
 use Rattle.store.proofs.Put.{entered-same}
 
-module _ {s s₁ s₂ : Store} {nodes lookup nodes₁ lookup₁ nodes₂ lookup₂ : List ℕ} (R : Roomy s nodes lookup) (K : Kept s nodes lookup s₁ nodes₁ lookup₁) (U : RolledBack s₁ nodes₁ lookup₁ (s .count) s₂ nodes₂ lookup₂) where
+module _ {s : Fill} {s₁ s₂ : Store} {nodes lookup nodes₁ lookup₁ nodes₂ lookup₂ : List ℕ} (R : Roomy s nodes lookup) (K : Kept s nodes lookup (fillIn s₁) nodes₁ lookup₁) (U : RolledBack s₁ nodes₁ lookup₁ (s .count) s₂ nodes₂ lookup₂) where
   pub undone-nodes : ((k : ℕ) → 3 * s .count ≤ k → k < 3 * s .capacity → getD nodes k 0 ≡ 0) → nodes₂ ≡ nodes
   undone-nodes blank =
       U .nodes-are ∙ ext-getD 0 (zeroed (3 * s .count) (3 * s₁ .count) nodes₁) nodes (long ∙ K .long) (λ k l. word k)
@@ -42,7 +42,7 @@ module _ {s s₁ s₂ : Store} {nodes lookup nodes₁ lookup₁ nodes₂ lookup�
           (λ m d. zeroed-inside (3 * s .count) (3 * s₁ .count) nodes₁ a b k l m ∙ sym (blank k l (omega (arith, K .fits))))
           (λ m d. zeroed-after (3 * s .count) (3 * s₁ .count) nodes₁ a b k m ∙ K .above k m))
 
-  pub undone-lookup : {B D : List Family} → Holds limit B (s .count) nodes lookup → Holds limit D (s₁ .count) nodes₁ lookup₁ → lookup₂ ≡ lookup
+  pub undone-lookup : {limit : ℕ} {B D : List Family} → Holds limit B (s .count) nodes lookup → Holds limit D (s₁ .count) nodes₁ lookup₁ → lookup₂ ≡ lookup
   undone-lookup H G =
       U .lookup-is
       ∙ ap (λ l. cleared nodes₁ l (s .count) (s₁ .count - s .count)) (G .lookup-is ∙ ap (λ k. entered (startAt nodes₁ k) k (s₁ .count)) (K .long-lookup) ∙ ap (λ k. entered (startAt nodes₁ (length lookup)) (length lookup) k) (sym sum))

@@ -12,6 +12,7 @@ returns c =
     record {
       capacity = c .rolled-back .ensures .0;
       count = c .rolled-back .ensures .1;
+      limit = c .rolled-back .ensures .2;
       nodes-are = at-zero .zero .ensures;
       lookup-is = at-clear-newest .clear-newest .ensures;
     }

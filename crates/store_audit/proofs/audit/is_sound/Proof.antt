@@ -5,8 +5,8 @@ use native.Mathlib.Omega.{arith}
 use borrow.Author.Tests.{not-true, not-false}
 use Rattle.words.proofs.Cases.{clash}
 use Rattle.store.proofs.Fitting.{test-refused, test-passed}
-use Rattle.store.proofs.Calls.{fits-roomy}
-use Rattle.store_audit.proofs.Verdict.{tells-no, tells-last, sound-fits, sound-used, sound-blank}
+use Rattle.store.proofs.Calls.{sound-fits, fits-roomy}
+use Rattle.store_audit.proofs.Verdict.{tells-no, tells-last, sound-used, sound-blank}
 use Rattle.store_audit.proofs.audit.is_sound.Statement.{statement}
 use Rattle.store_audit.proofs.audit.is_sound.Tie as tie
 
@@ -14,7 +14,7 @@ fits-requires : tie.Need-fits-requires
 fits-requires c κs = search needs
 
 returns : tie.Need-returns
-returns c = tells-no _ _ _ (λ cache S. clash (sound-fits _ _ _ S) (test-refused ((c .before) .fits2 .ensures) (c .if1 .taken)))
+returns c = tells-no _ _ _ (λ cache S. clash (sound-fits S) (test-refused ((c .before) .fits2 .ensures) (c .if1 .taken)))
 
 used-slots-requires : tie.Need-used-slots-requires
 used-slots-requires c κs = search needs

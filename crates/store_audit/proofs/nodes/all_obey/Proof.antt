@@ -10,13 +10,13 @@ use Rattle.store_audit.proofs.nodes.all_obey.Statement.{statement}
 use Rattle.store_audit.proofs.nodes.all_obey.Tie as tie
 
 abbrev Inv-loop : tie.InvT-loop
-Inv-loop nodes lookup count k₀ k = (k ≤ count) × NodesTo nodes lookup k
+Inv-loop nodes lookup count limit k₀ k = (k ≤ count) × NodesTo limit nodes lookup k
 
 abbrev μ-loop : tie.MeasureT-loop
-μ-loop nodes lookup count k₀ k = count - k
+μ-loop nodes lookup count limit k₀ k = count - k
 
 loop-holds : tie.Need-loop-holds Inv-loop μ-loop
-loop-holds c = (search needs, nodes-none _ _)
+loop-holds c = (search needs, nodes-none _ _ _)
 
 obeys-requires : tie.Need-obeys-requires Inv-loop μ-loop
 obeys-requires c κs = search needs
@@ -42,10 +42,10 @@ loop-less c = search needs
 loop-again : tie.Need-loop-again Inv-loop μ-loop
 loop-again c =
     let at-loop : tie.At-loop Inv-loop μ-loop = search in
-    (search needs, nodes-more _ _ _ (at-loop .loop .inv .1) ((c .before .before .before) .obeys .ensures .says-yes (not-false _ ((c .before .before) .if1 .left))) ((c .before) .is-entered .ensures .says-yes (not-false _ (c .if2 .left))))
+    (search needs, nodes-more _ _ _ _ (at-loop .loop .inv .1) ((c .before .before .before) .obeys .ensures .says-yes (not-false _ ((c .before .before) .if1 .left))) ((c .before) .is-entered .ensures .says-yes (not-false _ (c .if2 .left))))
 
 returns-3 : tie.Need-returns-3 Inv-loop μ-loop
-returns-3 c = decides-yes (nodes-to _ _ _ _ ((c .before) .loop .inv .1) (c .loop-test .left))
+returns-3 c = decides-yes (nodes-to _ _ _ _ _ ((c .before) .loop .inv .1) (c .loop-test .left))
 
 pub all-obey-spec : {M : Type 1} → statement M
 all-obey-spec =

@@ -66,7 +66,7 @@ returns-6 c =
     let at-if3 : tie.Else3 = search in
     let at-if2 : tie.Else2 = search in
     let at-if1 : tie.Else1 = search in
-    rules-last _ _ _ _ _ _ _ ((c .before .before) .top-of .ensures) (c .top-of2 .ensures)
+    rules-last _ _ _ _ _ _ _ _ ((c .before .before) .top-of .ensures) (c .top-of2 .ensures)
     (omega (arith, at-if1 .if1 .left)) (λ e. omega (arith, at-if2 .if2 .left, e))
     (omega (arith, at-if3 .if3 .left)) (omega (arith, (c .before .before .before) .if4 .left)) (omega (arith, (c .before) .if5 .left))
 

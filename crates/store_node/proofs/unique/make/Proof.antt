@@ -41,8 +41,8 @@ returns-2 c = search made-full
 enter-requires : tie.Need-enter-requires
 enter-requires c κs = search needs
 
-add-result : tie.Need-add-result
-add-result c = search needs
+add-handle : tie.Need-add-handle
+add-handle c = search needs
 
 same-length-5 : tie.Need-same-length-5
 same-length-5 c =
@@ -113,7 +113,7 @@ make-spec =
     same-length-4
     returns-2
     enter-requires
-    add-result
+    add-handle
     same-length-5
     same-length-6
     returns-3
