@@ -28,7 +28,7 @@ recalled-within e r = out (rw e at r)
     out (hit G l) = l
 
 pub recalled-true : {limit : ℕ} {B : List Family} {cache : List ℕ} {n : ℕ} {call : Call} {h : ℕ} {x : Recalled} → True limit B cache → 1 ≤ call .op → x ≡ Hit h → RecallOf cache n call x → Truth limit B (call .op) (call .p) (call .q) h
-recalled-true {B} {cache} {n} {call} {h} t l e r =
+recalled-true {cache = cache} {n} {call} {h} t l e r =
     let g = recalled-group (rw e at r) in
     ⊎-elim (λ z. absurd (omega (arith, z .op-is, g .1 .op-is))) (λ u. u) (t .each (g .0) (call .op) (call .p) (call .q) h (g .1))
 
@@ -96,7 +96,7 @@ nothing-remembered cache call h = record { long = refl; rest = λ k m. refl; eac
 
 -- a true cache that remembers a true result
 pub true-remembered : {limit : ℕ} {B : List Family} {cache cache′ : List ℕ} {call : Call} {h : ℕ} → True limit B cache → Truth limit B (call .op) (call .p) (call .q) h → Remembered cache call h cache′ → True limit B cache′
-true-remembered {B} {cache} {cache′} {call} {h} t u m = record { each = λ g op p q r G. ⊎-elim (λ O. old g op p q r G O (t .each g op p q r O)) (λ e. inr (new op p q r e)) (m .each g op p q r G) }
+true-remembered {limit} {B} {cache} {cache′} {call} {h} t u m = record { each = λ g op p q r G. ⊎-elim (λ O. old g op p q r G O (t .each g op p q r O)) (λ e. inr (new op p q r e)) (m .each g op p q r G) }
   where
     new : (op p q r : ℕ) → (op ≡ call .op) × (p ≡ call .p) × (q ≡ call .q) × (r ≡ h) → Truth limit B op p q r
     new op p q r e = rw (e .0, e .1, e .2, e .3) u

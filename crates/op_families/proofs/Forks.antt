@@ -33,12 +33,12 @@ fork-broken e S = out (rw e at S)
 leaf-handle : {limit : ℕ} {B : List Family} {n : ℕ} {nodes lookup : List ℕ} → Holds limit B n nodes lookup → (p : ℕ) → p ≤ n + 1 → topAt nodes p ≡ 0 → p < 2
 leaf-handle H zero l e = omega arith
 leaf-handle H (suc zero) l e = omega arith
-leaf-handle {B} {n} {nodes} H (suc (suc p)) l e =
+leaf-handle {nodes = nodes} H (suc (suc p)) l e =
     absurd (let w = rw (at-node H (suc (suc p)) (omega arith) (omega arith)) at (within H (suc (suc p)) (omega arith)) in omega (arith, w .ordered .0, top-node nodes (suc (suc p)) (omega arith)))
 
 module _ {nodes : List ℕ} {n : ℕ} {call : Call} {bound : ℕ} (A : ForkAsks nodes n call bound) {level : ℕ} (level-is : level ≡ max (topAt nodes (call .p)) (topAt nodes (call .q))) where
   pub no-level : level ≡ 0 → ForkOf nodes n call bound Broken
-  no-level e = broken (λ B lookup H. A .proper .apart (same H))
+  no-level e = broken (λ l B lookup H. A .proper .apart (same H))
     where
       same : {limit : ℕ} {B : List Family} {lookup : List ℕ} → Holds limit B n nodes lookup → call .p ≡ call .q
       same H =
@@ -49,4 +49,4 @@ module _ {nodes : List ℕ} {n : ℕ} {call : Call} {bound : ℕ} (A : ForkAsks 
           omega arith
 
   pub past-bound : bound ≤ level → ForkOf nodes n call bound Broken
-  past-bound l = broken (λ B lookup H. omega (arith, level-is, low-now (A .first-low) H, low-now (A .second-low) H))
+  past-bound h = broken (λ l B lookup H. omega (arith, level-is, low-now (A .first-low) H, low-now (A .second-low) H))

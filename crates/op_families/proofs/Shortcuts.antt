@@ -6,11 +6,9 @@ use mathlib.Core.List.{List}
 use mathlib.Core.Logic.{_⊎_, ⊎-elim}
 use native.Mathlib.Omega.{arith}
 use Rattle.family.specs.Book.{at}
-use Rattle.store.specs.declared.record.Store.{Store}
 use Rattle.store.specs.declared.record.PlaceAnswer.the-variants.{Handle}
-use Rattle.store.specs.declared.record.Placed.{Placed}
-use Rattle.store.specs.Coded.{placedAs}
-use Rattle.store.specs.Inner.{Ran}
+use Rattle.store.specs.Coded.{reachedAs}
+use Rattle.store.specs.Inner.{Fill, Reached, Ran}
 use Rattle.store.proofs.Codes.{coded-held}
 use Rattle.store.proofs.Held.{at-0, within}
 use Rattle.op_cache.specs.declared.Call.{Call}
@@ -35,20 +33,20 @@ shortcut-proper e S = out (rw e at S)
     out (unknown K) = K
 
 -- a terminal case, as an answer and as a number
-module _ {call : Call} {bound : ℕ} {s : Store} {nodes lookup : List ℕ} (A : ApplyAsks call bound s nodes lookup) (cache : List ℕ) {h : ℕ} {x : Recalled} (e : x ≡ Hit h) (S : ShortcutOf call x) where
+module _ {call : Call} {bound : ℕ} {s : Fill} {nodes lookup : List ℕ} (A : ApplyAsks call bound s nodes lookup) (cache : List ℕ) {h : ℕ} {x : Recalled} (e : x ≡ Hit h) (S : ShortcutOf call x) where
   terminal-held : h ≤ s .count + 1
   terminal-held = ⊎-elim (λ d. omega arith) (λ d. ⊎-elim (λ c. omega (arith, A .taken .first)) (λ c. omega (arith, A .taken .second)) d) (shortcut-known e S .one-of)
 
-  pub ran-terminal : (r : Placed) → r .store ≡ s → r .answer ≡ Handle h → Ran (of call) s nodes lookup cache r nodes lookup cache
+  pub ran-terminal : (r : Reached) → r .store ≡ s → r .answer ≡ Handle h → Ran 0 (of call) s nodes lookup cache r nodes lookup cache
   ran-terminal r es ea =
-      plain-ran (of call) s nodes lookup cache (plain-handle (of call) s nodes lookup (A .taken .roomy) r h es ea terminal-held
-      (λ B H. shortcut-known e S .means B (at-0 H) (within H (call .p) (omega (arith, A .taken .first)) .ordered) (within H (call .q) (omega (arith, A .taken .second)) .ordered)))
+      plain-ran 0 (of call) s nodes lookup cache (plain-handle 0 (of call) s nodes lookup (A .taken .roomy) r h es ea terminal-held
+      (λ l B H. shortcut-known e S .means B (at-0 H) (within H (call .p) (omega (arith, A .taken .first)) .ordered) (within H (call .q) (omega (arith, A .taken .second)) .ordered)))
 
-  pub coded-terminal : Ran (of call) s nodes lookup cache (placedAs (s .capacity) (s .count) h) nodes lookup cache
-  coded-terminal = ran-terminal (placedAs (s .capacity) (s .count) h) refl (coded-held h (A .taken .roomy) (A .taken .roomy .within) terminal-held)
+  pub coded-terminal : Ran 0 (of call) s nodes lookup cache (reachedAs (s .capacity) (s .count) h) nodes lookup cache
+  coded-terminal = ran-terminal (reachedAs (s .capacity) (s .count) h) refl (coded-held h (A .taken .roomy) (A .taken .roomy .within) terminal-held)
 
 -- a call, and the same with its operands in order
-module _ {asked call : Call} (O : OrderedAs asked call) {bound : ℕ} {s : Store} {nodes lookup : List ℕ} (A : ApplyAsks asked bound s nodes lookup) where
+module _ {asked call : Call} (O : OrderedAs asked call) {bound : ℕ} {s : Fill} {nodes lookup : List ℕ} (A : ApplyAsks asked bound s nodes lookup) where
   ordered-asks : ApplyAsks call bound s nodes lookup
   ordered-asks =
       let I = A .taken in
@@ -65,10 +63,10 @@ module _ {asked call : Call} (O : OrderedAs asked call) {bound : ℕ} {s : Store
         bound-low = A .bound-low;
       }
 
-  pub ran-ordered : (cache : List ℕ) {r : Placed} {nodes′ lookup′ cache′ : List ℕ} → Ran (of call) s nodes lookup cache r nodes′ lookup′ cache′ → Ran (of asked) s nodes lookup cache r nodes′ lookup′ cache′
+  pub ran-ordered : (cache : List ℕ) {r : Reached} {nodes′ lookup′ cache′ : List ℕ} → Ran 0 (of call) s nodes lookup cache r nodes′ lookup′ cache′ → Ran 0 (of asked) s nodes lookup cache r nodes′ lookup′ cache′
   ran-ordered cache R =
-      ran-same s nodes lookup cache
-      (λ B H. sym (O .named-is B (within H (asked .p) (omega (arith, A .taken .first)) .ordered) (within H (asked .q) (omega (arith, A .taken .second)) .ordered))) R
+      ran-same 0 s nodes lookup cache
+      (λ l B H. sym (O .named-is B (within H (asked .p) (omega (arith, A .taken .first)) .ordered) (within H (asked .q) (omega (arith, A .taken .second)) .ordered))) R
 
   -- no terminal case
   pub ordered-step : {x : Recalled} → x ≡ Miss → ShortcutOf asked x → FamilyStepAsks call bound s nodes lookup

@@ -15,7 +15,7 @@ use Rattle.store.specs.Words.{topAt}
 use Rattle.store.specs.Tests.{itemTest, testsOf}
 use Rattle.store.specs.Operations.{named}
 use Rattle.store.specs.Sound.{Sound}
-use Rattle.store.specs.Inner.{Ran}
+use Rattle.store.specs.Inner.{fillIn, reachedBy, Ran}
 use Rattle.store_undo.specs.Inner.{Finished}
 use Rattle.store.proofs.Held.{top-at, within}
 use Rattle.store.proofs.Decoding.{sound-holds}
@@ -23,24 +23,24 @@ use Rattle.store.proofs.Calls.{call-unsound}
 use Rattle.store_undo.proofs.Done.{call-done}
 use Rattle.op_promise.specs.Promise.{operationRefusal, OperationCall}
 
-module _ (op n p q : ℕ) where
-  pub item-number : op < 4 → operationRefusal op n p q ≡ testsOf n p 0 (itemTest q) 0 0
+module _ (op limit n p q : ℕ) where
+  pub item-number : op < 4 → operationRefusal op limit n p q ≡ testsOf n p 0 (itemTest limit q) 0 0
   unfolding operationRefusal
   item-number l = rw (lt-ltb op 4 l)
 
-  pub family-number : 4 ≤ op → operationRefusal op n p q ≡ testsOf n p q 0 0 0
+  pub family-number : 4 ≤ op → operationRefusal op limit n p q ≡ testsOf n p q 0 0 0
   unfolding operationRefusal
   family-number l = rw (le-ltb op 4 l)
 
 -- a top above the limit is in no sound store
-pub sound-top : {s : Store} {nodes lookup cache : List ℕ} (p : ℕ) → p ≤ s .count + 1 → Sound s nodes lookup cache → topAt nodes p ≤ limit
+pub sound-top : {s : Store} {nodes lookup cache : List ℕ} (p : ℕ) → p ≤ s .count + 1 → Sound s nodes lookup cache → topAt nodes p ≤ s .limit
 sound-top p l S = let H = sound-holds S in omega (arith, top-at H p (omega arith), within H p (omega arith) .low)
 
 module _ (op p q : ℕ) (s : Store) (nodes lookup : List ℕ) (fits : fitting s (length nodes) (length lookup) ≡ true) (cache : List ℕ) where
-  pub refused-top : p ≤ s .count + 1 → limit < topAt nodes p → (r : Placed) → r .store ≡ s → OperationCall op p q s nodes lookup cache r nodes lookup cache
+  pub refused-top : p ≤ s .count + 1 → s .limit < topAt nodes p → (r : Placed) → r .store ≡ s → OperationCall op p q s nodes lookup cache r nodes lookup cache
   refused-top lp l r es = call-unsound s nodes lookup cache _ _ r fits (λ S. omega (arith, sound-top p lp S)) es
 
   -- a call that ran to its end
-  pub done : operationRefusal op (s .count) p q ≡ 0 → {m : Placed} {nodes₁ lookup₁ cache₁ : List ℕ} → Ran (λ B. named op B p q) s nodes lookup cache m nodes₁ lookup₁ cache₁
-      → {r : Placed} {nodes₂ lookup₂ cache₂ : List ℕ} → Finished m (s .count) nodes₁ lookup₁ cache₁ r nodes₂ lookup₂ cache₂ → OperationCall op p q s nodes lookup cache r nodes₂ lookup₂ cache₂
-  done none R E = rw none (call-done s nodes lookup cache (λ B. named op B p q) fits R E)
+  pub done : operationRefusal op (s .limit) (s .count) p q ≡ 0 → {least : ℕ} → least ≤ s .limit → {m : Placed} {nodes₁ lookup₁ cache₁ : List ℕ}
+      → Ran least (λ B. named op B p q) (fillIn s) nodes lookup cache (reachedBy m) nodes₁ lookup₁ cache₁ → m .store .limit ≡ s .limit → {r : Placed} {nodes₂ lookup₂ cache₂ : List ℕ} → Finished m (s .count) nodes₁ lookup₁ cache₁ r nodes₂ lookup₂ cache₂ → OperationCall op p q s nodes lookup cache r nodes₂ lookup₂ cache₂
+  done none low R el E = rw none (call-done s nodes lookup cache (λ B. named op B p q) fits low R el E)

@@ -8,10 +8,8 @@ use mathlib.Core.List.{List}
 use native.Mathlib.Omega.{arith}
 use Rattle.family.specs.Family.{Family}
 use Rattle.family.proofs.Placing.{place-grown}
-use Rattle.store.specs.declared.record.Store.{Store}
-use Rattle.store.specs.declared.record.Placed.{Placed}
-use Rattle.store.specs.Coded.{damagedNumber, placedAs}
-use Rattle.store.specs.Inner.{Roomy, Holds, gave, Ran}
+use Rattle.store.specs.Coded.{damagedNumber, reachedAs}
+use Rattle.store.specs.Inner.{Fill, Reached, Roomy, Holds, gave, Ran}
 use Rattle.store.proofs.Answers.{handle-is}
 use Rattle.store.proofs.Codes.{coded-held}
 use Rattle.store.proofs.Growing.{kept-self}
@@ -24,25 +22,25 @@ use Rattle.op_cache.proofs.Remembering.{recalled-within, recalled-true}
 use Rattle.store.proofs.Plain.{place-at, plain-broken, plain-ran}
 use Rattle.op_step.proofs.Steps.{of}
 
-module _ (s : Store) (nodes lookup cache : List ℕ) where
+module _ (least : ℕ) (s : Fill) (nodes lookup cache : List ℕ) where
   -- calls that name the same family
-  pub ran-same : {F G : List Family → Family} {r : Placed} {nodes′ lookup′ cache′ : List ℕ} → ((limit : ℕ) (B : List Family) → Holds limit B (s .count) nodes lookup → G B ≡ F B)
-      → Ran F s nodes lookup cache r nodes′ lookup′ cache′ → Ran G s nodes lookup cache r nodes′ lookup′ cache′
+  pub ran-same : {F G : List Family → Family} {r : Reached} {nodes′ lookup′ cache′ : List ℕ} → ((limit : ℕ) (B : List Family) → Holds limit B (s .count) nodes lookup → G B ≡ F B)
+      → Ran least F s nodes lookup cache r nodes′ lookup′ cache′ → Ran least G s nodes lookup cache r nodes′ lookup′ cache′
   ran-same e R =
       record {
         kept = R .kept;
         handle = R .handle;
         long-cache = R .long-cache;
         rest = R .rest;
-        sound = λ B H t. rw (e B H) (R .sound B H t);
-        cached = λ B H t h d. rw (e B H) (R .cached B H t h d);
+        sound = λ B l H t. rw (e _ B H) (R .sound B l H t);
+        cached = λ B l H t h d. rw (e _ B H) (R .cached B l H t h d);
       }
 
   module _ (roomy : Roomy s nodes lookup) (call : Call) where
-    pub ran-broken : ((limit : ℕ) (B : List Family) → Holds limit B (s .count) nodes lookup → ⊥) → Ran (of call) s nodes lookup cache (placedAs (s .capacity) (s .count) damagedNumber) nodes lookup cache
-    ran-broken f = plain-ran (of call) s nodes lookup cache (plain-broken (of call) s nodes lookup roomy f)
+    pub ran-broken : ((limit : ℕ) (B : List Family) → Holds limit B (s .count) nodes lookup → ⊥) → Ran least (of call) s nodes lookup cache (reachedAs (s .capacity) (s .count) damagedNumber) nodes lookup cache
+    ran-broken f = plain-ran least (of call) s nodes lookup cache (plain-broken least (of call) s nodes lookup roomy f)
 
-    pub ran-recalled : (h : ℕ) {x : Recalled} → 1 ≤ call .op → x ≡ Hit h → RecallOf cache (s .count) call x → Ran (of call) s nodes lookup cache (placedAs (s .capacity) (s .count) h) nodes lookup cache
+    pub ran-recalled : (h : ℕ) {x : Recalled} → 1 ≤ call .op → x ≡ Hit h → RecallOf cache (s .count) call x → Ran least (of call) s nodes lookup cache (reachedAs (s .capacity) (s .count) h) nodes lookup cache
     ran-recalled h l e C =
         let ea = coded-held h roomy (roomy .within) (recalled-within e C) in
         record {
@@ -50,8 +48,8 @@ module _ (s : Store) (nodes lookup cache : List ℕ) where
           handle = λ k d. omega (arith, handle-is (sym ea ∙ d), recalled-within e C);
           long-cache = refl;
           rest = λ k m. refl;
-          sound = λ B H t.
+          sound = λ B m H t.
               rw (ea, ← recalled-true t l e C .means, place-at H h (omega (arith, recalled-within e C)))
               (gave {h = h} (record { holds = H; within = omega (arith, recalled-within e C); means = refl }));
-          cached = λ B H t k d. true-grown (place-grown B (of call B)) t;
+          cached = λ B m H t k d. true-grown (place-grown B (of call B)) t;
         }

@@ -1,8 +1,10 @@
 -- `of_families` tests in document 01's order, then runs the recursion and ends as every placing call does.
 -- Each way out is one law of refusing, or of a call that ran to its end.
-use mathlib.Core.Path.{_≡_, sym, _∙_}
+use mathlib.Core.Path.{_≡_, refl, sym, ap, _∙_}
 use native.Mathlib.Omega.{arith}
 use Prim.Native.Nat.{_+_}
+use Rattle.family.specs.Family.{largestItem}
+use Rattle.store.specs.Inner.{fillIn, reachedBy}
 use Rattle.store.proofs.Growing.{kept-roomy}
 use Rattle.store.proofs.Testing.{Tested, tested-clear, placing-refused}
 use Rattle.store_undo.proofs.Finishing.{finished-gave}
@@ -27,12 +29,12 @@ passed c =
     let a = (start-of c) .args in
     tested-clear (a .nodes .now) (a .lookup .now) (at-tested .tested .ensures) (c .enum-told .given .1)
 
-none : (c : tie.After-enum-told) → let a = (start-of c) .args in operationRefusal (a .op) (a .store .count) (a .p) (a .q) ≡ 0
+none : (c : tie.After-enum-told) → let a = (start-of c) .args in operationRefusal (a .op) (a .store .limit) (a .store .count) (a .p) (a .q) ≡ 0
 none c =
     let a = (start-of c) .args in
-    family-number (a .op) (a .store .count) (a .p) (a .q) ((start-of c) .pre .some) ∙ passed c .number-is
+    family-number (a .op) (a .store .limit) (a .store .count) (a .p) (a .q) ((start-of c) .pre .some) ∙ passed c .number-is
 
-asks : (c : tie.After-enum-told) → let a = (start-of c) .args in ApplyAsks (callOf (a .op) (a .p) (a .q)) (limit + 1) (a .store) (a .nodes .now) (a .lookup .now)
+asks : (c : tie.After-enum-told) → let a = (start-of c) .args in ApplyAsks (callOf (a .op) (a .p) (a .q)) (largestItem + 1) (fillIn (a .store)) (a .nodes .now) (a .lookup .now)
 asks c =
     let P = passed c in
     record {
@@ -57,7 +59,7 @@ returns c =
     let at-tested : tie.After-tested = search in
     let at-start : tie.Start = search in
     let a = at-start .args in
-    let number = family-number (a .op) (a .store .count) (a .p) (a .q) (at-start .pre .some) in
+    let number = family-number (a .op) (a .store .limit) (a .store .count) (a .p) (a .q) (at-start .pre .some) in
     placing-refused (a .nodes .now) (a .lookup .now) (at-tested .tested .ensures) (at-found .found .given .1) (λ e. omega arith)
     (λ d. d ∙ sym number) _ _ (c .refused .result) (c .refused .ensures .0) (c .refused .ensures .1)
 
@@ -79,8 +81,9 @@ returns-2 c =
     let at-shortcut : tie.After-shortcut = search in
     let at-told : tie.After-enum-told = search in
     let a = (start-of at-told) .args in
-    done _ _ _ _ _ _ (passed at-told .fits) _ (none at-told)
-    (ran-terminal (asks at-told) (a .cache .now) (at-handle .handle .given .1) (at-shortcut .shortcut .ensures) (c .placed .result) (c .placed .ensures .0) (c .placed .ensures .1))
+    done _ _ _ _ _ _ (passed at-told .fits) _ (none at-told) (omega arith)
+    (ran-terminal (asks at-told) (a .cache .now) (at-handle .handle .given .1) (at-shortcut .shortcut .ensures) (reachedBy (c .placed .result)) (ap fillIn (c .placed .ensures .0)) (c .placed .ensures .1))
+    (ap (λ s. s .limit) (c .placed .ensures .0))
     (finished-gave (c .placed .result) (a .store .count) (a .nodes .now) (a .lookup .now) (a .cache .now) _ (c .placed .ensures .1))
 
 enum-told-2 : tie.Need-enum-told-2
@@ -120,7 +123,7 @@ returns-3 c =
     let at-ordered : tie.After-ordered = search in
     let at-told : tie.After-enum-told = search in
     let a = (start-of at-told) .args in
-    done _ _ _ _ _ _ (passed at-told .fits) _ (none at-told) (ran-ordered (at-ordered .ordered .ensures) (asks at-told) (a .cache .now) (at-expand .expand .ensures)) (at-finish .finish-coded .ensures)
+    done _ _ _ _ _ _ (passed at-told .fits) _ (none at-told) (omega arith) (ran-ordered (at-ordered .ordered .ensures) (asks at-told) (a .cache .now) (at-expand .expand .ensures)) refl (at-finish .finish-coded .ensures)
 
 pub of-families-spec : {M : Type 1} → statement M
 of-families-spec =

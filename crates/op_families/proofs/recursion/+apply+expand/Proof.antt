@@ -3,7 +3,7 @@
 -- Every way out is a terminal case, a recalled result, or one step over the two results below.
 use Prim.Native.Nat.{ℕ, _+_, _*_, _<_}
 use native.Mathlib.Omega.{arith}
-use Rattle.store.specs.Coded.{storeOf}
+use Rattle.store.specs.Inner.{fillOf}
 use Rattle.store.proofs.Codes.{coded-handle, coded-refused}
 use Rattle.store.proofs.Growing.{kept-added, kept-roomy}
 use Rattle.store_sides.proofs.Splitting.{low-added}
@@ -99,7 +99,7 @@ expand-returns t c =
     let at-start : expand-lts.Start (expand-claims t) (expand-at t) expand.Post = search in
     let a = at-start .args in
     let p = at-start .pre in
-    ran-recalled (storeOf (a .capacity) (a .count .now)) (a .nodes .now) (a .lookup .now) (a .cache .now) (p .1 .asks .taken .roomy) (callOf (a .op) (a .p) (a .q)) _ (omega (arith, p .1 .asks .taken .operation .some)) (at-handle .handle .given .1) (at-recall .recall .ensures)
+    ran-recalled 0 (fillOf (a .capacity) (a .count .now)) (a .nodes .now) (a .lookup .now) (a .cache .now) (p .1 .asks .taken .roomy) (callOf (a .op) (a .p) (a .q)) _ (omega (arith, p .1 .asks .taken .operation .some)) (at-handle .handle .given .1) (at-recall .recall .ensures)
 
 expand-fork-at-requires : (t : ℕ) → expand-lts.Need-fork-at-requires (expand-claims t) (expand-at t) expand.Post
 expand-fork-at-requires t c κs =
@@ -123,7 +123,7 @@ expand-returns-2 t c =
     let at-start : expand-lts.Start (expand-claims t) (expand-at t) expand.Post = search in
     let a = at-start .args in
     let p = at-start .pre in
-    ran-broken (storeOf (a .capacity) (a .count .now)) (a .nodes .now) (a .lookup .now) (a .cache .now) (p .1 .asks .taken .roomy) (callOf (a .op) (a .p) (a .q)) (λ B H. fork-broken (at-told .enum-told2 .given .1) (at-fork-at .fork-at .ensures) B (a .lookup .now) H)
+    ran-broken 0 (fillOf (a .capacity) (a .count .now)) (a .nodes .now) (a .lookup .now) (a .cache .now) (p .1 .asks .taken .roomy) (callOf (a .op) (a .p) (a .q)) (λ l B H. fork-broken (at-told .enum-told2 .given .1) (at-fork-at .fork-at .ensures) l B (a .lookup .now) H)
 
 expand-apply-requires : (t : ℕ) → expand-lts.Need-apply-requires (expand-claims t) (expand-at t) expand.Post
 expand-apply-requires t c κs =
@@ -150,7 +150,7 @@ expand-returns-3 t c =
     let p = at-start .pre in
     let K = fork-two (at-level .level .given .1) ((fork-of t at-level) .fork-at .ensures) in
     let R = coded-refused _ (c .if1 .taken) in
-    step-first (callOf (a .op) (a .p) (a .q)) _ _ _ (storeOf (a .capacity) (a .count .now)) (a .nodes .now) (a .lookup .now) (a .cache .now) (split-families (p .1 .asks) K) (at-apply .apply .ensures) (R .0) (R .1)
+    step-first (callOf (a .op) (a .p) (a .q)) _ _ _ (fillOf (a .capacity) (a .count .now)) (a .nodes .now) (a .lookup .now) (a .cache .now) (split-families (p .1 .asks) K) (at-apply .apply .ensures) (R .0) (R .1)
 
 expand-apply-requires-2 : (t : ℕ) → expand-lts.Need-apply-requires-2 (expand-claims t) (expand-at t) expand.Post
 expand-apply-requires-2 t c κs =
@@ -186,7 +186,7 @@ expand-returns-4 t c =
     let p = at-start .pre in
     let K = fork-two (at-level .level .given .1) ((fork-of t at-level) .fork-at .ensures) in
     let R = coded-refused _ (c .if2 .taken) in
-    step-second (callOf (a .op) (a .p) (a .q)) _ _ _ (storeOf (a .capacity) (a .count .now)) (a .nodes .now) (a .lookup .now) (a .cache .now) (split-families (p .1 .asks) K) (at-apply .apply .ensures) _ (coded-handle _ (at-if1 .if1 .left)) (at-apply2 .apply2 .ensures) (R .0) (R .1)
+    step-second (callOf (a .op) (a .p) (a .q)) _ _ _ (fillOf (a .capacity) (a .count .now)) (a .nodes .now) (a .lookup .now) (a .cache .now) (split-families (p .1 .asks) K) (at-apply .apply .ensures) _ (coded-handle _ (at-if1 .if1 .left)) (at-apply2 .apply2 .ensures) (R .0) (R .1)
 
 expand-node-of-requires : (t : ℕ) → expand-lts.Need-node-of-requires (expand-claims t) (expand-at t) expand.Post
 expand-node-of-requires t c κs =
@@ -215,7 +215,7 @@ expand-returns-5 t c =
     let a = at-start .args in
     let p = at-start .pre in
     let K = fork-two (at-level .level .given .1) ((fork-of t at-level) .fork-at .ensures) in
-    step-done (callOf (a .op) (a .p) (a .q)) _ _ _ (storeOf (a .capacity) (a .count .now)) (a .nodes .now) (a .lookup .now) (a .cache .now) (split-families (p .1 .asks) K) (at-apply .apply .ensures) _ (coded-handle _ (at-if1 .if1 .left)) (at-apply2 .apply2 .ensures) _ (coded-handle _ (at-if2 .if2 .left)) (at-node-of .node-of .ensures) (at-keep .keep .ensures)
+    step-done (callOf (a .op) (a .p) (a .q)) _ _ _ (fillOf (a .capacity) (a .count .now)) (a .nodes .now) (a .lookup .now) (a .cache .now) (split-families (p .1 .asks) K) (at-apply .apply .ensures) _ (coded-handle _ (at-if1 .if1 .left)) (at-apply2 .apply2 .ensures) _ (coded-handle _ (at-if2 .if2 .left)) (at-node-of .node-of .ensures) (at-keep .keep .ensures)
 
 pub +apply+expand-spec : {M : Type 1} → statement M
 +apply+expand-spec = close μ-apply μ-expand (λ t. apply-lts.spec (apply-claims t)

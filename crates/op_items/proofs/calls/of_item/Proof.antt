@@ -1,8 +1,11 @@
 -- `of_item` tests in document 01's order, then runs the recursion and ends as every placing call does.
 -- Each way out is one law of refusing, or of a call that ran to its end.
-use mathlib.Core.Path.{_≡_, sym, ap, _∙_}
+use Prim.Native.Nat.{_≤_}
+use mathlib.Core.Path.{_≡_, refl, sym, ap, _∙_}
 use native.Mathlib.Omega.{arith}
 use Rattle.store.specs.Tests.{testNumber, testsOf}
+use Rattle.store.specs.Inner.{fillIn}
+use Rattle.store.proofs.Fitting.{fits-true}
 use Rattle.store.proofs.Growing.{kept-roomy}
 use Rattle.store.proofs.Plain.{plain-ran}
 use Rattle.store.proofs.Testing.{Tested, item-passed, item-not-five, tested-clear, placing-refused}
@@ -28,11 +31,17 @@ passed c =
     let a = (start-of c) .args in
     tested-clear (a .nodes .now) (a .lookup .now) (at-tested .tested .ensures) (c .enum-told .given .1)
 
-none : (c : tie.After-enum-told) → let a = (start-of c) .args in operationRefusal (a .op) (a .store .count) (a .p) (a .item) ≡ 0
+none : (c : tie.After-enum-told) → let a = (start-of c) .args in operationRefusal (a .op) (a .store .limit) (a .store .count) (a .p) (a .item) ≡ 0
 none c =
     let a = (start-of c) .args in
-    item-number (a .op) (a .store .count) (a .p) (a .item) (omega (arith, (start-of c) .pre .low))
+    item-number (a .op) (a .store .limit) (a .store .count) (a .p) (a .item) (omega (arith, (start-of c) .pre .low))
     ∙ ap (λ o. testsOf (a .store .count) (a .p) 0 o 0 0) (sym ((item-of c) .item-test .ensures)) ∙ passed c .number-is
+
+-- the item is one of the store's
+an-item : (c : tie.After-enum-told) → let a = (start-of c) .args in (1 ≤ a .item) × (a .item ≤ a .store .limit)
+an-item c =
+    let a = (start-of c) .args in
+    item-passed (a .store .limit) (a .item) (sym ((item-of c) .item-test .ensures) ∙ passed c .passed .none)
 
 -- the level is known to be low
 abbrev told-of : tie.Else1 → tie.After-enum-told
@@ -41,13 +50,14 @@ told-of c = search
 abbrev top-of : tie.Else1 → tie.After-top-of
 top-of c = search
 
-asks : (c : tie.Else1) → let a = (start-of (told-of c)) .args in RestrictAsks (callOf (a .op) (a .p) (a .item)) ((top-of c) .top-of .result) (a .store) (a .nodes .now) (a .lookup .now)
+asks : (c : tie.Else1) → let a = (start-of (told-of c)) .args in RestrictAsks (callOf (a .op) (a .p) (a .item)) ((top-of c) .top-of .result) (fillIn (a .store)) (a .nodes .now) (a .lookup .now)
 asks c =
     let a = (start-of (told-of c)) .args in
     let P = passed (told-of c) in
-    let item = item-passed (a .item) (sym ((item-of (told-of c)) .item-test .ensures) ∙ P .passed .none) in
+    let item = an-item (told-of c) in
+    let low = fits-true (a .store) _ _ (P .fits) .limit-is .1 in
     record {
-      taken = record { roomy = P .roomy; operation = (start-of (told-of c)) .pre; held = P .passed .first; item-some = item .0; item-low = item .1 };
+      taken = record { roomy = P .roomy; operation = (start-of (told-of c)) .pre; held = P .passed .first; item-some = item .0; item-low = omega (arith, item .1) };
       level-is = (top-of c) .top-of .ensures;
       level-low = omega (arith, c .if1 .left);
     }
@@ -72,8 +82,8 @@ returns c =
     let at-start : tie.Start = search in
     let a = at-start .args in
     let own = at-item .item-test .ensures in
-    let number = item-number (a .op) (a .store .count) (a .p) (a .item) (omega (arith, at-start .pre .low)) in
-    placing-refused (a .nodes .now) (a .lookup .now) (at-tested .tested .ensures) (at-found .found .given .1) (item-not-five (a .item) own)
+    let number = item-number (a .op) (a .store .limit) (a .store .count) (a .p) (a .item) (omega (arith, at-start .pre .low)) in
+    placing-refused (a .nodes .now) (a .lookup .now) (at-tested .tested .ensures) (at-found .found .given .1) (item-not-five (a .store .limit) (a .item) own)
     (λ d. d ∙ ap (λ o. testsOf (a .store .count) (a .p) 0 o 0 0) own ∙ sym number) _ _ (c .refused .result) (c .refused .ensures .0) (c .refused .ensures .1)
 
 enum-told : tie.Need-enum-told
@@ -128,7 +138,7 @@ returns-3 c =
     let at-if1 : tie.Else1 = search in
     let at-told = told-of at-if1 in
     let a = (start-of at-told) .args in
-    done _ _ _ _ _ _ (passed at-told .fits) _ (none at-told) (plain-ran _ (a .store) (a .nodes .now) (a .lookup .now) (a .cache .now) (at-leaf .leaf .ensures)) (at-finish .finish-coded .ensures)
+    done _ _ _ _ _ _ (passed at-told .fits) _ (none at-told) (an-item at-told .1) (plain-ran _ _ (fillIn (a .store)) (a .nodes .now) (a .lookup .now) (a .cache .now) (at-leaf .leaf .ensures)) refl (at-finish .finish-coded .ensures)
 
 expand-requires : tie.Need-expand-requires
 expand-requires c κs =
@@ -158,7 +168,7 @@ returns-4 c =
     let at-expand : tie.After-expand = search in
     let at-if1 : tie.Else1 = search in
     let at-told = told-of at-if1 in
-    done _ _ _ _ _ _ (passed at-told .fits) _ (none at-told) (at-expand .expand .ensures) (at-finish .finish-coded2 .ensures)
+    done _ _ _ _ _ _ (passed at-told .fits) _ (none at-told) (an-item at-told .1) (at-expand .expand .ensures) refl (at-finish .finish-coded2 .ensures)
 
 pub of-item-spec : {M : Type 1} → statement M
 of-item-spec =

@@ -3,7 +3,7 @@
 -- Every way out is one at or above the top, a recalled result, or one step over the two results below.
 use Prim.Native.Nat.{ℕ, _+_, _*_, _<_}
 use native.Mathlib.Omega.{arith}
-use Rattle.store.specs.Coded.{storeOf}
+use Rattle.store.specs.Inner.{fillOf}
 use Rattle.store.proofs.Codes.{coded-handle, coded-refused}
 use Rattle.store.proofs.Growing.{kept-top, kept-roomy}
 use Rattle.store.proofs.Plain.{plain-ran}
@@ -75,7 +75,7 @@ expand-returns t c =
     let at-start : expand-lts.Start (expand-claims t) (expand-at t) expand.Post = search in
     let a = at-start .args in
     let p = at-start .pre in
-    ran-recalled (storeOf (a .capacity) (a .count .now)) (a .nodes .now) (a .lookup .now) (a .cache .now) (p .1 .asks .taken .roomy) (callOf (a .op) (a .p) (a .item)) _ (omega (arith, p .1 .asks .taken .operation .some)) (at-handle .handle .given .1) (at-recall .recall .ensures)
+    ran-recalled (a .item) (fillOf (a .capacity) (a .count .now)) (a .nodes .now) (a .lookup .now) (a .cache .now) (p .1 .asks .taken .roomy) (callOf (a .op) (a .p) (a .item)) _ (omega (arith, p .1 .asks .taken .operation .some)) (at-handle .handle .given .1) (at-recall .recall .ensures)
 
 expand-sides-at-requires : (t : ℕ) → expand-lts.Need-sides-at-requires (expand-claims t) (expand-at t) expand.Post
 expand-sides-at-requires t c κs =
@@ -97,7 +97,7 @@ expand-returns-2 t c =
     let at-start : expand-lts.Start (expand-claims t) (expand-at t) expand.Post = search in
     let a = at-start .args in
     let p = at-start .pre in
-    ran-broken (storeOf (a .capacity) (a .count .now)) (a .nodes .now) (a .lookup .now) (a .cache .now) (p .1 .asks .taken .roomy) (callOf (a .op) (a .p) (a .item)) (λ B H. sides-broken (at-told .enum-told2 .given .1) (at-sides-at .sides-at .ensures) B (a .lookup .now) H)
+    ran-broken (a .item) (fillOf (a .capacity) (a .count .now)) (a .nodes .now) (a .lookup .now) (a .cache .now) (p .1 .asks .taken .roomy) (callOf (a .op) (a .p) (a .item)) (λ l B H. sides-broken (at-told .enum-told2 .given .1) (at-sides-at .sides-at .ensures) l B (a .lookup .now) H)
 
 expand-restrict-requires : (t : ℕ) → expand-lts.Need-restrict-requires (expand-claims t) (expand-at t) expand.Post
 expand-restrict-requires t c κs =
@@ -117,7 +117,7 @@ expand-returns-3 t c =
     let p = at-start .pre in
     let K = sides-two (at-p0 .p0 .given .1) ((split-of t at-p0) .sides-at .ensures) in
     let R = coded-refused _ (c .if1 .taken) in
-    step-first (callOf (a .op) (a .p) (a .item)) _ _ (a .level) (storeOf (a .capacity) (a .count .now)) (a .nodes .now) (a .lookup .now) (a .cache .now) (split-item (p .1) K) (at-restrict .restrict .ensures) (R .0) (R .1)
+    step-first (callOf (a .op) (a .p) (a .item)) _ _ (a .level) (fillOf (a .capacity) (a .count .now)) (a .nodes .now) (a .lookup .now) (a .cache .now) (split-item (p .1) K) (at-restrict .restrict .ensures) (R .0) (R .1)
 
 expand-restrict-requires-2 : (t : ℕ) → expand-lts.Need-restrict-requires-2 (expand-claims t) (expand-at t) expand.Post
 expand-restrict-requires-2 t c κs =
@@ -153,7 +153,7 @@ expand-returns-4 t c =
     let p = at-start .pre in
     let K = sides-two (at-p0 .p0 .given .1) ((split-of t at-p0) .sides-at .ensures) in
     let R = coded-refused _ (c .if2 .taken) in
-    step-second (callOf (a .op) (a .p) (a .item)) _ _ (a .level) (storeOf (a .capacity) (a .count .now)) (a .nodes .now) (a .lookup .now) (a .cache .now) (split-item (p .1) K) (at-restrict .restrict .ensures) _ (coded-handle _ (at-if1 .if1 .left)) (at-restrict2 .restrict2 .ensures) (R .0) (R .1)
+    step-second (callOf (a .op) (a .p) (a .item)) _ _ (a .level) (fillOf (a .capacity) (a .count .now)) (a .nodes .now) (a .lookup .now) (a .cache .now) (split-item (p .1) K) (at-restrict .restrict .ensures) _ (coded-handle _ (at-if1 .if1 .left)) (at-restrict2 .restrict2 .ensures) (R .0) (R .1)
 
 expand-node-of-requires : (t : ℕ) → expand-lts.Need-node-of-requires (expand-claims t) (expand-at t) expand.Post
 expand-node-of-requires t c κs =
@@ -180,7 +180,7 @@ expand-returns-5 t c =
     let a = at-start .args in
     let p = at-start .pre in
     let K = sides-two (at-p0 .p0 .given .1) ((split-of t at-p0) .sides-at .ensures) in
-    step-done (callOf (a .op) (a .p) (a .item)) _ _ (a .level) (storeOf (a .capacity) (a .count .now)) (a .nodes .now) (a .lookup .now) (a .cache .now) (split-item (p .1) K) (at-restrict .restrict .ensures) _ (coded-handle _ (at-if1 .if1 .left)) (at-restrict2 .restrict2 .ensures) _ (coded-handle _ (at-if2 .if2 .left)) (at-node-of .node-of .ensures) (at-keep .keep .ensures)
+    step-done (callOf (a .op) (a .p) (a .item)) _ _ (a .level) (fillOf (a .capacity) (a .count .now)) (a .nodes .now) (a .lookup .now) (a .cache .now) (split-item (p .1) K) (at-restrict .restrict .ensures) _ (coded-handle _ (at-if1 .if1 .left)) (at-restrict2 .restrict2 .ensures) _ (coded-handle _ (at-if2 .if2 .left)) (at-node-of .node-of .ensures) (at-keep .keep .ensures)
 
 restrict-returns : (t : ℕ) → restrict-lts.Need-returns (restrict-claims t) (restrict-at t) restrict.Post
 restrict-returns t c =
@@ -206,7 +206,7 @@ restrict-returns-3 t c =
     let at-leaf : restrict-lts.After-leaf (restrict-claims t) (restrict-at t) restrict.Post = search in
     let at-start : restrict-lts.Start (restrict-claims t) (restrict-at t) restrict.Post = search in
     let a = at-start .args in
-    plain-ran _ (storeOf (a .capacity) (a .count .now)) (a .nodes .now) (a .lookup .now) (a .cache .now) (at-leaf .leaf .ensures)
+    plain-ran (a .item) _ (fillOf (a .capacity) (a .count .now)) (a .nodes .now) (a .lookup .now) (a .cache .now) (at-leaf .leaf .ensures)
 
 restrict-expand-requires : (t : ℕ) → restrict-lts.Need-expand-requires (restrict-claims t) (restrict-at t) restrict.Post
 restrict-expand-requires t c κs =

@@ -2,7 +2,7 @@
 -- swapped.
 -- Each way out is one law of restricting; where a split fails, the words hold no book.
 use native.Mathlib.Omega.{arith}
-use Rattle.store.specs.Coded.{storeOf}
+use Rattle.store.specs.Inner.{fillOf}
 use Rattle.store_sides.proofs.Answers.{halves-two, halves-none}
 use Rattle.store.proofs.Plain.{plain-broken}
 use Rattle.op_cache.specs.Inner.{callOf}
@@ -37,8 +37,8 @@ returns c =
     let at-start : tie.Start = search in
     let a = at-start .args in
     let p = at-start .pre in
-    plain-broken _ (storeOf (a .capacity) (a .count .now)) (a .nodes .now) (a .lookup .now) (p .taken .roomy)
-    (λ B H. halves-none (at-told .enum-told .given .1) (at-cofactors .cofactors-at .ensures) B (a .lookup .now) H)
+    plain-broken _ _ (fillOf (a .capacity) (a .count .now)) (a .nodes .now) (a .lookup .now) (p .taken .roomy)
+    (λ l B H. halves-none (at-told .enum-told .given .1) (at-cofactors .cofactors-at .ensures) l B (a .lookup .now) H)
 
 same-length-2 : tie.Need-same-length-2
 same-length-2 c = search needs
@@ -49,7 +49,7 @@ returns-2 c =
     let at-start = start-of at-zero in
     let a = at-start .args in
     let p = at-start .pre in
-    leaf-one (callOf (a .op) (a .p) (a .item)) (storeOf (a .capacity) (a .count .now)) (a .nodes .now) (a .lookup .now) (p .taken) (omega (arith, p .level-is, p .not-below)) (halves-two (at-zero .zero .given .1) ((split-of at-zero) .cofactors-at .ensures)) (c .if1 .taken)
+    leaf-one (callOf (a .op) (a .p) (a .item)) (fillOf (a .capacity) (a .count .now)) (a .nodes .now) (a .lookup .now) (p .taken) (omega (arith, p .level-is, p .not-below)) (halves-two (at-zero .zero .given .1) ((split-of at-zero) .cofactors-at .ensures)) (c .if1 .taken)
 
 same-length-3 : tie.Need-same-length-3
 same-length-3 c = search needs
@@ -60,7 +60,7 @@ returns-3 c =
     let at-start = start-of at-zero in
     let a = at-start .args in
     let p = at-start .pre in
-    leaf-zero (callOf (a .op) (a .p) (a .item)) (storeOf (a .capacity) (a .count .now)) (a .nodes .now) (a .lookup .now) (p .taken) (omega (arith, p .level-is, p .not-below)) (halves-two (at-zero .zero .given .1) ((split-of at-zero) .cofactors-at .ensures)) (c .if2 .taken)
+    leaf-zero (callOf (a .op) (a .p) (a .item)) (fillOf (a .capacity) (a .count .now)) (a .nodes .now) (a .lookup .now) (p .taken) (omega (arith, p .level-is, p .not-below)) (halves-two (at-zero .zero .given .1) ((split-of at-zero) .cofactors-at .ensures)) (c .if2 .taken)
 
 node-of-requires : tie.Need-node-of-requires
 node-of-requires c κs =
@@ -85,7 +85,7 @@ returns-4 c =
     let at-start = start-of at-zero in
     let a = at-start .args in
     let p = at-start .pre in
-    leaf-node (callOf (a .op) (a .p) (a .item)) (storeOf (a .capacity) (a .count .now)) (a .nodes .now) (a .lookup .now) (p .taken) (omega (arith, p .level-is, p .not-below)) (halves-two (at-zero .zero .given .1) ((split-of at-zero) .cofactors-at .ensures)) _ (at-if1 .if1 .left) (at-if2 .if2 .left) (at-node-of .node-of .ensures)
+    leaf-node (callOf (a .op) (a .p) (a .item)) (fillOf (a .capacity) (a .count .now)) (a .nodes .now) (a .lookup .now) (p .taken) (omega (arith, p .level-is, p .not-below)) (halves-two (at-zero .zero .given .1) ((split-of at-zero) .cofactors-at .ensures)) _ (at-if1 .if1 .left) (at-if2 .if2 .left) (at-node-of .node-of .ensures)
 
 pub leaf-spec : {M : Type 1} → statement M
 leaf-spec =
