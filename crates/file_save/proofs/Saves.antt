@@ -10,7 +10,7 @@ use lib.Dec.{eqb}
 use lib.ListN.{length, getD, set, drop}
 use lib.Seq.{sets}
 use borrow.Author.Tests.{ne-eqb}
-use Rattle.family.specs.Family.{Family, empty, base, node, largestItem}
+use Rattle.family.specs.Family.{Family, empty, base, node}
 use Rattle.family.specs.Book.{start, at, place}
 use Rattle.family.specs.Record.{bytesOf}
 use Rattle.family.specs.File.{triplesOf, recordsBytes, fileOfBook, fileOf}
@@ -62,7 +62,7 @@ file-written t nodes n links out {out₁} {r} {links′} {out′} h e l W =
       sound = λ B D lookup H T few. W .sound B D lookup (fileOfBook D) out H (T .parts-is) (begun T few);
     }
   where
-    begun : {B D : List Family} → Trailed limit B D n t links → t .bytes ≤ length out → Writing limit B D 2 (firstCursor (t .first)) links (fileOfBook D) out out₁
+    begun : {limit : ℕ} {B D : List Family} → Trailed limit B D n t links → t .bytes ≤ length out → Writing limit B D 2 (firstCursor (t .first)) links (fileOfBook D) out out₁
     begun {B} {D} T few =
         let parts : t .parts ≡ length D - 2 = omega (arith, T .parts-is) in
         record {
@@ -84,7 +84,7 @@ abbrev pub startTrail : Trail
 startTrail = record { first = 0; last = 1; item = 0; parts = 0; bytes = 5 }
 
 module _ (s : Store) (p : ℕ) (nodes links out : List ℕ) (two : 2 ≤ p) (lp : p ≤ s .count + 1) where
-  pub parts-damaged : (r : Saved) → r .store ≡ s → largestItem < topAt nodes p → PartsOf s p nodes links out r links out
+  pub parts-damaged : (r : Saved) → r .store ≡ s → s .limit < topAt nodes p → PartsOf s p nodes links out r links out
   parts-damaged r es h =
       record {
         store-is = es;

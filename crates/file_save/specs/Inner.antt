@@ -30,19 +30,19 @@ pub record FileOf (t : Trail) (nodes : List ℕ) (n : ℕ) (links out : List ℕ
   pub rest : (k : ℕ) → n ≤ k → getD links′ k 0 ≡ getD links k 0
   pub sound : {limit : ℕ} (B D : List Family) (lookup : List ℕ) → Holds limit B n nodes lookup → Trailed limit B D n t links → t .bytes ≤ length out → (r ≡ true) × (out′ ≡ fileOfBook D ++ drop (length (fileOfBook D)) out)
 
--- what `save_parts` is asked with: the handle of a node, and a link for each node held
+-- what `save_parts` is asked with: the handle of a node, a link for each node held, and a limit not above the largest
 pub record SavePartsAsks (s : Store) (nodes : List ℕ) (p : ℕ) (links : List ℕ) : Type 0 where
   pub lent : Lent nodes (s .count) links
   pub two : 2 ≤ p
   pub inside : p ≤ s .count + 1
   pub limit-low : s .limit ≤ largestItem
 
--- the file of a family with parts
+-- the file of a family with parts, where the words hold a book of the store's limit
 pub record PartsOf (s : Store) (p : ℕ) (nodes links out : List ℕ) (r : Saved) (links′ out′ : List ℕ) : Type 0 where
   pub store-is : r .store ≡ s
   pub long : length links′ ≡ length links
   pub long-out : length out′ ≡ length out
   pub rest : (k : ℕ) → s .count ≤ k → getD links′ k 0 ≡ getD links k 0
-  pub refused : {limit : ℕ} (B : List Family) (lookup : List ℕ) → Holds limit B (s .count) nodes lookup → length out < length (fileOf (at B p)) → (r .answer ≡ Refused Output) × (out′ ≡ out)
-  pub gave : {limit : ℕ} (B : List Family) (lookup : List ℕ) → Holds limit B (s .count) nodes lookup → length (fileOf (at B p)) ≤ length out
+  pub refused : (B : List Family) (lookup : List ℕ) → Holds (s .limit) B (s .count) nodes lookup → length out < length (fileOf (at B p)) → (r .answer ≡ Refused Output) × (out′ ≡ out)
+  pub gave : (B : List Family) (lookup : List ℕ) → Holds (s .limit) B (s .count) nodes lookup → length (fileOf (at B p)) ≤ length out
       → (r .answer ≡ Length (length (fileOf (at B p)))) × (out′ ≡ fileOf (at B p) ++ drop (length (fileOf (at B p))) out)

@@ -10,7 +10,7 @@ use native.Mathlib.Numerals.{add-one}
 use lib.ListN.{length, getD, drop, length-append}
 use lib.Seq.{getD-at}
 use borrow.Author.Tests.{eq-eqb, ne-eqb}
-use Rattle.family.specs.Family.{Family, empty, base, node, top, largestItem}
+use Rattle.family.specs.Family.{Family, empty, base, node, top}
 use Rattle.family.specs.Book.{start, at, number, Held, Grown, Book}
 use Rattle.family.specs.Record.{stands, triple, recordBytes}
 use Rattle.family.specs.File.{triplesOf, recordsBytes}
@@ -27,7 +27,7 @@ use Rattle.file_trail.specs.Inner.{metIn, linked, Visited, Trailed}
 use Rattle.file_trail.proofs.Links.{met-leaf, met-word, behind-here, behind-last, behind-other, first-new, first-old}
 
 -- the handles of the families of a local book
-module _ {limit : ℕ} {B C : List Family} {n : ℕ} {nodes lookup : List ℕ} (H : Holds limit B n nodes lookup) (w : Book largestItem C) (inside : (k : ℕ) → k < length C → Held B (at C k)) where
+module _ {limit : ℕ} {B C : List Family} {n : ℕ} {nodes lookup : List ℕ} (H : Holds limit B n nodes lookup) (w : Book limit C) (inside : (k : ℕ) → k < length C → Held B (at C k)) where
   pub handle-in : (k : ℕ) → k < length C → number B (at C k) < n + 2
   handle-in k l = omega (arith, inside k l, H .size)
 
@@ -58,9 +58,9 @@ module _ {limit : ℕ} {B C : List Family} {n : ℕ} {nodes lookup : List ℕ} (
 
 pub trail-start : {limit : ℕ} {B : List Family} {n : ℕ} {nodes lookup : List ℕ} → Holds limit B n nodes lookup → (links : List ℕ) → ((k : ℕ) → k < n → getD links k 0 ≡ 0)
     → (t : Trail) → t .last ≡ 1 → t .item ≡ 0 → t .parts ≡ 0 → t .bytes ≡ 5 → Trailed limit B start n t links
-trail-start {B} {n} H links blank t el ei ep en =
+trail-start {limit} {B} {n} H links blank t el ei ep en =
     record {
-      book = book-start largestItem;
+      book = book-start limit;
       inside = inside;
       first-is = λ l. absurd (omega arith);
       last-is = el ∙ sym (number-base B (H .book));
@@ -176,7 +176,7 @@ module _ {limit : ℕ} {B C : List Family} {n : ℕ} {nodes lookup links : List 
     record-is : widths (stands i (t .item + 1)) (stands z 0) (stands o (t .last)) ≡ length (recordBytes (top (at C (length C - 1))) (length C - 1) (triple i (number C (at B z)) (number C (at B o))))
     record-is = rw (T .item-is, add-one (top (at C (length C - 1))), zero-stands, one-stands) (widths-length (top (at C (length C - 1))) (length C - 1) i (number C (at B z)) (number C (at B o)))
 
-    whole : Book largestItem (C ++ (node i (at B z) (at B o) ∷ []))
+    whole : Book limit (C ++ (node i (at B z) (at B o) ∷ []))
     whole = rw (← add-new C (node i (at B z) (at B o)) missing) (book-add C i (at B z) (at B o) (T .book) (rw is at (within H p lp)) ha hb)
 
     pub trail-visit : Trailed limit B (C ++ (node i (at B z) (at B o) ∷ [])) n t′ links′

@@ -31,13 +31,13 @@ use Rattle.file_trail.proofs.Trails.{met-held, unmet-two, unmet-not, fe
 -- the two ways out of `children`
 pub split-none : (nodes : List ℕ) (n p level : ℕ) → p ≤ n + 1 → level ≡ topAt nodes p → level ≡ 0 → SplitOf nodes n p level Broken
 split-none nodes n p level l e z =
-    broken (λ h B lookup H.
+    broken (λ limit h B lookup H.
     let w = rw (at-node H p h (omega arith)) at (within H p (omega arith)) in
     omega (arith, w .ordered .0, top-node nodes p h))
 
 pub split-sides : (nodes : List ℕ) (n p level : ℕ) {x : Sides} → (level ≡ 0 → ⊥) → SidesOf nodes n p level x → SplitOf nodes n p level x
 split-sides nodes n p level s (two-sides T) = two (omega arith) T
-split-sides nodes n p level s (no-sides f) = broken (λ h. f)
+split-sides nodes n p level s (no-sides f) = broken (λ limit h. f limit)
 
 -- what they say
 pub record Children (nodes : List ℕ) (n p level z o zt ot : ℕ) : Type 0 where
@@ -50,10 +50,10 @@ split-two z o zt ot e S = out (rw e at S)
     out : {nodes : List ℕ} {n p level z o zt ot : ℕ} → SplitOf nodes n p level (Two z o zt ot) → Children nodes n p level z o zt ot
     out (two s T) = record { some = s; sides = T }
 
-split-broken : {nodes : List ℕ} {n p level : ℕ} {x : Sides} → x ≡ Broken → SplitOf nodes n p level x → 2 ≤ p → (limit : ℕ) (B : List Family) (lookup : List ℕ) → Holds limit B n nodes lookup → ⊥
+split-broken : {nodes : List ℕ} {n p level : ℕ} {x : Sides} → x ≡ Broken → SplitOf nodes n p level x → (limit : ℕ) → 2 ≤ p → (B : List Family) (lookup : List ℕ) → Holds limit B n nodes lookup → ⊥
 split-broken e S = out (rw e at S)
   where
-    out : {nodes : List ℕ} {n p level : ℕ} → SplitOf nodes n p level Broken → 2 ≤ p → (limit : ℕ) (B : List Family) (lookup : List ℕ) → Holds limit B n nodes lookup → ⊥
+    out : {nodes : List ℕ} {n p level : ℕ} → SplitOf nodes n p level Broken → (limit : ℕ) → 2 ≤ p → (B : List Family) (lookup : List ℕ) → Holds limit B n nodes lookup → ⊥
     out (broken f) = f
 
 -- after a walk there is still a link for each node
@@ -132,9 +132,9 @@ module _ {t : Trail} {p : ℕ} {nodes : List ℕ} {n : ℕ} {links links′ : Li
 
 -- a walk that is broken, with the links that it came to
 pub walk-broken : (t : Trail) (p : ℕ) (nodes : List ℕ) (n : ℕ) (links links′ : List ℕ) → length links′ ≡ length links → ((k : ℕ) → n ≤ k → getD links′ k 0 ≡ getD links k 0)
-    → ((B C : List Family) (lookup : List ℕ) → Holds limit B n nodes lookup → Trailed limit B C n t links → ⊥) → WalkOf t p nodes n links NoWay links′
+    → ((limit : ℕ) (B C : List Family) (lookup : List ℕ) → Holds limit B n nodes lookup → Trailed limit B C n t links → ⊥) → WalkOf t p nodes n links NoWay links′
 walk-broken t p nodes n links links′ e r f =
-    record { long = e; rest = r; trail-fits = λ t′ d. broken-not d; sound = λ B C lookup H T. absurd (f B C lookup H T) }
+    record { long = e; rest = r; trail-fits = λ t′ d. broken-not d; sound = λ B C lookup H T. absurd (f _ B C lookup H T) }
 
 module _ (t : Trail) (p : ℕ) (nodes : List ℕ) (n : ℕ) (links : List ℕ) where
   pub walk-met : p ≤ n + 1 → TrailFits n t → {x : Bool} → x ≡ metIn links p → x ≡ true → WalkOf t p nodes n links (Went t) links
@@ -149,7 +149,7 @@ module _ (t : Trail) (p : ℕ) (nodes : List ℕ) (n : ℕ) (links : List ℕ) w
   -- the walks of two handles, one after the other: where one is broken, the walk of p is
   module _ {q₁ : ℕ} {r₁ : Walked} {links₁ : List ℕ} (R : WalkOf t q₁ nodes n links r₁ links₁) where
     pub walk-first-broken : r₁ ≡ NoWay → WalkOf t p nodes n links NoWay links₁
-    walk-first-broken e = walk-broken t p nodes n links links₁ (R .long) (R .rest) (λ B C lookup H T. never e (R .sound B C lookup H T))
+    walk-first-broken e = walk-broken t p nodes n links links₁ (R .long) (R .rest) (λ limit B C lookup H T. never e (R .sound B C lookup H T))
 
     module _ (first : Trail) (e₁ : r₁ ≡ Went first) {q₂ : ℕ} {r₂ : Walked} {links₂ : List ℕ} (Q : WalkOf first q₂ nodes n links₁ r₂ links₂) where
       long₂ : length links₂ ≡ length links
@@ -162,7 +162,7 @@ module _ (t : Trail) (p : ℕ) (nodes : List ℕ) (n : ℕ) (links : List ℕ) w
       second-came {B} {C} {lookup} H T = Q .sound B (place C (at B q₁)) lookup H (came-to first e₁ (R .sound B C lookup H T))
 
       pub walk-second-broken : r₂ ≡ NoWay → WalkOf t p nodes n links NoWay links₂
-      walk-second-broken e = walk-broken t p nodes n links links₂ long₂ rest₂ (λ B C lookup H T. never e (second-came H T))
+      walk-second-broken e = walk-broken t p nodes n links links₂ long₂ rest₂ (λ limit B C lookup H T. never e (second-came H T))
 
       module _ (second : Trail) (e₂ : r₂ ≡ Went second) where
         trail₂ : {limit : ℕ} {B C : List Family} {lookup : List ℕ} (H : Holds limit B n nodes lookup) (T : Trailed limit B C n t links) → Trailed limit B (place (place C (at B q₁)) (at B q₂)) n second links₂
@@ -181,11 +181,11 @@ module _ (t : Trail) (p : ℕ) (nodes : List ℕ) (n : ℕ) (links : List ℕ) w
           pub walk-many : n ≤ 1000000 → 1000000 ≤ second .parts → WalkOf t p nodes n links NoWay links₂
           walk-many l m =
               walk-broken t p nodes n links links₂ long₂ rest₂
-              (λ B C lookup H T. let f = few-parts H (trail₂ H T) (at B p) (held H p (omega arith)) (lacks H T) in omega arith)
+              (λ limit B C lookup H T. let f = few-parts H (trail₂ H T) (at B p) (held H p (omega arith)) (lacks H T) in omega arith)
 
   module _ (unmet : metIn links p ≡ false) (lp : p ≤ n + 1) (level : ℕ) (is-level : level ≡ topAt nodes p) {x : Sides} (S : SplitOf nodes n p level x) where
     pub walk-no-children : x ≡ Broken → WalkOf t p nodes n links NoWay links
-    walk-no-children e = walk-broken t p nodes n links links refl (λ k l. refl) (λ B C lookup H T. split-broken e S (unmet-two H T p unmet) B lookup H)
+    walk-no-children e = walk-broken t p nodes n links links refl (λ k l. refl) (λ limit B C lookup H T. split-broken e S limit (unmet-two H T p unmet) B lookup H)
 
     -- the without-side, then the with-side, then p itself
     module _ (z o zt ot : ℕ) (ex : x ≡ Two z o zt ot) {r₁ : Walked} {links₁ : List ℕ} (R : WalkOf t z nodes n links r₁ links₁)

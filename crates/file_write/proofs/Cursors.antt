@@ -76,7 +76,7 @@ module _ {limit : ℕ} {B D : List Family} {n k : ℕ} {nodes lookup : List ℕ}
   is-node = sym at-means ∙ at-node H (c .at) at-two at-in
 
   item-low : itemAt nodes (c .at) ≤ largestItem
-  item-low = (rw (at-means ∙ is-node) at (within H (c .at) at-in)) .low
+  item-low = let w = rw (at-means ∙ is-node) at (within H (c .at) at-in) in omega (arith, w .low, H .limit-low)
 
   -- a side stands in the local book before the part
   local-is : (h : ℕ) → h < n + 2 → number D (at B h) < k → wordOf links h ≡ number D (at B h)
@@ -172,19 +172,19 @@ broken-next : {A : Type 0} {c : Cursor} → Broken ≡ Next c → A
 broken-next e = absurd (let z : _≡_ {A = ℕ} 0 1 = cc in omega arith)
 
 module _ (c : Cursor) (nodes : List ℕ) (n : ℕ) (links out : List ℕ) where
-  turn-broken : ((B D : List Family) (k : ℕ) (lookup whole before : List ℕ) → Holds limit B n nodes lookup → k < length D → Writing limit B D k c links whole before out → ⊥) → TurnOf c nodes n links out Broken links out
+  turn-broken : ((limit : ℕ) (B D : List Family) (k : ℕ) (lookup whole before : List ℕ) → Holds limit B n nodes lookup → k < length D → Writing limit B D k c links whole before out → ⊥) → TurnOf c nodes n links out Broken links out
   turn-broken f =
-      record { long = refl; long-out = refl; rest = λ k l. refl; next-fits = λ d e. broken-next e; sound = λ B D k lookup whole before H kl W. absurd (f B D k lookup whole before H kl W) }
+      record { long = refl; long-out = refl; rest = λ k l. refl; next-fits = λ d e. broken-next e; sound = λ B D k lookup whole before H kl W. absurd (f _ B D k lookup whole before H kl W) }
 
   pub turn-low : c .at < 2 → TurnOf c nodes n links out Broken links out
-  turn-low l = turn-broken (λ B D k lookup whole before H kl W. omega (arith, at-two H kl W))
+  turn-low l = turn-broken (λ limit B D k lookup whole before H kl W. omega (arith, at-two H kl W))
 
   pub turn-high : n + 1 < c .at → TurnOf c nodes n links out Broken links out
-  turn-high l = turn-broken (λ B D k lookup whole before H kl W. omega (arith, at-in H kl W))
+  turn-high l = turn-broken (λ limit B D k lookup whole before H kl W. omega (arith, at-in H kl W))
 
   module _ (part : Part) (is-part : LocalPart nodes (3 * (c .at - 2)) links part) where
     pub turn-item : largestItem < part .item → TurnOf c nodes n links out Broken links out
-    turn-item l = turn-broken (λ B D k lookup whole before H kl W. omega (arith, item-low H kl W, is-part .item-is))
+    turn-item l = turn-broken (λ limit B D k lookup whole before H kl W. omega (arith, item-low H kl W, is-part .item-is))
 
     module _ (len : ℕ) (is-len : len ≡ widths (stands (part .item) (c .last .item + 1)) (stands (part .zero) 0) (stands (part .one) (c .last .number))) where
       pub length-is : len ≡ length (recordBytes (c .last .item) (c .last .number) (triple (part .item) (part .zero) (part .one)))
@@ -193,7 +193,7 @@ module _ (c : Cursor) (nodes : List ℕ) (n : ℕ) (links out : List ℕ) where
           ∙ widths-length (c .last .item) (c .last .number) (part .item) (part .zero) (part .one)
 
       pub turn-full : c .place ≤ length out → length out - c .place < len → TurnOf c nodes n links out Broken links out
-      turn-full p l = turn-broken (λ B D k lookup whole before H kl W. omega (arith, length-is, turn-room H kl W part is-part))
+      turn-full p l = turn-broken (λ limit B D k lookup whole before H kl W. omega (arith, length-is, turn-room H kl W part is-part))
 
       pub turn-done : n ≤ length links → CursorFits c out → 2 ≤ c .at → c .at ≤ n + 1 → part .item ≤ largestItem → len ≤ 11 → c .place + len ≤ length out → {ys : List ℕ}
           → ys ≡ sets (take (length out - c .place) (drop (c .place) out)) 0 (recordBytes (c .last .item) (c .last .number) (triple (part .item) (part .zero) (part .one)))

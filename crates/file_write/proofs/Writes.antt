@@ -16,13 +16,13 @@ use Rattle.file_write.specs.declared.Turn.{Turn}
 use Rattle.file_write.specs.declared.Turn.the-variants.{Next, Broken}
 use Rattle.file_write.specs.Inner.{CursorFits, Writing, Turned, turned, TurnOf, firstCursor, WritesOf}
 
-turned-to : {B D : List Family} {k : ℕ} {links whole before out : List ℕ} {r : Turn} (c : Cursor) → r ≡ Next c → Turned limit B D k links whole before out r → Writing limit B D k c links whole before out
+turned-to : {limit : ℕ} {B D : List Family} {k : ℕ} {links whole before out : List ℕ} {r : Turn} (c : Cursor) → r ≡ Next c → Turned limit B D k links whole before out r → Writing limit B D k c links whole before out
 turned-to c e A = out′ (rw e at A)
   where
-    out′ : {B D : List Family} {k : ℕ} {links whole before out : List ℕ} {c : Cursor} → Turned limit B D k links whole before out (Next c) → Writing limit B D k c links whole before out
+    out′ : {limit : ℕ} {B D : List Family} {k : ℕ} {links whole before out : List ℕ} {c : Cursor} → Turned limit B D k links whole before out (Next c) → Writing limit B D k c links whole before out
     out′ (turned W) = W
 
-never : {B D : List Family} {k : ℕ} {links whole before out : List ℕ} {r : Turn} → r ≡ Broken → Turned limit B D k links whole before out r → ⊥
+never : {limit : ℕ} {B D : List Family} {k : ℕ} {links whole before out : List ℕ} {r : Turn} → r ≡ Broken → Turned limit B D k links whole before out r → ⊥
 never e (turned W) = let z : _≡_ {A = ℕ} 0 1 = cc in omega arith
 
 -- so many parts are left
@@ -35,7 +35,7 @@ pub record PartsLeft (first parts : ℕ) (nodes : List ℕ) (n : ℕ) (links₀ 
   pub long : length links ≡ length links₀
   pub long-out : length out ≡ length out₀
   pub rest : (k : ℕ) → n ≤ k → getD links k 0 ≡ getD links₀ k 0
-  pub sound : (B D : List Family) (lookup whole before : List ℕ) → Holds limit B n nodes lookup → parts + 2 ≡ length D → Writing limit B D 2 (firstCursor first) links₀ whole before out₀
+  pub sound : {limit : ℕ} (B D : List Family) (lookup whole before : List ℕ) → Holds limit B n nodes lookup → parts + 2 ≡ length D → Writing limit B D 2 (firstCursor first) links₀ whole before out₀
       → Writing limit B D (parts + 2 - left) c links whole before out
 
 module _ (first parts : ℕ) (nodes : List ℕ) (n : ℕ) (links₀ out₀ : List ℕ) where
@@ -58,7 +58,7 @@ module _ (first parts : ℕ) (nodes : List ℕ) (n : ℕ) (links₀ out₀ : Lis
     left-fits l = record { within = L .place-low; item-low = L .item-low; number-low = omega (arith, L .number-is); short = L .short }
 
     module _ {r : Turn} {links′ out′ : List ℕ} (some : 0 < left) (T : TurnOf c nodes n links out r links′ out′) where
-      writing : {B D : List Family} {lookup whole before : List ℕ} → Holds limit B n nodes lookup → parts + 2 ≡ length D → Writing limit B D 2 (firstCursor first) links₀ whole before out₀
+      writing : {limit : ℕ} {B D : List Family} {lookup whole before : List ℕ} → Holds limit B n nodes lookup → parts + 2 ≡ length D → Writing limit B D 2 (firstCursor first) links₀ whole before out₀
           → Turned limit B D (parts + 2 - left + 1) links′ whole before out′ r
       writing {B} {D} {lookup} {whole} {before} H e W = T .sound B D (parts + 2 - left) lookup whole before H (omega (arith, L .low)) (L .sound B D lookup whole before H e W)
 

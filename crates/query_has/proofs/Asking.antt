@@ -29,10 +29,10 @@ use Rattle.store.specs.Refusals.{refusalNumber}
 
 module _ (s : Store) (nodes lookup : List ℕ) (p : ℕ) where
   -- the book of a sound store, and its tests
-  abbrev B : List Family
+  abbrev pub B : List Family
   B = bookOf nodes (s .count)
 
-  tests-are : Sound s nodes lookup [] → hasRefusal B p ≡ testsOf (s .count) p 0 0 0 0
+  pub tests-are : Sound s nodes lookup [] → hasRefusal B p ≡ testsOf (s .count) p 0 0 0 0
   unfolding hasRefusal
   tests-are S = ap (λ k. testsOf k p 0 0 0 0) (count-is B (sound-holds S .size))
 

@@ -7,7 +7,7 @@ use mathlib.Core.Bool.{Bool, true, false}
 use mathlib.Core.List.{List, [], _∷_}
 use native.Mathlib.Omega.{arith}
 use lib.ListN.{getD}
-use Rattle.family.specs.Family.{Family, base, node, top, has, Ordered}
+use Rattle.family.specs.Family.{Family, base, node, top, has, Ordered, largestItem}
 use Rattle.family.specs.Combination.{largest, Falling, holds, remove, isNone}
 use Rattle.family.specs.Book.{at}
 use Rattle.family.proofs.Falling.{holds-high, remove-absent}
@@ -46,8 +46,8 @@ pub record Along (nodes : List ℕ) (n p : ℕ) (c : List ℕ) (at′ : ℕ) (re
   pub same : {limit : ℕ} (B : List Family) (lookup : List ℕ) → Holds limit B n nodes lookup → (at′ ≤ n + 1) × (has (at B at′) rest ≡ has (at B p) c) × (top (at B at′) ≤ left)
 
 module _ (nodes : List ℕ) (n p : ℕ) (c : List ℕ) where
-  pub along-start : p ≤ n + 1 → Along nodes n p c p c 512
-  along-start l = record { same = λ B lookup H. (l, refl, within H p (omega arith) .low) }
+  pub along-start : p ≤ n + 1 → Along nodes n p c p c largestItem
+  along-start l = record { same = λ B lookup H. (l, refl, omega (arith, within H p (omega arith) .low, H .limit-low)) }
 
   module _ (at′ : ℕ) (rest : List ℕ) (left : ℕ) (A : Along nodes n p c at′ rest left) where
     pub along-ends : at′ < 2 → (r : Bool) → (at′ ≡ 1 → r ≡ isNone rest) × ((at′ ≡ 1 → ⊥) → r ≡ false) → Memberly nodes n p c r

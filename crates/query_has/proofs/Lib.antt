@@ -1,3 +1,4 @@
 -- The laws of `query_has`.
 pub mod Descending
 pub mod Asking
+pub mod Above

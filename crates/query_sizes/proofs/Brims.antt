@@ -9,7 +9,7 @@ use native.Mathlib.Omega.{arith}
 use lib.Dec.{T, ltb}
 use lib.ListN.{getD}
 use borrow.Author.Tests.{lt-ltb, le-ltb}
-use Rattle.family.specs.Family.{Family, empty, base, node, top, inhabited, size, Ordered}
+use Rattle.family.specs.Family.{Family, empty, base, node, top, inhabited, size, Ordered, largestItem}
 use Rattle.family.specs.Book.{at}
 use Rattle.words.proofs.Cases.{by-lt}
 use Rattle.store.specs.Words.{wordOf}
@@ -34,8 +34,8 @@ pub record Down (nodes sizes : List ℕ) (n p at′ left : ℕ) : Type 0 where
   pub same : {limit : ℕ} (B : List Family) (lookup : List ℕ) → Holds limit B n nodes lookup → Known sizes B n → most ≤ size (at B p) → (size (at B at′) ≡ size (at B p)) × (top (at B at′) ≤ left)
 
 module _ (nodes sizes : List ℕ) (n p : ℕ) where
-  pub down-start : p ≤ n + 1 → Down nodes sizes n p p 512
-  down-start l = record { inside = l; same = λ B lookup H K m. (refl, within H p (omega arith) .low) }
+  pub down-start : p ≤ n + 1 → Down nodes sizes n p p largestItem
+  down-start l = record { inside = l; same = λ B lookup H K m. (refl, omega (arith, within H p (omega arith) .low, H .limit-low)) }
 
   module _ (at′ left : ℕ) (D : Down nodes sizes n p at′ left) where
     leaf-size : {limit : ℕ} {B : List Family} {lookup : List ℕ} → Holds limit B n nodes lookup → (h : ℕ) → h < 2 → size (at B h) ≤ 1

@@ -10,21 +10,17 @@ use Rattle.family.specs.Book.{at}
 use Rattle.store.specs.Inner.{Holds}
 use Rattle.query_sizes.specs.NodeSizes.{most}
 
--- the words of the first j of n nodes are their sizes
-abbrev pub SizesTo : List ℕ → ℕ → ℕ → List ℕ → Type 0
-SizesTo nodes n j sizes = {limit : ℕ} (B : List Family) (lookup : List ℕ) → Holds limit B n nodes lookup → (k : ℕ) → k < j → getD sizes k 0 ≡ min (size (at B (k + 2))) most
-
 -- the words of the nodes held, and a word for each
 pub record FillAsks (nodes sizes : List ℕ) (count : ℕ) : Type 0 where
   pub words : 3 * count ≤ length nodes
   pub scratch : count ≤ length sizes
   pub small : count ≤ 1000000
 
--- the first j words are filled, the later ones as they were
+-- the words of the first j of n nodes are their sizes, the later ones as they were
 pub record Filled (nodes : List ℕ) (n j : ℕ) (sizes sizes′ : List ℕ) : Type 0 where
   pub long : length sizes′ ≡ length sizes
   pub rest : (k : ℕ) → j ≤ k → getD sizes′ k 0 ≡ getD sizes k 0
-  pub each : SizesTo nodes n j sizes′
+  pub each : {limit : ℕ} (B : List Family) (lookup : List ℕ) → Holds limit B n nodes lookup → (k : ℕ) → k < j → getD sizes′ k 0 ≡ min (size (at B (k + 2))) most
 
 -- whether the size of p, whose word is 2^64 - 1, is above that
 pub record Exceeding (nodes sizes : List ℕ) (n p : ℕ) (r : Bool) : Type 0 where

@@ -1,6 +1,7 @@
 -- `save` tests in document 01's order, then writes the file of a leaf or of a node.
 -- Each way out is one law of saving.
 use native.Mathlib.Omega.{arith}
+use Rattle.store.proofs.Fitting.{fits-true}
 use Rattle.store.proofs.Testing.{tested-clear}
 use Rattle.file_save.proofs.Saves.{save-refused, save-leaf, save-parts}
 use borrow.Author.Needs.{needs}
@@ -50,6 +51,7 @@ save-parts-requires c κs =
       lent = record { words = omega (arith, P .roomy .within, P .roomy .words); few = omega (arith, P .roomy .within, P .roomy .small); linkable = P .passed .room };
       two = at-if1 .if1 .left;
       inside = P .passed .first;
+      limit-low = fits-true (a .store) _ _ (P .fits) .limit-is .1;
     }
 
 same-length-2 : tie.Need-same-length-2

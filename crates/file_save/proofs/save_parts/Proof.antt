@@ -13,9 +13,10 @@ top-of-requires c κs = search needs
 
 returns : tie.Need-returns
 returns c =
+    let at-top-of : tie.After-top-of = search in
     let at-start : tie.Start = search in
     let a = at-start .args in
-    parts-damaged (a .store) (a .p) (a .nodes .now) (a .links .now) (a .out .now) (at-start .pre .two) (at-start .pre .inside) _ refl (omega (arith, (c .before) .top-of .ensures, c .if1 .taken))
+    parts-damaged (a .store) (a .p) (a .nodes .now) (a .links .now) (a .out .now) (at-start .pre .two) (at-start .pre .inside) _ refl (omega (arith, at-top-of .top-of .ensures, c .if1 .taken))
 
 cast-zero : tie.Need-cast-zero
 cast-zero c = search needs
@@ -33,7 +34,7 @@ walk-requires c κs =
       inside = p .inside;
       lent = record { words = p .lent .words; few = p .lent .few; linkable = omega (arith, p .lent .linkable, (c .before .before .before) .zero .kept .0) };
       level-is = at-top-of .top-of .ensures;
-      level-low = omega (arith, at-if1 .if1 .left);
+      level-low = omega (arith, at-if1 .if1 .left, p .limit-low);
       trail-fits = record { last-held = omega arith; item-low = omega arith; few = omega arith; some = omega arith; short = omega arith };
     }
 
@@ -88,7 +89,8 @@ returns-4 c =
     let at-trail : tie.After-trail = search in
     let at-walk : tie.After-walk = search in
     let at-zero : tie.After-zero = search in
-    let at-start : tie.Start = search (at-zero) in
+    let at-top-of : tie.After-top-of = search (at-zero) in
+    let at-start : tie.Start = search (at-top-of) in
     let a = at-start .args in
     parts-unwritten (a .store) (a .p) (a .nodes .now) (a .links .now) (a .out .now) (at-start .pre .two) (at-start .pre .inside) (at-start .pre .lent .linkable)
     (at-zero .zero .ensures) (at-walk .walk .ensures) _ (at-trail .trail .given .1) (at-if2 .if2 .left) (at-write-file .write-file .ensures) _ refl (not-true _ (c .if3 .taken))
@@ -106,7 +108,8 @@ returns-5 c =
     let at-trail : tie.After-trail = search in
     let at-walk : tie.After-walk = search in
     let at-zero : tie.After-zero = search in
-    let at-start : tie.Start = search (at-zero) in
+    let at-top-of : tie.After-top-of = search (at-zero) in
+    let at-start : tie.Start = search (at-top-of) in
     let a = at-start .args in
     parts-done (a .store) (a .p) (a .nodes .now) (a .links .now) (a .out .now) (at-start .pre .two) (at-start .pre .inside) (at-start .pre .lent .linkable) (at-zero .zero .ensures)
     (at-walk .walk .ensures) _ (at-trail .trail .given .1) (at-if2 .if2 .left) (at-write-file .write-file .ensures) _ refl refl
