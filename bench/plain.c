@@ -388,7 +388,7 @@ static bool write_parts(trail t, words nodes, uint32_t count, words links, uint8
 
 static zdd_saved save_parts(zdd_store s, words nodes, uint32_t p, words links, uint8_t *out, size_t out_bytes) {
     uint32_t top = top_of(nodes, p);
-    if (ZDD_LARGEST_ITEM < top) return (zdd_saved){s, ZDD_DAMAGED, 0};
+    if (s.limit < top) return (zdd_saved){s, ZDD_DAMAGED, 0};
     memset(links.at, 0, s.count * sizeof *links.at);
     trail t = {0, 1, 0, 0, 5};
     if (!descend(p, top, nodes, s.count, &t, links)) return (zdd_saved){s, ZDD_DAMAGED, 0};

@@ -5,7 +5,7 @@ use crate::observe::compare;
 use crate::plain::book::Book;
 use crate::plain::call::{Answer, Call};
 use crate::plain::sound::{book_of, fits, is_sound, is_true};
-use crate::random::{Random, LIMITS};
+use crate::random::{limit_of, Random, LIMITS};
 use crate::shelf::{Seen, Shelf};
 use crate::sound_stores::any_sound;
 use crate::tally::Tally;
@@ -51,7 +51,7 @@ fn certain(before: &Shelf, after: &Shelf, call: &Call, seen: &Seen) {
     assert_eq!(seen.out, seen.out_before);
 }
 
-// Any answer will do, but a refusal gives nothing and hands the record back as it came.
+// Any answer will do, but a refusal gives nothing and hands the record back as it came; capacity and limit always stay.
 fn unsound(before: &Shelf, after: &Shelf, call: &Call, seen: &Seen) {
     let refusal = seen.answer.refusal;
     assert!([0, 3, 4, 5, 6, 7, 8, 9, 10, 13].contains(&refusal), "{call:?} gave {refusal}");
@@ -116,13 +116,14 @@ fn stores(seed: u64, stores: usize, make: fn(&mut Random, u32, &[u32]) -> Shelf)
     let mut rng = Random::new(seed);
     let mut tallies = Tallies::default();
     for k in 0..stores {
-        let makings = any_makings(&mut rng, LIMITS[k % LIMITS.len()]);
+        let makings = any_makings(&mut rng, limit_of(k));
         let store = make(&mut rng, makings.limit, &makings.pool);
         calls_on(&mut rng, &store, &makings, &mut tallies);
     }
     tallies
 }
 
+// A 10 of each kind of call.
 const CERTAIN: &[(&str, &[u32])] =
     &[("Change", &[10]), ("Union", &[10]), ("Has", &[10]), ("Size", &[10]), ("Save", &[10]), ("Load", &[10])];
 
@@ -180,7 +181,7 @@ fn limits_about_the_largest_item() {
     let mut rng = Random::new(44);
     let mut tallies = Tallies::default();
     for k in 0..800 {
-        let makings = any_makings(&mut rng, LIMITS[k % LIMITS.len()]);
+        let makings = any_makings(&mut rng, limit_of(k));
         let (mut store, _) = any_sound(&mut rng, makings.limit, &makings.pool, 12);
         let held = 3 * store.record.count as usize;
         let Some(top) = store.nodes.words()[..held].iter().step_by(3).copied().max() else { continue };

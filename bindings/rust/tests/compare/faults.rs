@@ -61,9 +61,8 @@ fn fault(rng: &mut Random, record: &mut Record, nodes: &mut Vec<u32>, lookup: &m
             ])
         }
         10 => {
-            let any = rng.word();
-            let near = [record.limit.wrapping_sub(1), record.limit.wrapping_add(1)];
-            record.limit = rng.pick(&[near[0], near[0], near[1], 0, 1, 512, 513, any, u32::MAX])
+            let (less, more, any) = (record.limit.wrapping_sub(1), record.limit.wrapping_add(1), rng.word());
+            record.limit = rng.pick(&[less, less, more, 0, 1, 512, 513, any, u32::MAX])
         }
         11 if !cache.is_empty() => cache[rng.below(cache.len())] = small(rng, record),
         12 => {

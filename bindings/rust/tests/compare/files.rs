@@ -4,7 +4,7 @@ use crate::plain::book::Book;
 use crate::plain::call::Call;
 use crate::plain::family::{top, Family};
 use crate::plain::file::{family_of, file_of};
-use crate::random::{Random, LIMITS};
+use crate::random::{limit_of, Random, LIMITS};
 use crate::shelf::Shelf;
 use crate::tally::Tally;
 
@@ -44,7 +44,7 @@ fn random_families_whole_and_damaged() {
     let mut still = 0;
     for k in 0..1500 {
         let len = 1 + rng.below(8);
-        let limit = LIMITS[k % LIMITS.len()];
+        let limit = limit_of(k);
         let pool = rng.pool(len, limit);
         let (nodes, lookup) = (3 * (1 + rng.below(60)), 70 + rng.below(60));
         let mut shelf = Shelf::fresh(&mut rng, nodes, lookup, 16, limit);

@@ -3,7 +3,7 @@ use crate::observe::compare;
 use crate::plain::book::Book;
 use crate::plain::call::Call;
 use crate::plain::file::file_of;
-use crate::random::{Random, LIMITS};
+use crate::random::{limit_of, Random};
 use crate::shelf::Shelf;
 use crate::tally::{Tally, OUTCOMES};
 
@@ -101,7 +101,7 @@ fn lists(seed: u64, lists: usize, capacity: usize, calls: usize, items: usize) -
     makings.files.resize(24, vec![1, 1, 0, 0, 0, 1, 2, 0]);
     for k in 0..lists {
         let len = 1 + rng.below(items);
-        makings.limit = LIMITS[k % LIMITS.len()];
+        makings.limit = limit_of(k);
         makings.pool = rng.pool(len, makings.limit);
         let room = 1 + rng.below(capacity);
         let steps = 1 + rng.below(calls);

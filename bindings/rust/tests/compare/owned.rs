@@ -90,23 +90,24 @@ fn refusals_by_name() {
 #[test]
 fn files_between_stores_of_other_sizes_and_limits() -> Result<(), Refusal> {
     let mut pocket = Store::new(40, 8, 64)?;
-    let mut last = Store::new(4000, 0, 512)?;
+    let mut final_test = Store::new(4000, 0, 512)?;
     let mut p = Store::EMPTY;
     for item in [1, 2, 33, 64] {
         let one = pocket.change(Store::BASE, item)?;
         p = pocket.union(p, one)?;
     }
     let file = pocket.save(p)?;
-    last.change(Store::BASE, 100)?;
-    let q = last.load(&file)?;
-    assert_eq!(last.save(q)?, file);
-    assert_eq!((last.size(q)?, pocket.size(p)?), (4, 4));
-    let less = last.subset0(q, 33)?;
-    assert_eq!(pocket.load(&last.save(less)?)?, pocket.subset0(p, 33)?);
-    let above = last.change(q, 65)?;
+    final_test.change(Store::BASE, 100)?;
+    let q = final_test.load(&file)?;
+    assert_eq!(final_test.save(q)?, file);
+    assert_eq!((final_test.size(q)?, pocket.size(p)?), (4, 4));
+    let less = final_test.subset0(q, 33)?;
+    assert_eq!(pocket.load(&final_test.save(less)?)?, pocket.subset0(p, 33)?);
+    let above = final_test.change(q, 65)?;
     let record = pocket.record();
-    assert_eq!((pocket.load(&last.save(above)?), pocket.record()), (Err(Refusal::AboveLimit), record));
-    assert_eq!((pocket.change(p, 65), last.has(above, Combination::of([1, 65])?)), (Err(Refusal::Item), Ok(true)));
-    assert_eq!(pocket.has(p, Combination::of([1, 65])?), Ok(false));
+    assert_eq!((pocket.load(&final_test.save(above)?), pocket.record()), (Err(Refusal::AboveLimit), record));
+    assert_eq!(pocket.change(p, 65), Err(Refusal::Item));
+    let both = Combination::of([1, 65])?;
+    assert_eq!((final_test.has(above, both), pocket.has(p, both)), (Ok(true), Ok(false)));
     Ok(())
 }

@@ -4,6 +4,11 @@ use crate::plain::family::Combination;
 /// The item limits that the runs take: the ends, the edges of a combination's words, the pocket tester's.
 pub const LIMITS: [u32; 8] = [1, 2, 31, 32, 33, 64, 511, 512];
 
+/// These limits in turn.
+pub fn limit_of(turn: usize) -> u32 {
+    LIMITS[turn % LIMITS.len()]
+}
+
 pub struct Random(u64);
 
 impl Random {

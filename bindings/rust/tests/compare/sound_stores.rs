@@ -7,7 +7,7 @@ use crate::plain::family::named;
 use crate::plain::file::file_of;
 use crate::plain::sound::{book_of, is_sound, is_true};
 use crate::plain::words::entered;
-use crate::random::{Random, LIMITS};
+use crate::random::{limit_of, Random};
 use crate::shelf::Shelf;
 use crate::tally::{Tally, OUTCOMES};
 use zdd::Record;
@@ -72,7 +72,7 @@ fn sound_stores_in_any_order() {
     let mut tally = Tally::default();
     for k in 0..2500 {
         let len = 1 + rng.below(7);
-        let limit = LIMITS[k % LIMITS.len()];
+        let limit = limit_of(k);
         let pool = rng.pool(len, limit);
         let (mut shelf, mut book) = any_sound(&mut rng, limit, &pool, 25);
         let foreign = rng.foreign_pool(len, limit);
