@@ -71,7 +71,7 @@ struct Words {
     Words(size_t capacity, size_t cache_words) : nodes(3 * capacity), lookup(2 * capacity + 1), cache(cache_words) {}
 };
 
-// A fresh store in lent words.
+// A fresh store in lent words, for all items.
 struct Ours {
     using F = uint32_t;
     const Library &library;
@@ -79,7 +79,7 @@ struct Ours {
     zdd_store store;
     Ours(const Library &library, Words &words) : library(library), words(words) {
         auto r = library.fresh(words.nodes.data(), words.nodes.size(), words.lookup.data(), words.lookup.size(), words.cache.data(),
-                               words.cache.size());
+                               words.cache.size(), ZDD_LARGEST_ITEM);
         if (r.refusal) stop("fresh", r.refusal);
         store = r.store;
     }

@@ -29,8 +29,10 @@ static uint32_t capacity_of(size_t node_words) {
     return node_words / 3 < ZDD_LARGEST_CAPACITY ? (uint32_t)(node_words / 3) : ZDD_LARGEST_CAPACITY;
 }
 
+static bool is_limit(uint32_t limit) { return 1 <= limit && limit <= ZDD_LARGEST_ITEM; }
+
 static bool fits(zdd_store s, size_t node_words, size_t lookup_words) {
-    return s.capacity == capacity_of(node_words) && s.capacity < lookup_words && s.count <= s.capacity;
+    return s.capacity == capacity_of(node_words) && s.capacity < lookup_words && s.count <= s.capacity && is_limit(s.limit);
 }
 
 static bool holds(zdd_store s, uint32_t p) { return p < 2 || p - 2 < s.count; }
@@ -186,20 +188,20 @@ static uint32_t shortcut(call c) {
     return FULL;
 }
 
-static uint32_t expand_families(call c, uint32_t limit, WORDS);
+static uint32_t expand_families(call c, uint32_t bound, WORDS);
 
-static uint32_t apply(call asked, uint32_t limit, WORDS) {
+static uint32_t apply(call asked, uint32_t bound, WORDS) {
     uint32_t known = shortcut(asked);
-    return known < FULL ? known : expand_families(ordered(asked), limit, HAND_ON);
+    return known < FULL ? known : expand_families(ordered(asked), bound, HAND_ON);
 }
 
-/* No terminal case: the cache, else the two sides of both at the larger top, below the limit, and the node of their results. */
-static uint32_t expand_families(call c, uint32_t limit, WORDS) {
+/* No terminal case: the cache, else the two sides of both at the larger top, below the bound, and the node of their results. */
+static uint32_t expand_families(call c, uint32_t bound, WORDS) {
     size_t group = group_of(c, cache);
     uint32_t known = recall(cache, group, *count, c);
     if (known < FULL) return known;
     uint32_t ptop = top_of(nodes, c.p), qtop = top_of(nodes, c.q), level = larger(ptop, qtop);
-    if (level == 0 || limit <= level) return DAMAGED;
+    if (level == 0 || bound <= level) return DAMAGED;
     sides p = cofactors_at(nodes, *count, c.p, ptop, level), q = cofactors_at(nodes, *count, c.q, qtop, level);
     if (p.broken || q.broken) return DAMAGED;
     uint32_t zero = apply((call){c.op, p.zero, q.zero}, level, HAND_ON);
@@ -231,7 +233,7 @@ static void roll_back(words nodes, words lookup, uint32_t kept, uint32_t count) 
 
 /* Ends a call: a handle stays; after a refusal everything is as before, and the cache is 0. */
 static zdd_placed finish(zdd_store s, uint32_t held, uint32_t result, words nodes, words lookup, words cache) {
-    if (result < FULL) return (zdd_placed){{s.capacity, held}, 0, result};
+    if (result < FULL) return (zdd_placed){{s.capacity, held, s.limit}, 0, result};
     roll_back(nodes, lookup, s.count, held);
     zero_groups(cache);
     return refused(s, result == FULL ? ZDD_FULL : ZDD_DAMAGED);
@@ -240,10 +242,10 @@ static zdd_placed finish(zdd_store s, uint32_t held, uint32_t result, words node
 static zdd_placed item_call(uint32_t op, STORE, CACHE, uint32_t p, uint32_t item) {
     if (!fits(s, node_words, lookup_words)) return refused(s, ZDD_DAMAGED);
     if (!holds(s, p)) return refused(s, ZDD_HANDLE);
-    if (item == 0 || ZDD_LARGEST_ITEM < item) return refused(s, ZDD_ITEM);
+    if (item == 0 || s.limit < item) return refused(s, ZDD_ITEM);
     LENT;
     uint32_t held = s.count, level = top_of(nodes, p);
-    if (ZDD_LARGEST_ITEM < level) return refused(s, ZDD_DAMAGED);
+    if (s.limit < level) return refused(s, ZDD_DAMAGED);
     uint32_t result = restrict_to(op, p, item, level, s.capacity, &held, nodes, lookup, cache);
     return finish(s, held, result, nodes, lookup, cache);
 }
@@ -266,14 +268,15 @@ CALL(plain_union, family_call, UNION)
 CALL(plain_intsec, family_call, INTSEC)
 CALL(plain_diff, family_call, DIFF)
 
-zdd_freshened plain_fresh(uint32_t *nodes, size_t node_words, uint32_t *lookup, size_t lookup_words, CACHE) {
+zdd_freshened plain_fresh(uint32_t *nodes, size_t node_words, uint32_t *lookup, size_t lookup_words, CACHE, uint32_t limit) {
     uint32_t capacity = capacity_of(node_words);
-    if (node_words < 3) return (zdd_freshened){{0, 0}, ZDD_TINY};
-    if (lookup_words <= capacity) return (zdd_freshened){{0, 0}, ZDD_SHORT_LOOKUP};
+    if (node_words < 3) return (zdd_freshened){{0, 0, 0}, ZDD_TINY};
+    if (lookup_words <= capacity) return (zdd_freshened){{0, 0, 0}, ZDD_SHORT_LOOKUP};
+    if (!is_limit(limit)) return (zdd_freshened){{0, 0, 0}, ZDD_ITEM};
     memset(nodes, 0, 3 * (size_t)capacity * sizeof *nodes);
     memset(lookup, 0, lookup_words * sizeof *lookup);
     zero_groups((words){cache_at, cache_words});
-    return (zdd_freshened){{capacity, 0}, 0};
+    return (zdd_freshened){{capacity, 0, limit}, 0};
 }
 
 /* ---- Has ---- */
@@ -385,7 +388,7 @@ static bool write_parts(trail t, words nodes, uint32_t count, words links, uint8
 
 static zdd_saved save_parts(zdd_store s, words nodes, uint32_t p, words links, uint8_t *out, size_t out_bytes) {
     uint32_t top = top_of(nodes, p);
-    if (ZDD_LARGEST_ITEM < top) return (zdd_saved){s, ZDD_DAMAGED, 0};
+    if (s.limit < top) return (zdd_saved){s, ZDD_DAMAGED, 0};
     memset(links.at, 0, s.count * sizeof *links.at);
     trail t = {0, 1, 0, 0, 5};
     if (!descend(p, top, nodes, s.count, &t, links)) return (zdd_saved){s, ZDD_DAMAGED, 0};

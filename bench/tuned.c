@@ -34,8 +34,10 @@ static uint32_t capacity_of(size_t node_words) {
     return node_words / 3 < ZDD_LARGEST_CAPACITY ? (uint32_t)(node_words / 3) : ZDD_LARGEST_CAPACITY;
 }
 
+static bool is_limit(uint32_t limit) { return 1 <= limit && limit <= ZDD_LARGEST_ITEM; }
+
 static bool fits(zdd_store s, size_t node_words, size_t lookup_words) {
-    return s.capacity == capacity_of(node_words) && s.capacity < lookup_words && s.count <= s.capacity;
+    return s.capacity == capacity_of(node_words) && s.capacity < lookup_words && s.count <= s.capacity && is_limit(s.limit);
 }
 
 static bool holds(zdd_store s, uint32_t p) { return p < 2 || p - 2 < s.count; }
@@ -171,7 +173,7 @@ static void open_store(context *c, zdd_store s, uint32_t *nodes, uint32_t *looku
 
 /* The end of a call that places: after no room everything is as before, and the cache is 0. */
 static zdd_placed placed(context *c, zdd_store s, uint32_t handle, CACHE) {
-    if (handle != NO_ROOM) return (zdd_placed){{s.capacity, c->count}, 0, handle};
+    if (handle != NO_ROOM) return (zdd_placed){{s.capacity, c->count, s.limit}, 0, handle};
     take_back(c, s.count);
     zero_groups(cache, cache_words);
     return refused(s, ZDD_FULL);
@@ -180,7 +182,7 @@ static zdd_placed placed(context *c, zdd_store s, uint32_t handle, CACHE) {
 static inline zdd_placed item_call(uint32_t op, STORE, CACHE, uint32_t p, uint32_t item) {
     if (!fits(s, node_words, lookup_words)) return refused(s, ZDD_DAMAGED);
     if (!holds(s, p)) return refused(s, ZDD_HANDLE);
-    if (item - 1 >= ZDD_LARGEST_ITEM) return refused(s, ZDD_ITEM);
+    if (item - 1 >= s.limit) return refused(s, ZDD_ITEM);
     context c;
     open_store(&c, s, nodes, lookup, lookup_words, cache, cache_words);
     return placed(&c, s, of_item(&c, op, p, item), cache, cache_words);
@@ -204,14 +206,15 @@ CALL(tuned_union, family_call, UNION)
 CALL(tuned_intsec, family_call, INTSEC)
 CALL(tuned_diff, family_call, DIFF)
 
-zdd_freshened tuned_fresh(uint32_t *nodes, size_t node_words, uint32_t *lookup, size_t lookup_words, CACHE) {
+zdd_freshened tuned_fresh(uint32_t *nodes, size_t node_words, uint32_t *lookup, size_t lookup_words, CACHE, uint32_t limit) {
     uint32_t capacity = capacity_of(node_words);
-    if (node_words < 3) return (zdd_freshened){{0, 0}, ZDD_TINY};
-    if (lookup_words <= capacity) return (zdd_freshened){{0, 0}, ZDD_SHORT_LOOKUP};
+    if (node_words < 3) return (zdd_freshened){{0, 0, 0}, ZDD_TINY};
+    if (lookup_words <= capacity) return (zdd_freshened){{0, 0, 0}, ZDD_SHORT_LOOKUP};
+    if (!is_limit(limit)) return (zdd_freshened){{0, 0, 0}, ZDD_ITEM};
     memset(nodes, 0, 3 * (size_t)capacity * sizeof *nodes);
     memset(lookup, 0, lookup_words * sizeof *lookup);
     zero_groups(cache, cache_words);
-    return (zdd_freshened){{capacity, 0}, 0};
+    return (zdd_freshened){{capacity, 0, limit}, 0};
 }
 
 /* ---- Size and Has ---- */
@@ -407,9 +410,10 @@ zdd_placed tuned_load(STORE, CACHE, const uint8_t *file, size_t file_bytes, uint
     if (file_bytes == 1 && (file[0] == 0 || file[0] == 2)) return (zdd_placed){s, 0, file[0] / 2};
     if (file_bytes == 0 || file[0] != 1) return refused(s, ZDD_NO_FILE);
     context table, c;
-    open_store(&table, (zdd_store){(uint32_t)file_bytes, 0}, scratch, scratch + 3 * file_bytes, 2 * file_bytes, NULL, 0);
+    open_store(&table, (zdd_store){(uint32_t)file_bytes, 0, s.limit}, scratch, scratch + 3 * file_bytes, 2 * file_bytes, NULL, 0);
     uint32_t parts = read_parts((input){file, file + file_bytes}, &table);
     if (parts == 0) return refused(s, ZDD_NO_FILE);
+    if (s.limit < top_of(&table, parts + 1)) return refused(s, ZDD_ABOVE_LIMIT);
     open_store(&c, s, nodes, lookup, lookup_words, cache, cache_words);
     return placed(&c, s, place_parts(&c, &table, scratch + 5 * file_bytes, parts), cache, cache_words);
 }
@@ -417,10 +421,10 @@ zdd_placed tuned_load(STORE, CACHE, const uint8_t *file, size_t file_bytes, uint
 /* ---- Audit ---- */
 
 /* Whether the words of node k + 2 obey the rules of a node and its number stands where their search ends. */
-static bool obeys(const context *c, uint32_t k) {
+static bool obeys(const context *c, uint32_t limit, uint32_t k) {
     const uint32_t *node = c->nodes + 3 * (size_t)k;
     uint32_t item = node[0], zero = node[1], one = node[2];
-    if (item > ZDD_LARGEST_ITEM || one == 0 || zero > k + 1 || one > k + 1) return false;
+    if (item > limit || one == 0 || zero > k + 1 || one > k + 1) return false;
     if (item <= top_of(c, zero) || item <= top_of(c, one)) return false;
     uint32_t slot = start_slot(c, item, zero, one), left = c->slots;
     while (left > 0 && c->lookup[slot] - 2 < k && !same(node_at(c, c->lookup[slot]), item, zero, one))
@@ -428,9 +432,9 @@ static bool obeys(const context *c, uint32_t k) {
     return left > 0 && c->lookup[slot] == k + 2;
 }
 
-static bool all_obey(const context *c) {
+static bool all_obey(const context *c, uint32_t limit) {
     for (uint32_t k = 0; k < c->count; k++)
-        if (!obeys(c, k)) return false;
+        if (!obeys(c, limit, k)) return false;
     return true;
 }
 
@@ -448,5 +452,5 @@ zdd_audited tuned_audit(READ, CACHE) {
     if (used(nodes + 3 * (size_t)s.count, 3 * (size_t)(s.capacity - s.count)) != 0) return (zdd_audited){s, false};
     context c;
     open_store(&c, s, (uint32_t *)nodes, (uint32_t *)lookup, lookup_words, cache, cache_words);
-    return (zdd_audited){s, all_obey(&c)};
+    return (zdd_audited){s, all_obey(&c, s.limit)};
 }

@@ -1,5 +1,6 @@
-/* Builds a family in one store, saves it, loads the file in a store of another size, saves it there and compares the
- * bytes. Ends with status 0 exactly when they are equal. */
+/* A pocket tester with the items 1 to 64 and final test with 512, each with a store of its own. A family of each goes to
+ * the other as a file, loaded and saved again; a file with an item above 64 is refused by the pocket tester. Ends with
+ * status 0 exactly when the bytes are equal both ways, that refusal is 13, and both stores are sound. */
 #include <stdio.h>
 #include <stdlib.h>
 #include <string.h>
@@ -29,12 +30,12 @@ static void *lend(size_t count, size_t width) {
     return words;
 }
 
-static shelf open_shelf(size_t capacity, size_t cache_words) {
-    shelf s = {{0, 0}, 3 * capacity, 2 * capacity + 1, cache_words, NULL, NULL, NULL};
+static shelf open_shelf(size_t capacity, size_t cache_words, uint32_t limit) {
+    shelf s = {{0, 0, 0}, 3 * capacity, 2 * capacity + 1, cache_words, NULL, NULL, NULL};
     s.nodes = lend(s.node_words, sizeof *s.nodes);
     s.lookup = lend(s.lookup_words, sizeof *s.lookup);
     s.cache = lend(s.cache_words, sizeof *s.cache);
-    zdd_freshened fresh = zdd_fresh(ALL_WORDS(&s));
+    zdd_freshened fresh = zdd_fresh(ALL_WORDS(&s), limit);
     if (fresh.refusal) stop("Fresh", fresh.refusal);
     s.record = fresh.store;
     return s;
@@ -81,33 +82,52 @@ static uint8_t *save(const shelf *s, uint32_t family, size_t *length) {
     return out;
 }
 
-static uint32_t load(shelf *s, const uint8_t *file, size_t length) {
+static zdd_placed load(shelf *s, const uint8_t *file, size_t length) {
     uint32_t *scratch = lend(6 * length, sizeof *scratch);
     zdd_placed placed = zdd_load(s->record, ALL_WORDS(s), file, length, scratch, 6 * length);
     free(scratch);
-    return handle_of(s, "Load", placed);
+    return placed;
 }
 
-int main(void) {
-    const uint32_t first[] = {1, 2}, second[] = {2, 7, 512}, third[] = {40};
-    shelf a = open_shelf(100, 256), b = open_shelf(5000, 0);
-    uint32_t family = add(&a, add(&a, add(&a, zdd_empty(), first, 2), second, 3), third, 1);
-    printf("built handle %u with %llu members, %u nodes held\n", (unsigned)family,
-           (unsigned long long)size_of(&a, family), (unsigned)a.record.count);
+/* Whether a family of one store, loaded in the other and saved there, has the same bytes. */
+static bool travels(const shelf *from, uint32_t family, shelf *to) {
     size_t length = 0, again = 0;
-    uint8_t *file = save(&a, family, &length);
-    printf("saved %zu bytes\n", length);
-    uint32_t other = add(&b, zdd_base(), third, 1);
-    uint32_t loaded = load(&b, file, length);
-    printf("loaded as handle %u beside handle %u, %u nodes held\n", (unsigned)loaded, (unsigned)other,
-           (unsigned)b.record.count);
-    uint8_t *copy = save(&b, loaded, &again);
+    uint8_t *file = save(from, family, &length);
+    uint32_t loaded = handle_of(to, "Load", load(to, file, length));
+    uint8_t *copy = save(to, loaded, &again);
     bool same = length == again && memcmp(file, copy, length) == 0;
-    bool sound = zdd_audit(b.record, ALL_WORDS(&b)).sound;
-    printf("saved again %zu bytes: %s; the store is %s\n", again, same ? "equal" : "NOT EQUAL", sound ? "sound" : "NOT SOUND");
+    printf("limit %u to %u: handle %u with %llu members, %zu bytes; there handle %u, %zu bytes: %s\n",
+           (unsigned)from->record.limit, (unsigned)to->record.limit, (unsigned)family,
+           (unsigned long long)size_of(from, family), length, (unsigned)loaded, again, same ? "equal" : "NOT EQUAL");
     free(file);
     free(copy);
-    close_shelf(&a);
-    close_shelf(&b);
-    return same && sound ? 0 : 1;
+    return same;
+}
+
+/* Whether the other store refuses the file of a family, since it has an item above its limit. */
+static bool is_above(const shelf *from, uint32_t family, shelf *to) {
+    size_t length = 0;
+    uint8_t *file = save(from, family, &length);
+    uint32_t refusal = load(to, file, length).refusal;
+    printf("limit %u to %u: handle %u: refused with %u\n", (unsigned)from->record.limit, (unsigned)to->record.limit,
+           (unsigned)family, (unsigned)refusal);
+    free(file);
+    return refusal == ZDD_ABOVE_LIMIT;
+}
+
+static bool is_sound(shelf *s) { return zdd_audit(s->record, ALL_WORDS(s)).sound; }
+
+int main(void) {
+    const uint32_t first[] = {1, 2}, second[] = {2, 7, 64}, third[] = {40}, above[] = {3, 65};
+    shelf pocket = open_shelf(100, 256, 64), final = open_shelf(5000, 0, 512);
+    uint32_t seen = add(&pocket, add(&pocket, zdd_empty(), first, 2), second, 3);
+    uint32_t known = add(&final, add(&final, zdd_base(), third, 1), second, 3);
+    uint32_t more = add(&final, known, above, 2);
+    bool there = travels(&pocket, seen, &final), back = travels(&final, known, &pocket);
+    bool refused = is_above(&final, more, &pocket);
+    bool sound = is_sound(&pocket) && is_sound(&final);
+    printf("the stores are %s\n", sound ? "sound" : "NOT SOUND");
+    close_shelf(&pocket);
+    close_shelf(&final);
+    return there && back && refused && sound ? 0 : 1;
 }

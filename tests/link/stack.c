@@ -36,8 +36,12 @@ static uint32_t placed(zdd_placed r) {
     return r.handle;
 }
 
+static zdd_freshened freshened(void) {
+    return zdd_fresh(nodes, 3 * CAPACITY, lookup, 2 * CAPACITY + 1, cache, CACHE_WORDS, ZDD_LARGEST_ITEM);
+}
+
 static void build(void) {
-    store = zdd_fresh(nodes, 3 * CAPACITY, lookup, 2 * CAPACITY + 1, cache, CACHE_WORDS).store;
+    store = freshened().store;
     subsets = 1, singles = 0;
     for (uint32_t item = 1; item <= ZDD_LARGEST_ITEM; item++) {
         subsets = placed(zdd_union(LENT, subsets, placed(zdd_change(LENT, subsets, item))));
@@ -54,14 +58,14 @@ static uint32_t append(uint32_t item, uint32_t zero, uint32_t one) {
 }
 
 static void build_damaged(void) {
-    store = zdd_fresh(nodes, 3 * CAPACITY, lookup, 2 * CAPACITY + 1, cache, CACHE_WORDS).store;
+    store = freshened().store;
     p = append(0, 0, 1), q = 1;
     for (uint32_t item = 1; item <= ZDD_LARGEST_ITEM; item++) p = append(item, p, 1), q = append(item, q, 1);
 }
 
 /* ---- the calls: each gives its refusal ---- */
 
-static uint32_t fresh(void) { return zdd_fresh(nodes, 3 * CAPACITY, lookup, 2 * CAPACITY + 1, cache, CACHE_WORDS).refusal; }
+static uint32_t fresh(void) { return freshened().refusal; }
 static uint32_t subset1(void) { return zdd_subset1(LENT, subsets, 1).refusal; }
 static uint32_t subset0(void) { return zdd_subset0(LENT, subsets, 1).refusal; }
 static uint32_t change(void) { return zdd_change(LENT, filled, 1).refusal; }

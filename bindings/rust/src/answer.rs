@@ -1,7 +1,7 @@
 //! The record and the answers as the library gives them.
 use crate::Refusal;
 
-/// The record of a store: room for so many nodes, and so many held.
+/// The record of a store: room for so many nodes, so many held, and the largest item that they may have.
 #[derive(Clone, Copy, PartialEq, Eq, Debug, Default)]
 #[repr(C)]
 pub struct Record {
@@ -9,13 +9,15 @@ pub struct Record {
     pub capacity: u32,
     /// How many nodes are held.
     pub count: u32,
+    /// The largest item that a family may have, from 1 to 512.
+    pub limit: u32,
 }
 
 /// What Fresh gives.
 #[derive(Clone, Copy, PartialEq, Eq, Debug)]
 #[repr(C)]
 pub struct Freshened {
-    /// The record of the empty store; 0 and 0 where it is refused.
+    /// The record of the empty store; all 0 where it is refused.
     pub store: Record,
     /// 0, or the number of the refusal.
     pub refusal: u32,
@@ -79,7 +81,7 @@ pub struct Audited {
     pub sound: bool,
 }
 
-// The value, or the refusal. A number that is none of the ten, which the library never gives, counts as damage.
+// The value, or the refusal. A number of no refusal, which the library never gives, counts as damage.
 fn told<T>(refusal: u32, value: T) -> Result<T, Refusal> {
     match refusal {
         0 => Ok(value),

@@ -14,8 +14,8 @@ pub struct Words<'a> {
     pub cache: &'a mut [u32],
 }
 
-/// Makes an empty store of the lent words.
-pub fn fresh(w: Words<'_>) -> Freshened {
+/// Makes an empty store of the lent words, for items up to the limit.
+pub fn fresh(w: Words<'_>, limit: u32) -> Freshened {
     // Sound here and below: each pointer comes with its slice's own length, and `&mut` slices do not overlap.
     unsafe {
         raw::zdd_fresh(
@@ -25,6 +25,7 @@ pub fn fresh(w: Words<'_>) -> Freshened {
             w.lookup.len(),
             w.cache.as_mut_ptr(),
             w.cache.len(),
+            limit,
         )
     }
 }

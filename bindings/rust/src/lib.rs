@@ -1,4 +1,5 @@
-//! Families of combinations of the items 1 to 512, kept as zero-suppressed decision diagrams by a proved library.
+//! Families of combinations of the items 1 to 512, kept as zero-suppressed decision diagrams by a proved library. Each
+//! store has its own item limit.
 //!
 //! [`Store`] owns its words and is what most programs want. [`calls`] has the same calls over lent words, with the
 //! record by value, as `include/zdd.h` has them for C.
@@ -6,13 +7,17 @@
 //! ```
 //! use zdd::{Combination, Refusal, Store};
 //!
-//! let mut store = Store::new(100, 64)?;
+//! let mut store = Store::new(100, 64, 512)?;
 //! let one = store.change(Store::BASE, 1)?;
 //! let two = store.change(Store::BASE, 512)?;
 //! let both = store.union(one, two)?;
 //! assert_eq!(store.size(both)?, 2);
 //! assert!(store.has(both, Combination::of([512])?)?);
 //! assert_eq!(store.change(both, 513), Err(Refusal::Item));
+//!
+//! let mut pocket = Store::new(100, 64, 64)?;
+//! assert_eq!(pocket.load(&store.save(one)?)?, pocket.change(Store::BASE, 1)?);
+//! assert_eq!(pocket.load(&store.save(both)?), Err(Refusal::AboveLimit));
 //! # Ok::<(), Refusal>(())
 //! ```
 #![warn(missing_docs)]

@@ -9,6 +9,7 @@ extern "C" {
         lookup_words: usize,
         cache: *mut u32,
         cache_words: usize,
+        limit: u32,
     ) -> Freshened;
     pub fn zdd_empty() -> u32;
     pub fn zdd_base() -> u32;

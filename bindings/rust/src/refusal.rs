@@ -1,4 +1,4 @@
-//! The refusals, by document 01's numbers.
+//! The refusals, by the numbers of documents 01 and 02.
 use std::error::Error;
 use std::fmt;
 
@@ -10,7 +10,7 @@ pub enum Refusal {
     Tiny = 1,
     /// Fresh: lookup length at most the capacity.
     ShortLookup = 2,
-    /// Item 0 or above 512.
+    /// Item 0 or above the store's limit; Fresh: limit 0 or above 512.
     Item = 3,
     /// A handle above count + 1.
     Handle = 4,
@@ -26,18 +26,20 @@ pub enum Refusal {
     NoFile = 9,
     /// The record does not fit the words, or the words are those of no sound store.
     Damaged = 10,
+    /// Load: a good file holds an item above this store's limit.
+    AboveLimit = 13,
 }
 
 impl Refusal {
-    /// The number of document 01's table.
+    /// The number of the refusal.
     pub fn number(self) -> u32 {
         self as u32
     }
 
-    /// The refusal of a number from 1 to 10.
+    /// The refusal of a number, where there is one.
     pub fn of(number: u32) -> Option<Refusal> {
         use Refusal::*;
-        let all = [Tiny, ShortLookup, Item, Handle, Full, Large, Scratch, Output, NoFile, Damaged];
+        let all = [Tiny, ShortLookup, Item, Handle, Full, Large, Scratch, Output, NoFile, Damaged, AboveLimit];
         all.into_iter().find(|refusal| refusal.number() == number)
     }
 }
@@ -55,6 +57,7 @@ impl fmt::Display for Refusal {
             Refusal::Output => "output",
             Refusal::NoFile => "no file",
             Refusal::Damaged => "damaged",
+            Refusal::AboveLimit => "above limit",
         };
         write!(f, "refused with {}: {word}", self.number())
     }

@@ -17,24 +17,23 @@ impl Store {
     /// The handle of {{}}.
     pub const BASE: u32 = 1;
 
-    /// An empty store for so many nodes, with a cache of so many groups. A capacity above 1,000,000 counts as that; 0 is
-    /// refused as `Tiny`.
-    pub fn new(capacity: u32, cache_groups: usize) -> Result<Store, Refusal> {
+    /// An empty store for so many nodes, with a cache of so many groups, for the items from 1 to the limit. A capacity
+    /// above 1,000,000 counts as that; 0 is refused as `Tiny`, and a limit outside 1 to 512 as `Item`.
+    pub fn new(capacity: u32, cache_groups: usize, limit: u32) -> Result<Store, Refusal> {
         let nodes = capacity.min(1_000_000) as usize;
-        Store::with_lengths(3 * nodes, 2 * nodes + 1, cache_groups.saturating_mul(4))
+        Store::with_lengths(3 * nodes, 2 * nodes + 1, cache_groups.saturating_mul(4), limit)
     }
 
-    /// An empty store with so many node, lookup and cache words.
-    pub fn with_lengths(nodes: usize, lookup: usize, cache: usize) -> Result<Store, Refusal> {
+    /// An empty store with so many node, lookup and cache words, for the items from 1 to the limit.
+    pub fn with_lengths(nodes: usize, lookup: usize, cache: usize, limit: u32) -> Result<Store, Refusal> {
         let mut store =
             Store { record: Record::default(), nodes: vec![0; nodes], lookup: vec![0; lookup], cache: vec![0; cache] };
-        store.record =
-            calls::fresh(Words { nodes: &mut store.nodes, lookup: &mut store.lookup, cache: &mut store.cache })
-                .result()?;
+        let words = Words { nodes: &mut store.nodes, lookup: &mut store.lookup, cache: &mut store.cache };
+        store.record = calls::fresh(words, limit).result()?;
         Ok(store)
     }
 
-    /// The record: capacity and count.
+    /// The record: capacity, count and limit.
     pub fn record(&self) -> Record {
         self.record
     }
@@ -92,7 +91,7 @@ impl Store {
         calls::size(self.record, &self.nodes, &self.lookup, p, &mut scratch).result()
     }
 
-    /// Whether the combination is a member of p. Refusal: Handle.
+    /// Whether the combination is a member of p; one with an item above the limit never is. Refusal: Handle.
     pub fn has(&self, p: u32, combination: Combination) -> Result<bool, Refusal> {
         calls::has(self.record, &self.nodes, &self.lookup, p, combination).result()
     }
@@ -107,7 +106,7 @@ impl Store {
         Ok(file)
     }
 
-    /// Places the family of a file, from a store of any size. Refusals: NoFile, Full.
+    /// Places the family of a file, from a store of any size and limit. Refusals: NoFile, AboveLimit, Full.
     pub fn load(&mut self, file: &[u8]) -> Result<u32, Refusal> {
         let mut scratch = vec![0; 6 * file.len()];
         self.placing(|record, words| calls::load(record, words, file, &mut scratch))

@@ -5,9 +5,11 @@ use crate::observe::compare;
 use crate::plain::book::Book;
 use crate::plain::call::{Answer, Call};
 use crate::plain::sound::{book_of, fits, is_sound, is_true};
-use crate::random::Random;
+use crate::random::{limit_of, Random, LIMITS};
 use crate::shelf::{Seen, Shelf};
+use crate::sound_stores::any_sound;
 use crate::tally::Tally;
+use zdd::Record;
 
 // How often Audit said yes and no, and how often another call met a store of each kind.
 #[derive(Default)]
@@ -49,17 +51,18 @@ fn certain(before: &Shelf, after: &Shelf, call: &Call, seen: &Seen) {
     assert_eq!(seen.out, seen.out_before);
 }
 
-// Any answer will do, but a refusal gives nothing and hands the record back as it came.
+// Any answer will do, but a refusal gives nothing and hands the record back as it came; capacity and limit always stay.
 fn unsound(before: &Shelf, after: &Shelf, call: &Call, seen: &Seen) {
     let refusal = seen.answer.refusal;
-    assert!([0, 3, 4, 5, 6, 7, 8, 9, 10].contains(&refusal), "{call:?} gave {refusal}");
+    assert!([0, 3, 4, 5, 6, 7, 8, 9, 10, 13].contains(&refusal), "{call:?} gave {refusal}");
     if refusal != 0 {
         assert_eq!(seen.answer, Answer { refusal, ..Answer::default() }, "{call:?} on {:?}", before.record);
         assert_eq!(after.record, before.record, "{call:?}");
     }
-    assert_eq!(after.record.capacity, before.record.capacity);
     match call {
-        Call::Operation { .. } | Call::Load { .. } => {}
+        Call::Operation { .. } | Call::Load { .. } => {
+            assert_eq!(Record { count: before.record.count, ..after.record }, before.record, "{call:?}")
+        }
         _ => assert_eq!(after.record, before.record, "{call:?}"),
     }
 }
@@ -69,7 +72,7 @@ fn one(rng: &mut Random, store: &Shelf, call: &Call, tallies: &mut Tallies) {
     let mut shelf = store.clone();
     if is_sound(store.record, nodes, lookup) {
         let mut book = book_of(store.record, nodes);
-        if is_true(&book, cache) {
+        if is_true(&book, store.record.limit, cache) {
             return compare(&mut shelf, &mut book, call, cache.len(), rng, &mut tallies.sound);
         }
     }
@@ -83,9 +86,9 @@ fn one(rng: &mut Random, store: &Shelf, call: &Call, tallies: &mut Tallies) {
     }
 }
 
-fn stores(seed: u64, stores: usize, make: fn(&mut Random, &[u32]) -> Shelf) -> Tallies {
-    let mut rng = Random::new(seed);
-    let mut tallies = Tallies::default();
+// What the calls on these stores use: a limit, items up to it, and files of items up to 265.
+fn any_makings(rng: &mut Random, limit: u32) -> Makings {
+    let len = 1 + rng.below(6);
     let files = vec![
         vec![0],
         vec![2],
@@ -94,21 +97,35 @@ fn stores(seed: u64, stores: usize, make: fn(&mut Random, &[u32]) -> Shelf) -> T
         vec![1, 2, 0, 0, 0, 0, 6, 2, 0, 0, 0, 1, 0, 0, 0],
         vec![1, 1, 0, 0, 0, 1, 9, 1],
     ];
-    for _ in 0..stores {
-        let len = 1 + rng.below(6);
-        let makings = Makings { pool: rng.pool(len), files: files.clone() };
-        let store = make(&mut rng, &makings.pool);
-        audit(&mut rng, &store, &mut tallies);
-        let book = Book::with_count(store.record.count.min(20));
-        for _ in 0..12 {
-            let call = any_call(&mut rng, &book, &makings);
-            if !matches!(call, Call::Audit) {
-                one(&mut rng, &store, &call, &mut tallies);
-            }
+    Makings { limit, pool: rng.pool(len, limit), files }
+}
+
+// Audit and twelve other calls, each on the store as it is.
+fn calls_on(rng: &mut Random, store: &Shelf, makings: &Makings, tallies: &mut Tallies) {
+    audit(rng, store, tallies);
+    let book = Book::with_count(store.record.count.min(20));
+    for _ in 0..12 {
+        let call = any_call(rng, &book, makings);
+        if !matches!(call, Call::Audit) {
+            one(rng, store, &call, tallies);
         }
+    }
+}
+
+fn stores(seed: u64, stores: usize, make: fn(&mut Random, u32, &[u32]) -> Shelf) -> Tallies {
+    let mut rng = Random::new(seed);
+    let mut tallies = Tallies::default();
+    for k in 0..stores {
+        let makings = any_makings(&mut rng, limit_of(k));
+        let store = make(&mut rng, makings.limit, &makings.pool);
+        calls_on(&mut rng, &store, &makings, &mut tallies);
     }
     tallies
 }
+
+// A 10 of each kind of call.
+const CERTAIN: &[(&str, &[u32])] =
+    &[("Change", &[10]), ("Union", &[10]), ("Has", &[10]), ("Size", &[10]), ("Save", &[10]), ("Load", &[10])];
 
 #[test]
 fn stores_with_faults() {
@@ -118,11 +135,7 @@ fn stores_with_faults() {
         tallies.audit_yes, tallies.audit_no
     );
     assert!(tallies.audit_yes > 1000 && tallies.audit_no > 10_000);
-    tallies.certain.close(
-        "stores with a certain 10",
-        500,
-        &[("Union", &[10]), ("Has", &[10]), ("Size", &[10]), ("Save", &[10]), ("Load", &[10])],
-    );
+    tallies.certain.close("stores with a certain 10", 500, CERTAIN);
     tallies.unsound.close(
         "unsound stores without a certain 10",
         50,
@@ -141,4 +154,44 @@ fn made_up_stores() {
     assert!(tallies.audit_yes > 1000 && tallies.audit_no > 5000);
     tallies.unsound.close("made-up unsound stores", 50, &[("Union", &[0, 10]), ("Change", &[0])]);
     tallies.sound.close("made-up sound stores", 50, &[("Union", &[0]), ("Save", &[0]), ("Load", &[0])]);
+}
+
+// A sound store but for a limit that is none.
+#[test]
+fn records_with_a_wrong_limit() {
+    let mut rng = Random::new(43);
+    let mut tallies = Tallies::default();
+    for wrong in [0, 513, 514, 1024, 65_537, 1 << 31, u32::MAX - 1, u32::MAX] {
+        for limit in LIMITS {
+            for _ in 0..20 {
+                let makings = any_makings(&mut rng, limit);
+                let (mut store, _) = any_sound(&mut rng, limit, &makings.pool, 12);
+                store.record.limit = wrong;
+                calls_on(&mut rng, &store, &makings, &mut tallies);
+            }
+        }
+    }
+    assert_eq!(tallies.audit_yes, 0);
+    tallies.certain.close("records with a wrong limit", 100, CERTAIN);
+}
+
+// A sound store whose record has the largest item for its limit stays sound; with one less it is not.
+#[test]
+fn limits_about_the_largest_item() {
+    let mut rng = Random::new(44);
+    let mut tallies = Tallies::default();
+    for k in 0..800 {
+        let makings = any_makings(&mut rng, limit_of(k));
+        let (mut store, _) = any_sound(&mut rng, makings.limit, &makings.pool, 12);
+        let held = 3 * store.record.count as usize;
+        let Some(top) = store.nodes.words()[..held].iter().step_by(3).copied().max() else { continue };
+        for (limit, sound) in [(top, true), (top - 1, false)] {
+            store.record.limit = limit;
+            assert_eq!(is_sound(store.record, store.nodes.words(), store.lookup.words()), sound);
+            calls_on(&mut rng, &store, &makings, &mut tallies);
+        }
+    }
+    assert!(tallies.audit_yes > 100 && tallies.audit_no > 100);
+    tallies.sound.close("stores with an item at the limit", 20, &[("Change", &[0, 3]), ("Load", &[0, 13])]);
+    tallies.unsound.close("stores with an item just above the limit", 0, &[]);
 }

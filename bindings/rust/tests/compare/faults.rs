@@ -6,31 +6,31 @@ use crate::shelf::Shelf;
 use crate::sound_stores::{any_nodes, any_sound};
 use zdd::Record;
 
-fn small(rng: &mut Random, count: u32) -> u32 {
-    let near = rng.below((count as usize).min(40) + 4) as u32;
+fn small(rng: &mut Random, record: &Record) -> u32 {
+    let near = rng.below((record.count as usize).min(40) + 4) as u32;
     let any = rng.word();
-    rng.pick(&[near, near, near, 0, 1, 512, 513, any, u32::MAX])
+    rng.pick(&[near, near, near, 0, 1, record.limit, record.limit.wrapping_add(1), 512, 513, any, u32::MAX])
 }
 
 // One fault in the words, the record or the lengths; some leave the store sound.
 fn fault(rng: &mut Random, record: &mut Record, nodes: &mut Vec<u32>, lookup: &mut Vec<u32>, cache: &mut [u32]) {
     let held = (3 * record.count as usize).min(nodes.len());
-    match rng.below(14) {
+    match rng.below(15) {
         0..=2 if held > 0 => {
             let at = rng.below(held);
             nodes[at] = if rng.once_in(2) {
-                small(rng, record.count)
+                small(rng, record)
             } else {
                 nodes[at].wrapping_add(1).wrapping_sub(2 * rng.below(2) as u32)
             };
         }
         3 if !nodes.is_empty() => {
             let at = rng.below(nodes.len());
-            nodes[at] = small(rng, record.count);
+            nodes[at] = small(rng, record);
         }
         4..=5 if !lookup.is_empty() => {
             let at = rng.below(lookup.len());
-            lookup[at] = small(rng, record.count);
+            lookup[at] = small(rng, record);
         }
         6 if !lookup.is_empty() => {
             let (a, b) = (rng.below(lookup.len()), rng.below(lookup.len()));
@@ -60,12 +60,16 @@ fn fault(rng: &mut Random, record: &mut Record, nodes: &mut Vec<u32>, lookup: &m
                 u32::MAX,
             ])
         }
-        10 if !cache.is_empty() => cache[rng.below(cache.len())] = small(rng, record.count),
-        11 => {
+        10 => {
+            let (less, more, any) = (record.limit.wrapping_sub(1), record.limit.wrapping_add(1), rng.word());
+            record.limit = rng.pick(&[less, less, more, 0, 1, 512, 513, any, u32::MAX])
+        }
+        11 if !cache.is_empty() => cache[rng.below(cache.len())] = small(rng, record),
+        12 => {
             let len = rng.about(nodes.len());
             nodes.resize(len, 0);
         }
-        12 => {
+        13 => {
             let len = rng.about(lookup.len());
             lookup.resize(len, 0);
         }
@@ -74,8 +78,8 @@ fn fault(rng: &mut Random, record: &mut Record, nodes: &mut Vec<u32>, lookup: &m
 }
 
 /// A sound store with one to three faults; at times the lookup is entered anew, so that only the nodes are at fault.
-pub fn faulty(rng: &mut Random, pool: &[u32]) -> Shelf {
-    let (shelf, _) = any_sound(rng, pool, 12);
+pub fn faulty(rng: &mut Random, limit: u32, pool: &[u32]) -> Shelf {
+    let (shelf, _) = any_sound(rng, limit, pool, 12);
     let mut record = shelf.record;
     let (mut nodes, mut lookup, mut cache) =
         (shelf.nodes.words().to_vec(), shelf.lookup.words().to_vec(), shelf.cache.words().to_vec());
@@ -88,8 +92,9 @@ pub fn faulty(rng: &mut Random, pool: &[u32]) -> Shelf {
     Shelf::new(record, &nodes, &lookup, &cache)
 }
 
-/// A store of random words that look like nodes, with the lookup of those.
-pub fn made_up(rng: &mut Random, pool: &[u32]) -> Shelf {
+/// A store of random words that look like nodes, at times with an item above the limit, with the lookup of those.
+pub fn made_up(rng: &mut Random, limit: u32, pool: &[u32]) -> Shelf {
+    let pool = &if rng.once_in(4) { [pool, &[limit + 1]].concat() } else { pool.to_vec() };
     let capacity = 1 + rng.below(10);
     let count = rng.below(capacity + 1);
     let mut nodes = if rng.once_in(2) { any_nodes(rng, count, pool) } else { Vec::new() };
@@ -99,5 +104,5 @@ pub fn made_up(rng: &mut Random, pool: &[u32]) -> Shelf {
     }
     let lookup = entered(&nodes, capacity + 1 + rng.below(9));
     nodes.resize(3 * capacity, 0);
-    Shelf::new(Record { capacity: capacity as u32, count: count as u32 }, &nodes, &lookup, &[0; 32])
+    Shelf::new(Record { capacity: capacity as u32, count: count as u32, limit }, &nodes, &lookup, &[0; 32])
 }

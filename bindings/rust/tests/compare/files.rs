@@ -2,9 +2,9 @@
 use crate::observe::compare;
 use crate::plain::book::Book;
 use crate::plain::call::Call;
-use crate::plain::family::Family;
+use crate::plain::family::{top, Family};
 use crate::plain::file::{family_of, file_of};
-use crate::random::Random;
+use crate::random::{limit_of, Random, LIMITS};
 use crate::shelf::Shelf;
 use crate::tally::Tally;
 
@@ -42,17 +42,19 @@ fn random_families_whole_and_damaged() {
     let mut rng = Random::new(11);
     let mut tally = Tally::default();
     let mut still = 0;
-    for _ in 0..1500 {
+    for k in 0..1500 {
         let len = 1 + rng.below(8);
-        let pool = rng.pool(len);
+        let limit = limit_of(k);
+        let pool = rng.pool(len, limit);
         let (nodes, lookup) = (3 * (1 + rng.below(60)), 70 + rng.below(60));
-        let mut shelf = Shelf::fresh(&mut rng, nodes, lookup, 16);
+        let mut shelf = Shelf::fresh(&mut rng, nodes, lookup, 16, limit);
         let mut book = Book::start();
         let before = any_family(&mut rng, &pool, 2);
         let first = Call::Load { file: file_of(&before), scratch: 6 * file_of(&before).len() };
         compare(&mut shelf, &mut book, &first, 16, &mut rng, &mut tally);
         let members = 1 + rng.below(12);
-        let file = file_of(&any_family(&mut rng, &pool, members));
+        let foreign = rng.foreign_pool(len, limit);
+        let file = file_of(&any_family(&mut rng, &foreign, members));
         load(&mut rng, &shelf, &book, file.clone(), &mut tally);
         for _ in 0..20 {
             let other = damaged(&mut rng, file.clone());
@@ -62,7 +64,35 @@ fn random_families_whole_and_damaged() {
     }
     println!("random files: {still} damaged files are the file of another family");
     assert!(still > 100);
-    tally.close("random files, whole and damaged", 100, &[("Load", &[0, 5, 9])]);
+    tally.close("random files, whole and damaged", 100, &[("Load", &[0, 5, 9, 13])]);
+}
+
+// Loads a file in a new store of this limit; gives the file that is saved there, none where the Load is refused.
+fn passed_on(rng: &mut Random, limit: u32, file: &[u8], tally: &mut Tally) -> Option<Vec<u8>> {
+    let mut shelf = Shelf::fresh(rng, 300, 150, 16, limit);
+    let mut book = Book::start();
+    let scratch = 6 * file.len();
+    compare(&mut shelf, &mut book, &Call::Load { file: file.to_vec(), scratch }, 16, rng, tally);
+    let p = book.number(&family_of(file)?)?;
+    let save = Call::Save { p, scratch: book.count() as usize, out: 2000 };
+    compare(&mut shelf, &mut book, &save, 16, rng, tally);
+    Some(shelf.call(&save, 16, rng).answer.file)
+}
+
+#[test]
+fn files_between_stores_of_all_limits() {
+    let mut rng = Random::new(13);
+    let mut tally = Tally::default();
+    for (from, to) in LIMITS.into_iter().flat_map(|from| LIMITS.map(|to| (from, to))) {
+        for _ in 0..20 {
+            let pool = rng.pool(6, from);
+            let family = any_family(&mut rng, &pool, 6);
+            let file = passed_on(&mut rng, from, &file_of(&family), &mut tally).expect("a file within its own limit");
+            let other = passed_on(&mut rng, to, &file, &mut tally);
+            assert_eq!(other, (top(&family) <= to).then_some(file), "from limit {from} to {to}");
+        }
+    }
+    tally.close("files between stores of all limits", 100, &[("Load", &[0, 13]), ("Save", &[0])]);
 }
 
 // Every string of these bytes up to the length, after the front.
@@ -79,9 +109,13 @@ fn every_string(front: &[u8], alphabet: &[u8], length: usize, each: &mut dyn FnM
 fn all_short_files() {
     let mut rng = Random::new(12);
     let mut tally = Tally::default();
-    let shelf = Shelf::fresh(&mut rng, 12, 7, 16);
+    let shelves = [1, 511, 512].map(|limit| Shelf::fresh(&mut rng, 12, 7, 16, limit));
     let book = Book::start();
-    let mut each = |file: &[u8]| load(&mut rng, &shelf, &book, file.to_vec(), &mut tally);
+    let mut each = |file: &[u8]| {
+        for shelf in &shelves {
+            load(&mut rng, shelf, &book, file.to_vec(), &mut tally);
+        }
+    };
     let all: Vec<u8> = (0..=255).collect();
     every_string(&[], &all, 2, &mut each);
     let front = |parts: u8| [1, parts, 0, 0, 0];
@@ -97,5 +131,5 @@ fn all_short_files() {
     every_string(&[1, 2, 0, 0, 0, 0, 2, 2, 0, 0, 0], &[0, 1, 2], 5, &mut each);
     every_string(&[1, 2, 0, 0, 0, 0, 6, 2, 0, 0, 0], &[0, 1, 2, 3], 4, &mut each);
     every_string(&[1, 3, 0, 0, 0, 0, 5, 2, 0, 1, 0, 0, 0], &[0, 2, 3, 4, 6], 6, &mut each);
-    tally.close("all short files", 10, &[("Load", &[0, 9])]);
+    tally.close("all short files", 10, &[("Load", &[0, 9, 13])]);
 }

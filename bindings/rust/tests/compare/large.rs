@@ -1,6 +1,6 @@
 //! A family of many combinations of all 512 items: built by Change and Union, saved, loaded, against the plain words and bytes.
 use crate::plain::book::Book;
-use crate::plain::family::{Combination, Family};
+use crate::plain::family::{top, Combination, Family};
 use crate::plain::file::file_of;
 use crate::plain::words::{entered, node_words};
 use crate::random::Random;
@@ -35,13 +35,14 @@ fn many_combinations() -> Result<(), Refusal> {
     let last = book.place(&family);
     let file = file_of(&family);
     let count = book.count();
-    assert_eq!(Store::new(count - 1, 64)?.load(&file), Err(Refusal::Full));
-    let mut store = Store::new(count, 64)?;
+    assert_eq!(Store::new(count - 1, 64, top(&family))?.load(&file), Err(Refusal::Full));
+    assert_eq!(Store::new(count - 1, 64, top(&family) - 1)?.load(&file), Err(Refusal::AboveLimit));
+    let mut store = Store::new(count, 64, 512)?;
     assert_eq!(store.load(&file), Ok(last));
     let words = node_words(&book);
     assert_eq!(store.nodes(), words);
     assert_eq!(store.lookup(), entered(&words, store.lookup().len()));
-    let mut other = Store::new(1_000_000, 4096)?;
+    let mut other = Store::new(1_000_000, 4096, 512)?;
     let p = built(&mut other, &family)?;
     assert_eq!(other.save(p)?, file);
     assert_eq!((other.size(p)?, store.size(last)?), (1000, 1000));

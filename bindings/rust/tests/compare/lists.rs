@@ -3,12 +3,13 @@ use crate::observe::compare;
 use crate::plain::book::Book;
 use crate::plain::call::Call;
 use crate::plain::file::file_of;
-use crate::random::Random;
+use crate::random::{limit_of, Random};
 use crate::shelf::Shelf;
 use crate::tally::{Tally, OUTCOMES};
 
-/// The items that a list uses, and the files that it may load.
+/// The item limit of a list, the items that it uses, and the files that it may load.
 pub struct Makings {
+    pub limit: u32,
     pub pool: Vec<u32>,
     pub files: Vec<Vec<u8>>,
 }
@@ -22,11 +23,12 @@ fn handle(rng: &mut Random, count: u32) -> u32 {
     }
 }
 
-fn item(rng: &mut Random, pool: &[u32]) -> u32 {
-    if rng.once_in(16) {
-        return rng.pick(&[0, 513, 1, 512, 514, 65_537, u32::MAX]);
+fn item(rng: &mut Random, makings: &Makings) -> u32 {
+    let limit = makings.limit;
+    if rng.once_in(12) {
+        return rng.pick(&[0, 1, limit, limit + 1, limit + 1, limit + 2, 512, 513, limit + 65_536, u32::MAX]);
     }
-    rng.pick(pool)
+    rng.pick(&makings.pool)
 }
 
 /// A call with handles, items, lengths and files that are good as a rule.
@@ -35,7 +37,7 @@ pub fn any_call(rng: &mut Random, book: &Book, makings: &Makings) -> Call {
     let held = count as usize;
     let (p, q) = (handle(rng, count), handle(rng, count));
     match rng.below(16) {
-        0..=4 => Call::Operation { op: rng.pick(&[1, 2, 3, 3, 3]), p, q: item(rng, &makings.pool) },
+        0..=4 => Call::Operation { op: rng.pick(&[1, 2, 3, 3, 3]), p, q: item(rng, makings) },
         5..=9 => Call::Operation { op: rng.pick(&[4, 4, 4, 5, 6]), p, q },
         10 => Call::Size { p, scratch: rng.about(held) },
         11 => Call::Has { p, combination: asked(rng, book, p, makings) },
@@ -52,7 +54,7 @@ pub fn any_call(rng: &mut Random, book: &Book, makings: &Makings) -> Call {
     }
 }
 
-// A member, a member with one item changed, or any combination.
+// A member, a member with one item changed, which may lie above the limit, or any combination.
 fn asked(rng: &mut Random, book: &Book, p: u32, makings: &Makings) -> std::collections::BTreeSet<u32> {
     let members: Vec<_> = book.at(p).map_or(Vec::new(), |f| f.iter().collect());
     let mut c = if members.is_empty() || rng.once_in(4) {
@@ -61,7 +63,8 @@ fn asked(rng: &mut Random, book: &Book, p: u32, makings: &Makings) -> std::colle
         members[rng.below(members.len())].clone()
     };
     if rng.once_in(2) {
-        let v = if rng.once_in(3) { 1 + rng.below(512) as u32 } else { rng.pick(&makings.pool) };
+        let (any, above, near) = (1 + rng.below(512) as u32, 512.min(makings.limit + 1), rng.pick(&makings.pool));
+        let v = rng.pick(&[any, above, near, near]);
         if !c.remove(&v) {
             c.insert(v);
         }
@@ -74,7 +77,7 @@ fn list(rng: &mut Random, capacity: usize, calls: usize, makings: &mut Makings, 
     let lookup = capacity + 1 + rng.below(2 * capacity);
     let cache = rng.pick(&[0, 3, 4, 16, 67, 256]);
     let nodes = 3 * capacity + rng.below(3);
-    let mut shelf = Shelf::fresh(rng, nodes, lookup, cache);
+    let mut shelf = Shelf::fresh(rng, nodes, lookup, cache, makings.limit);
     let mut book = Book::start();
     for _ in 0..calls {
         let call = any_call(rng, &book, makings);
@@ -93,11 +96,13 @@ fn list(rng: &mut Random, capacity: usize, calls: usize, makings: &mut Makings, 
 fn lists(seed: u64, lists: usize, capacity: usize, calls: usize, items: usize) -> Tally {
     let mut rng = Random::new(seed);
     let mut tally = Tally::default();
-    let mut makings = Makings { pool: Vec::new(), files: vec![vec![0], vec![2], vec![], vec![1, 1, 0, 0, 0, 0]] };
+    let files = vec![vec![0], vec![2], vec![], vec![1, 1, 0, 0, 0, 0]];
+    let mut makings = Makings { limit: 1, pool: Vec::new(), files };
     makings.files.resize(24, vec![1, 1, 0, 0, 0, 1, 2, 0]);
-    for _ in 0..lists {
+    for k in 0..lists {
         let len = 1 + rng.below(items);
-        makings.pool = rng.pool(len);
+        makings.limit = limit_of(k);
+        makings.pool = rng.pool(len, makings.limit);
         let room = 1 + rng.below(capacity);
         let steps = 1 + rng.below(calls);
         list(&mut rng, room, steps, &mut makings, &mut tally);
@@ -107,7 +112,7 @@ fn lists(seed: u64, lists: usize, capacity: usize, calls: usize, items: usize) -
 
 #[test]
 fn short_lists_on_small_stores() {
-    lists(1, 4000, 50, 150, 8).close("short lists on small stores", 20, OUTCOMES);
+    lists(1, 5000, 40, 200, 8).close("short lists on small stores", 20, OUTCOMES);
 }
 
 #[test]
@@ -120,6 +125,6 @@ fn stores_of_one_to_three_nodes() {
     lists(3, 1500, 3, 60, 3).close(
         "stores of one to three nodes",
         5,
-        &[("Change", &[0, 3, 4, 5]), ("Subset1", &[0, 5]), ("Union", &[0, 4, 5]), ("Load", &[0, 5, 9])],
+        &[("Change", &[0, 3, 4, 5]), ("Subset1", &[0, 5]), ("Union", &[0, 4, 5]), ("Load", &[0, 5, 9, 13])],
     );
 }

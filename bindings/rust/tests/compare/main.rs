@@ -1,4 +1,4 @@
-//! Comparison runs: every call of the library against the plain implementation of document 01 in `plain`.
+//! Comparison runs: every call of the library against the plain implementation of documents 01 and 02 in `plain`.
 mod damage;
 mod faults;
 mod files;

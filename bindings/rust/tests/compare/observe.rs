@@ -1,6 +1,6 @@
 //! A call on a sound store: the answer, the record and every lent word are those of the plain implementation.
 use crate::plain::book::Book;
-use crate::plain::call::Call;
+use crate::plain::call::{Call, Opening};
 use crate::plain::sound::is_true;
 use crate::plain::words::{entered, node_words};
 use crate::random::Random;
@@ -12,10 +12,11 @@ use zdd::Record;
 pub fn compare(shelf: &mut Shelf, book: &mut Book, call: &Call, lent: usize, rng: &mut Random, tally: &mut Tally) {
     let before = shelf.clone();
     let held = book.count() as usize;
-    let expected = book.answer(before.record.capacity, call);
+    let opening = Opening { capacity: before.record.capacity, limit: before.record.limit };
+    let expected = book.answer(opening, call);
     let seen = shelf.call(call, lent, rng);
     assert_eq!(seen.answer, expected, "the answer of {call:?}");
-    let record = Record { capacity: before.record.capacity, count: book.count() };
+    let record = Record { count: book.count(), ..before.record };
     assert_eq!(shelf.record, record, "the record after {call:?}");
     store_words(&before, shelf, book, call);
     cache_words(&before, shelf, book, call, lent, expected.refusal);
@@ -42,7 +43,7 @@ fn cache_words(before: &Shelf, after: &Shelf, book: &Book, call: &Call, lent: us
     match (call, refusal) {
         (Call::Audit, _) | (_, 5) => assert!(new[..whole].iter().all(|word| *word == 0), "the cache after {call:?}"),
         (Call::Operation { .. } | Call::Load { .. }, 0) => {
-            assert!(is_true(book, &new[..whole]), "the cache after {call:?}")
+            assert!(is_true(book, before.record.limit, &new[..whole]), "the cache after {call:?}")
         }
         _ => assert_eq!(new[..whole], old[..whole], "the cache after {call:?}"),
     }

@@ -1,12 +1,12 @@
 //! The store that owns its words, against the same plain implementation, and its refusals by name.
 use crate::lists::{any_call, Makings};
 use crate::plain::book::Book;
-use crate::plain::call::{Answer, Call};
+use crate::plain::call::{Answer, Call, Opening};
 use crate::plain::file::file_of;
-use crate::random::Random;
+use crate::random::{Random, LIMITS};
 use crate::shelf::record_of;
 use crate::tally::Tally;
-use zdd::{Combination, Refusal, Store};
+use zdd::{Combination, Record, Refusal, Store};
 
 // The call through the store's own methods, which choose scratch and output themselves.
 fn call(store: &mut Store, call: &Call) -> Result<Answer, Refusal> {
@@ -42,57 +42,72 @@ fn with_room(call: Call) -> Call {
 fn lists_on_an_owned_store() {
     let mut rng = Random::new(51);
     let mut tally = Tally::default();
+    let mut files = vec![vec![0], vec![9], vec![0]];
     for _ in 0..400 {
         let len = 1 + rng.below(7);
-        let mut makings = Makings { pool: rng.pool(len), files: vec![vec![0], vec![9]] };
+        let limit = rng.pick(&LIMITS);
+        let mut makings = Makings { limit, pool: rng.pool(len, limit), files };
         let capacity = 1 + rng.below(40) as u32;
-        let mut store = Store::new(capacity, rng.below(20)).expect("a store");
+        let mut store = Store::new(capacity, rng.below(20), limit).expect("a store");
         let mut book = Book::start();
         for _ in 0..60 {
             let each = with_room(any_call(&mut rng, &book, &makings));
-            let expected = book.answer(capacity, &each);
+            let expected = book.answer(Opening { capacity, limit }, &each);
             let seen = call(&mut store, &each)
                 .unwrap_or_else(|refusal| Answer { refusal: refusal.number(), ..Answer::default() });
             assert_eq!(seen, expected, "{each:?}");
-            assert_eq!(store.record().count, book.count());
+            assert_eq!(store.record(), Record { capacity, count: book.count(), limit });
             tally.add(each.name(), expected.refusal);
             let handle = rng.below(book.count() as usize + 2) as u32;
             makings.files[0] = file_of(book.at(handle).expect("held"));
         }
+        files = makings.files;
+        files[2] = files[0].clone();
     }
     tally.close(
         "lists on an owned store",
         10,
-        &[("Union", &[0, 4, 5]), ("Change", &[0, 3, 4, 5]), ("Load", &[0, 9]), ("Save", &[0, 4])],
+        &[("Union", &[0, 4, 5]), ("Change", &[0, 3, 4, 5]), ("Load", &[0, 9, 13]), ("Save", &[0, 4])],
     );
 }
 
 #[test]
 fn refusals_by_name() {
-    assert_eq!(Store::with_lengths(2, 9, 0).err(), Some(Refusal::Tiny));
-    assert_eq!(Store::with_lengths(30, 10, 0).err(), Some(Refusal::ShortLookup));
-    assert_eq!(Store::new(0, 1).err(), Some(Refusal::Tiny));
+    assert_eq!(Store::with_lengths(2, 0, 0, 0).err(), Some(Refusal::Tiny));
+    assert_eq!(Store::with_lengths(30, 10, 0, 513).err(), Some(Refusal::ShortLookup));
+    assert_eq!(Store::with_lengths(30, 11, 0, 513).err(), Some(Refusal::Item));
+    assert_eq!(Store::new(0, 1, 512).err(), Some(Refusal::Tiny));
+    assert_eq!(Store::new(1, 1, 0).err(), Some(Refusal::Item));
     assert_eq!(Combination::of([513]), Err(Refusal::Item));
     assert_eq!(Combination::of([0]), Err(Refusal::Item));
-    for number in 0..=11 {
-        assert_eq!(Refusal::of(number).map(Refusal::number), (1..=10).contains(&number).then_some(number));
+    for number in 0..=16 {
+        let known = (1..=10).contains(&number) || number == 13;
+        assert_eq!(Refusal::of(number).map(Refusal::number), known.then_some(number));
     }
     assert_eq!(Refusal::Full.to_string(), "refused with 5: full");
 }
 
 #[test]
-fn file_from_a_store_of_another_size() -> Result<(), Refusal> {
-    let mut small = Store::new(40, 8)?;
-    let mut large = Store::new(4000, 0)?;
+fn files_between_stores_of_other_sizes_and_limits() -> Result<(), Refusal> {
+    let mut pocket = Store::new(40, 8, 64)?;
+    let mut final_test = Store::new(4000, 0, 512)?;
     let mut p = Store::EMPTY;
-    for item in [1, 2, 33, 512] {
-        let one = small.change(Store::BASE, item)?;
-        p = small.union(p, one)?;
+    for item in [1, 2, 33, 64] {
+        let one = pocket.change(Store::BASE, item)?;
+        p = pocket.union(p, one)?;
     }
-    let file = small.save(p)?;
-    large.change(Store::BASE, 100)?;
-    let q = large.load(&file)?;
-    assert_eq!(large.save(q)?, file);
-    assert_eq!((large.size(q)?, small.size(p)?), (4, 4));
+    let file = pocket.save(p)?;
+    final_test.change(Store::BASE, 100)?;
+    let q = final_test.load(&file)?;
+    assert_eq!(final_test.save(q)?, file);
+    assert_eq!((final_test.size(q)?, pocket.size(p)?), (4, 4));
+    let less = final_test.subset0(q, 33)?;
+    assert_eq!(pocket.load(&final_test.save(less)?)?, pocket.subset0(p, 33)?);
+    let above = final_test.change(q, 65)?;
+    let record = pocket.record();
+    assert_eq!((pocket.load(&final_test.save(above)?), pocket.record()), (Err(Refusal::AboveLimit), record));
+    assert_eq!(pocket.change(p, 65), Err(Refusal::Item));
+    let both = Combination::of([1, 65])?;
+    assert_eq!((final_test.has(above, both), pocket.has(p, both)), (Ok(true), Ok(false)));
     Ok(())
 }

@@ -1,6 +1,14 @@
 //! A small generator of numbers with fixed seeds: every run compares the same cases.
 use crate::plain::family::Combination;
 
+/// The item limits that the runs take: the ends, the edges of a combination's words, the pocket tester's.
+pub const LIMITS: [u32; 8] = [1, 2, 31, 32, 33, 64, 511, 512];
+
+/// These limits in turn.
+pub fn limit_of(turn: usize) -> u32 {
+    LIMITS[turn % LIMITS.len()]
+}
+
 pub struct Random(u64);
 
 impl Random {
@@ -54,14 +62,20 @@ impl Random {
         pool.iter().copied().filter(|_| self.once_in(2)).collect()
     }
 
-    /// So many different items; the ends of the range are likely.
-    pub fn pool(&mut self, len: usize) -> Vec<u32> {
+    /// So many different items up to the limit, or all of them; the ends of the range are likely.
+    pub fn pool(&mut self, len: usize, limit: u32) -> Vec<u32> {
         let mut items = Combination::new();
-        while items.len() < len {
-            let any = 1 + self.below(512) as u32;
-            let near = 1 + self.below(2 * len) as u32;
-            items.insert(self.pick(&[any, near, near, 1, 512]));
+        while items.len() < len.min(limit as usize) {
+            let any = 1 + self.below(limit as usize) as u32;
+            let near = limit.min(1 + self.below(2 * len) as u32);
+            items.insert(self.pick(&[any, near, near, 1, limit]));
         }
         items.into_iter().collect()
+    }
+
+    /// The same for a file from another store, whose limit is this one, one more, or the largest.
+    pub fn foreign_pool(&mut self, len: usize, limit: u32) -> Vec<u32> {
+        let other = self.pick(&[limit, 512.min(limit + 1), 512]);
+        self.pool(len, other)
     }
 }

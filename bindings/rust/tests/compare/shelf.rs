@@ -39,11 +39,11 @@ impl Shelf {
         }
     }
 
-    /// A store that Fresh makes of words of any value.
-    pub fn fresh(rng: &mut Random, nodes: usize, lookup: usize, cache: usize) -> Shelf {
+    /// A store of this limit that Fresh makes of words of any value.
+    pub fn fresh(rng: &mut Random, nodes: usize, lookup: usize, cache: usize, limit: u32) -> Shelf {
         let mut shelf = Shelf::new(Record::default(), &rng.junk(nodes), &rng.junk(lookup), &rng.junk(cache));
         let len = shelf.cache.words().len();
-        shelf.record = calls::fresh(shelf.lend(len)).result().expect("Fresh");
+        shelf.record = calls::fresh(shelf.lend(len), limit).result().expect("Fresh");
         shelf
     }
 

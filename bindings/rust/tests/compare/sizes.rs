@@ -39,7 +39,7 @@ fn expect(store: &Store, p: u32, size: u128) {
 
 #[test]
 fn sizes_about_2_to_the_64() {
-    let mut store = Store::new(3000, 1024).expect("a store");
+    let mut store = Store::new(3000, 1024, 512).expect("a store");
     let all = all_subsets(&mut store, 70);
     for (n, p) in all.iter().enumerate() {
         expect(&store, *p, 1 << n);
@@ -66,7 +66,7 @@ fn sizes_about_2_to_the_64() {
 
 #[test]
 fn long_chain_of_with_sides() {
-    let mut store = Store::new(3000, 1024).expect("a store");
+    let mut store = Store::new(3000, 1024, 512).expect("a store");
     let all = all_subsets(&mut store, 64);
     let mut p = store.diff(all[64], Store::BASE).expect("room");
     let mut q = all[64];

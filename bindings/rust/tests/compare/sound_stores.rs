@@ -7,7 +7,7 @@ use crate::plain::family::named;
 use crate::plain::file::file_of;
 use crate::plain::sound::{book_of, is_sound, is_true};
 use crate::plain::words::entered;
-use crate::random::Random;
+use crate::random::{limit_of, Random};
 use crate::shelf::Shelf;
 use crate::tally::{Tally, OUTCOMES};
 use zdd::Record;
@@ -47,8 +47,8 @@ fn any_cache(rng: &mut Random, book: &Book, pool: &[u32], len: usize) -> Vec<u32
     cache
 }
 
-/// A sound store with its book.
-pub fn any_sound(rng: &mut Random, pool: &[u32], most: usize) -> (Shelf, Book) {
+/// A sound store of this limit, with its book.
+pub fn any_sound(rng: &mut Random, limit: u32, pool: &[u32], most: usize) -> (Shelf, Book) {
     let count = rng.below(most + 1);
     let mut nodes = any_nodes(rng, count, pool);
     let count = nodes.len() / 3;
@@ -58,11 +58,11 @@ pub fn any_sound(rng: &mut Random, pool: &[u32], most: usize) -> (Shelf, Book) {
     nodes.resize(3 * capacity, 0);
     let spare = rng.below(3);
     nodes.extend(rng.junk(spare));
-    let record = Record { capacity: capacity as u32, count: count as u32 };
+    let record = Record { capacity: capacity as u32, count: count as u32, limit };
     let book = book_of(record, &nodes);
     let len = rng.pick(&[0, 4, 17, 64]);
     let cache = any_cache(rng, &book, pool, len);
-    assert!(is_sound(record, &nodes, &lookup) && is_true(&book, &cache));
+    assert!(is_sound(record, &nodes, &lookup) && is_true(&book, limit, &cache));
     (Shelf::new(record, &nodes, &lookup, &cache), book)
 }
 
@@ -70,12 +70,14 @@ pub fn any_sound(rng: &mut Random, pool: &[u32], most: usize) -> (Shelf, Book) {
 fn sound_stores_in_any_order() {
     let mut rng = Random::new(31);
     let mut tally = Tally::default();
-    for _ in 0..2500 {
+    for k in 0..2500 {
         let len = 1 + rng.below(7);
-        let pool = rng.pool(len);
-        let (mut shelf, mut book) = any_sound(&mut rng, &pool, 25);
-        let file = file_of(&any_family(&mut rng, &pool, 6));
-        let makings = Makings { pool, files: vec![file.clone(), damaged(&mut rng, file)] };
+        let limit = limit_of(k);
+        let pool = rng.pool(len, limit);
+        let (mut shelf, mut book) = any_sound(&mut rng, limit, &pool, 25);
+        let foreign = rng.foreign_pool(len, limit);
+        let file = file_of(&any_family(&mut rng, &foreign, 6));
+        let makings = Makings { limit, pool, files: vec![file.clone(), damaged(&mut rng, file)] };
         for _ in 0..20 {
             let call = any_call(&mut rng, &book, &makings);
             let cache = shelf.cache.words().len();
@@ -89,11 +91,12 @@ fn sound_stores_in_any_order() {
 fn stores_of_capacity_0() {
     let mut rng = Random::new(32);
     let mut tally = Tally::default();
-    let makings = Makings { pool: vec![1, 512], files: vec![vec![0], vec![2], vec![1, 1, 0, 0, 0, 0], vec![]] };
-    for nodes in 0..3 {
-        for lookup in 1..4 {
-            let words = rng.junk(nodes);
-            let mut shelf = Shelf::new(Record::default(), &words, &vec![0; lookup], &[0; 9]);
+    let files = vec![vec![0], vec![2], vec![1, 1, 0, 0, 0, 0], vec![1, 1, 0, 0, 0, 1, 65, 0], vec![]];
+    for limit in [1, 64, 512] {
+        let makings = Makings { limit, pool: vec![1, limit], files: files.clone() };
+        for (nodes, lookup) in [(0, 1), (0, 3), (1, 1), (1, 2), (2, 1), (2, 3)] {
+            let record = Record { limit, ..Record::default() };
+            let mut shelf = Shelf::new(record, &rng.junk(nodes), &vec![0; lookup], &[0; 9]);
             let mut book = Book::start();
             for _ in 0..300 {
                 let call = any_call(&mut rng, &book, &makings);
@@ -101,5 +104,5 @@ fn stores_of_capacity_0() {
             }
         }
     }
-    tally.close("stores of capacity 0", 1, &[("Audit", &[0]), ("Change", &[0, 3, 4, 5]), ("Load", &[0, 5, 9])]);
+    tally.close("stores of capacity 0", 1, &[("Audit", &[0]), ("Change", &[0, 3, 4, 5]), ("Load", &[0, 5, 9, 13])]);
 }

@@ -13,7 +13,7 @@ fn the_header_has_the_same_number() {
 
 // All subsets of the items 1 to 512, saved and loaded.
 fn deep() -> Result<(), Refusal> {
-    let mut store = Store::new(10_000, 4_096)?;
+    let mut store = Store::new(10_000, 4_096, 512)?;
     let mut subsets = Store::BASE;
     for item in 1..=512 {
         let with = store.change(subsets, item)?;

@@ -4,7 +4,7 @@ use zdd::Store;
 
 #[test]
 fn worked_store() -> Result<(), zdd::Refusal> {
-    let mut store = Store::with_lengths(12, 7, 16)?;
+    let mut store = Store::with_lengths(12, 7, 16, 512)?;
     assert_eq!(store.record().capacity, 4);
     assert_eq!(store.change(1, 1), Ok(2));
     assert_eq!((&store.nodes()[..3], store.lookup()[1]), (&[1, 0, 1][..], 2));

@@ -1,7 +1,14 @@
 //! 'Calls' and 'Numbers and trade words': the answer of each call, worked out from the book.
 use super::book::Book;
-use super::family::{named, Combination, Family};
+use super::family::{named, top, Combination, Family};
 use super::file::{family_of, file_of};
+
+/// What Fresh made of its arguments: room for so many nodes, and the largest item.
+#[derive(Clone, Copy)]
+pub struct Opening {
+    pub capacity: u32,
+    pub limit: u32,
+}
 
 /// A call with its arguments; scratch and output by their lengths.
 #[derive(Clone, Debug)]
@@ -44,12 +51,12 @@ impl Call {
 }
 
 impl Book {
-    /// The answer to a call in a store of this capacity; the book then is the one after the call.
-    pub fn answer(&mut self, capacity: u32, call: &Call) -> Answer {
+    /// The answer to a call in a store so opened; the book then is the one after the call.
+    pub fn answer(&mut self, opening: Opening, call: &Call) -> Answer {
         let held = self.count() as usize;
         match call {
-            Call::Operation { op, p, q } => self.operation(capacity, *op, *p, *q),
-            Call::Load { file, scratch } => self.load(capacity, file, *scratch),
+            Call::Operation { op, p, q } => self.operation(opening, *op, *p, *q),
+            Call::Load { file, scratch } => self.load(opening, file, *scratch),
             Call::Audit => Answer { yes: true, ..Answer::default() },
             Call::Has { p, combination } => match self.at(*p) {
                 None => refused(4),
@@ -68,10 +75,10 @@ impl Book {
         }
     }
 
-    fn operation(&mut self, capacity: u32, op: u32, p: u32, q: u32) -> Answer {
+    fn operation(&mut self, opening: Opening, op: u32, p: u32, q: u32) -> Answer {
         let Some(first) = self.at(p) else { return refused(4) };
         let f = if op < 4 {
-            if q == 0 || q > 512 {
+            if q == 0 || q > opening.limit {
                 return refused(3);
             }
             named(op, first, q, &Family::new())
@@ -79,16 +86,17 @@ impl Book {
             let Some(second) = self.at(q) else { return refused(4) };
             named(op, first, 0, second)
         };
-        self.placed(capacity, &f)
+        self.placed(opening.capacity, &f)
     }
 
-    fn load(&mut self, capacity: u32, file: &[u8], scratch: usize) -> Answer {
+    fn load(&mut self, opening: Opening, file: &[u8], scratch: usize) -> Answer {
         if scratch < 6 * file.len() {
             return refused(7);
         }
         match family_of(file) {
             None => refused(9),
-            Some(f) => self.placed(capacity, &f),
+            Some(f) if top(&f) > opening.limit => refused(13),
+            Some(f) => self.placed(opening.capacity, &f),
         }
     }
 

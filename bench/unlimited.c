@@ -1,0 +1,87 @@
+/* The calls of an earlier library whose record has no limit (before request 6), as this header has them, for `bench/run REVISION`:
+ * each hands on the record without its limit and puts the limit back, some nanoseconds a call. Its stores take all items. */
+#include "../include/zdd.h"
+
+/* ---- the earlier library, whose names `bench/run` gives a prefix ---- */
+
+typedef struct {
+    uint32_t capacity, count;
+} record;
+
+#define ANSWER(name, fields) typedef struct { record store; fields } name
+ANSWER(freshened, uint32_t refusal;);
+ANSWER(placed, uint32_t refusal; uint32_t handle;);
+ANSWER(measured, uint32_t refusal; uint64_t size;);
+ANSWER(asked, uint32_t refusal; bool member;);
+ANSWER(saved, uint32_t refusal; size_t length;);
+ANSWER(audited, bool sound;);
+
+#define WORDS uint32_t *nodes, size_t node_words, uint32_t *lookup, size_t lookup_words
+#define READ const uint32_t *nodes, size_t node_words, const uint32_t *lookup, size_t lookup_words
+#define CACHE uint32_t *cache, size_t cache_words
+
+freshened unlimited_zdd_fresh(WORDS, CACHE);
+placed unlimited_zdd_load(record, WORDS, CACHE, const uint8_t *, size_t, uint32_t *, size_t);
+measured unlimited_zdd_size(record, READ, uint32_t, uint64_t *, size_t);
+asked unlimited_zdd_has(record, READ, uint32_t, zdd_combination);
+saved unlimited_zdd_save(record, READ, uint32_t, uint32_t *, size_t, uint8_t *, size_t);
+audited unlimited_zdd_audit(record, READ, CACHE);
+
+/* ---- its calls as this header has them ---- */
+
+__typeof__(zdd_fresh) before_zdd_fresh;
+__typeof__(zdd_change) before_zdd_change, before_zdd_subset0;
+__typeof__(zdd_union) before_zdd_union, before_zdd_intsec, before_zdd_diff;
+__typeof__(zdd_load) before_zdd_load;
+__typeof__(zdd_size) before_zdd_size;
+__typeof__(zdd_has) before_zdd_has;
+__typeof__(zdd_save) before_zdd_save;
+__typeof__(zdd_audit) before_zdd_audit;
+
+#define HAND_ON nodes, node_words, lookup, lookup_words
+
+static record less(zdd_store s) { return (record){s.capacity, s.count}; }
+
+static zdd_store more(record r, uint32_t limit) { return (zdd_store){r.capacity, r.count, limit}; }
+
+zdd_freshened before_zdd_fresh(WORDS, CACHE, uint32_t limit) {
+    freshened r = unlimited_zdd_fresh(HAND_ON, cache, cache_words);
+    return (zdd_freshened){more(r.store, limit), r.refusal};
+}
+
+#define OPERATION(name)                                                           \
+    placed unlimited_##name(record, WORDS, CACHE, uint32_t, uint32_t);            \
+    zdd_placed before_##name(zdd_store s, WORDS, CACHE, uint32_t p, uint32_t q) { \
+        placed r = unlimited_##name(less(s), HAND_ON, cache, cache_words, p, q);  \
+        return (zdd_placed){more(r.store, s.limit), r.refusal, r.handle};         \
+    }
+OPERATION(zdd_change)
+OPERATION(zdd_subset0)
+OPERATION(zdd_union)
+OPERATION(zdd_intsec)
+OPERATION(zdd_diff)
+
+zdd_placed before_zdd_load(zdd_store s, WORDS, CACHE, const uint8_t *file, size_t file_bytes, uint32_t *scratch, size_t scratch_words) {
+    placed r = unlimited_zdd_load(less(s), HAND_ON, cache, cache_words, file, file_bytes, scratch, scratch_words);
+    return (zdd_placed){more(r.store, s.limit), r.refusal, r.handle};
+}
+
+zdd_measured before_zdd_size(zdd_store s, READ, uint32_t p, uint64_t *scratch, size_t scratch_words) {
+    measured r = unlimited_zdd_size(less(s), HAND_ON, p, scratch, scratch_words);
+    return (zdd_measured){more(r.store, s.limit), r.refusal, r.size};
+}
+
+zdd_asked before_zdd_has(zdd_store s, READ, uint32_t p, zdd_combination combination) {
+    asked r = unlimited_zdd_has(less(s), HAND_ON, p, combination);
+    return (zdd_asked){more(r.store, s.limit), r.refusal, r.member};
+}
+
+zdd_saved before_zdd_save(zdd_store s, READ, uint32_t p, uint32_t *scratch, size_t scratch_words, uint8_t *out, size_t out_bytes) {
+    saved r = unlimited_zdd_save(less(s), HAND_ON, p, scratch, scratch_words, out, out_bytes);
+    return (zdd_saved){more(r.store, s.limit), r.refusal, r.length};
+}
+
+zdd_audited before_zdd_audit(zdd_store s, READ, CACHE) {
+    audited r = unlimited_zdd_audit(less(s), HAND_ON, cache, cache_words);
+    return (zdd_audited){more(r.store, s.limit), r.sound};
+}
