@@ -80,7 +80,7 @@ module _ {bounds : Bounds} {B : List Family} {call : Call} {n : ℕ} {F : Family
     next-inv C g e =
         record {
           sound = sound-with (part ++ drop lent (x .cache)) (promised .sound)
-              (rw e (joined-true g (x .cache) part lent (P .lengths .2) (promised .rest) (rw (I .book-is) at (I .sound .cached)) (rw e at (promised .sound .cached))));
+              (rw e (joined-true g (x .cache) part lent (P .lengths .2) (promised .rest) (rw (P .limit) (rw (I .book-is) at (I .sound .cached))) (rw e at (promised .sound .cached))));
           book-is = e;
           capacity-is = P .capacity ∙ I .capacity-is;
           limit-is = P .limit ∙ I .limit-is;

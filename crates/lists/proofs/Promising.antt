@@ -111,7 +111,6 @@ module _ (F : Family) {s : Store} {nodes lookup cache : List ℕ} (S : Sound s n
             lengths = (laid-long (S .limit-low) C K (s .capacity) nodes (length lookup) fits room, looked-long (S .limit-low) C K (s .capacity) nodes (length lookup), refl);
             capacity = refl;
             limit = refl;
-          limit = refl;
             refused = λ d. absurd (d refl);
           };
         }

@@ -11,7 +11,6 @@ use Rattle.lists.proofs.Members.{by-members}
 pub demand-3 : Claim
 demand-3 o calls answers x run =
     let R = reached run in
-    let known = λ h. wider (limit-low (R .inv)) (means-within R h) in
     record {
       beginnings = beginnings run;
       answered = as-book R;
@@ -20,7 +19,7 @@ demand-3 o calls answers x run =
       meant = λ h l. ap (λ X. at X h) (held-is R);
       equal = handles-equal R;
       ordered = λ h l. means-within R h;
-      equal-sets = λ h k l m. by-members (known h) (known k) (handles-equal R h k l m);
+      equal-sets = λ h k l m. by-members (wider (limit-low (R .inv)) (means-within R h)) (wider (limit-low (R .inv)) (means-within R k)) (handles-equal R h k l m);
       kept = keeps R;
       lasting = λ more other h l. lasts R more (reached other) h l;
       files = λ other f g m n. filed-equal f g (files-filed R f m) (files-filed (reached other) g n);
