@@ -51,8 +51,8 @@ pub record After (capacity : ℕ) (r : Placed) (nodes lookup cache : List ℕ) (
   pub answer-is : givenBy (r .answer) ≡ lastAnswer a
   pub held : a .full ≡ false → Held (a .book) (a .family)
 
--- The promise of adding a combination to the family of a handle, for a sound store of all items that holds the handle:
--- a line's items go up to the largest.
+-- The promise of adding a combination to the family of a handle, for a sound store that holds the handle and has the
+-- limit of all items, since a line's items go up to it.
 pub record AddCall (s : Store) (nodes lookup cache : List ℕ) (p : ℕ) (c : List ℕ) (r : Placed) (nodes′ lookup′ cache′ : List ℕ) : Type 0 where
   pub on-sound : Sound s nodes lookup cache → s .limit ≡ largestItem → p ≤ s .count + 1
       → After (s .capacity) r nodes′ lookup′ cache′ (added (s .capacity) (bookOf nodes (s .count)) (at (bookOf nodes (s .count)) p) c)
