@@ -34,9 +34,9 @@ fileRefusal bounds B none = 9
 fileRefusal bounds B (some F) = cond (ltb (bounds .limit) (top F)) 13 (cond (tooLarge (bounds .capacity) B F) 5 0)
 
 -- The table, for each call in the order "4, 3, 7, 9, 6, 8, 5", with 13 "after 9 and before 5"; 0 where nothing refuses
--- the call, and never 10: "On a sound store 10 never comes". 3: an item 0 or above "the store's own limit". 7: "scratch shorter than stated", a word per node held for
--- Size and Save, six words per file byte for Load. 6: "size above 18,446,744,073,709,551,615". 8: "output shorter than
--- the file".
+-- the call, and never 10: "On a sound store 10 never comes". 3: an item 0 or above "the store's own limit". 7: "scratch
+-- shorter than stated", a word per node held for Size and Save, six words per file byte for Load. 6: "size above
+-- 18,446,744,073,709,551,615". 8: "output shorter than the file".
 unfoldable pub refusalOf : Bounds → List Family → Call → ℕ
 refusalOf bounds B (Operate op p q) =
     cond (above B p || (not (onItem op) && above B q)) 4 (cond (onItem op && not (isItem (bounds .limit) q)) 3 (cond (tooLarge (bounds .capacity) B (named (numberOf op) B p q)) 5 0))
