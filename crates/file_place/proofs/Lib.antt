@@ -1,2 +1,3 @@
 -- The laws of `file_place`.
+pub mod Tops
 pub mod Placements

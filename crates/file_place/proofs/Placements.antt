@@ -9,7 +9,7 @@ use native.Mathlib.Numerals.{add-one}
 use lib.ListN.{length, getD, set, take, drop, length-set, length-drop, take-append-drop}
 use lib.Seq.{take-suc, take-all, getD-drop, getD-set-same, getD-set-other}
 use borrow.Author.Tests.{lt-ltb, le-ltb}
-use Rattle.family.specs.Family.{Family, empty, node, Within, largestItem}
+use Rattle.family.specs.Family.{Family, empty, node, top, Within, largestItem}
 use Rattle.family.specs.Book.{start, at, add, place, made, Grown}
 use Rattle.family.proofs.Diagrams.{mk-node}
 use Rattle.family.proofs.Books.{add-grown, grown-self, grown-trans, grown-length, grown-at}
@@ -19,14 +19,15 @@ use Rattle.store.specs.declared.record.Store.{Store}
 use Rattle.store.specs.declared.record.Refusal.{Refusal}
 use Rattle.store.specs.declared.record.PlaceAnswer.the-variants.{Handle, Refused}
 use Rattle.store.specs.declared.record.Placed.{Placed}
-use Rattle.store_node.specs.Inner.{NodeIt}
-use Rattle.store.specs.Inner.{Roomy, Holds, Handed, Outcome, gave, Kept}
-use Rattle.store.proofs.Held.{at-0, at-1, within}
+use Rattle.store_node.specs.Inner.{NodeGot}
+use Rattle.store.specs.Inner.{fillIn, Roomy, Holds, Handed, Outcome, gave, Kept}
+use Rattle.store.proofs.Held.{at-0, at-1, held, within}
 use Rattle.store.proofs.Growing.{kept-self, kept-trans, kept-roomy}
 use Rattle.store.proofs.Answers.{handle-is, handed-of, refused-on, not-both}
 use Rattle.store_node.proofs.Getting.{made-inhabited}
 use Rattle.file_table.specs.Inner.{Local, LocalNode, LocalNodes}
 use Rattle.file_place.specs.Inner.{handleIn, Handles, PlacedOf}
+use Rattle.file_place.proofs.Tops.{Tops, own-tops}
 
 -- the handle of a local number
 module _ (b : ℕ) (words : List ℕ) (p : ℕ) where
@@ -39,7 +40,7 @@ module _ (b : ℕ) (words : List ℕ) (p : ℕ) where
   handle-inner l = rw (le-ltb p 2 l)
 
 -- a node made of handles that are equal to these
-pub node-as : {s : Store} {nodes lookup nodes′ lookup′ : List ℕ} {i z o : ℕ} {r : Placed} (z′ o′ : ℕ) → z ≡ z′ → o ≡ o′ → NodeIt s nodes lookup i z o r nodes′ lookup′ → NodeIt s nodes lookup i z′ o′ r nodes′ lookup′
+pub node-as : {s : Store} {nodes lookup nodes′ lookup′ : List ℕ} {i z o : ℕ} {r : Placed} (z′ o′ : ℕ) → z ≡ z′ → o ≡ o′ → NodeGot s nodes lookup i z o r nodes′ lookup′ → NodeGot s nodes lookup i z′ o′ r nodes′ lookup′
 node-as z′ o′ ez eo N = rw (ez, eo) at N
 
 -- a handle stored after k others
@@ -88,7 +89,7 @@ unfolding upto
 upto-all B C n e = ap (λ X. foldl add B X) (take-all n (drop 2 C) (rw length-drop (omega arith)))
 
 -- the book of the store after k turns, and what the handles mean in it
-pub record Stored (B C : List Family) (k b : ℕ) (words : List ℕ) (count : ℕ) (nodes lookup : List ℕ) : Type 0 where
+pub record Stored (limit : ℕ) (B C : List Family) (k b : ℕ) (words : List ℕ) (count : ℕ) (nodes lookup : List ℕ) : Type 0 where
   pub holds : Holds limit (upto B C k) count nodes lookup
   pub means : (p : ℕ) → p < k + 2 → at (upto B C k) (handleIn b words p) ≡ at C p
 
@@ -97,31 +98,37 @@ pub record Turns (s : Store) (nodes₀ lookup₀ words₀ : List ℕ) (b n k : �
   pub table : (j : ℕ) → j < 3 * b → getD words j 0 ≡ getD words₀ j 0
   pub rest : (j : ℕ) → 6 * b ≤ j → getD words j 0 ≡ getD words₀ j 0
   pub most : k ≤ n
-  pub kept : Kept s nodes₀ lookup₀ current nodes lookup
+  pub kept : Kept (fillIn s) nodes₀ lookup₀ (fillIn current) nodes lookup
+  pub limit : current .limit ≡ s .limit
   pub handles : Handles k b (current .count) words
-  pub sound : (B C : List Family) → Holds limit B (s .count) nodes₀ lookup₀ → Local C n b words₀ → Stored B C k b words (current .count) nodes lookup
+  pub sound : {limit : ℕ} (B C : List Family) → Tops limit C → Holds limit B (s .count) nodes₀ lookup₀ → Local C n b words₀ → Stored limit B C k b words (current .count) nodes lookup
 
 module _ (s : Store) (nodes₀ lookup₀ words₀ : List ℕ) (b n : ℕ) where
-  pub turns-start : Roomy s nodes₀ lookup₀ → Turns s nodes₀ lookup₀ words₀ b n 0 s nodes₀ lookup₀ words₀
+  pub turns-start : Roomy (fillIn s) nodes₀ lookup₀ → Turns s nodes₀ lookup₀ words₀ b n 0 s nodes₀ lookup₀ words₀
   turns-start R =
       record {
         long = refl;
         table = λ j l. refl;
         rest = λ j l. refl;
         most = omega arith;
-        kept = kept-self s nodes₀ lookup₀ (R .within);
+        kept = kept-self (fillIn s) nodes₀ lookup₀ (R .within);
+        limit = refl;
         handles = record { each = λ p l. omega (arith, handle-leaf b words₀ p l) };
-        sound = λ B C H L. record { holds = rw (upto-none B C) H; means = λ p l. rw (upto-none B C, handle-leaf b words₀ p l) (leaf-at B C H L p l) };
+        sound = λ B C t H L. record { holds = rw (upto-none B C) H; means = λ p l. rw (upto-none B C, handle-leaf b words₀ p l) (leaf-at B C H L p l) };
       }
     where
-      leaf-at : (B C : List Family) → Holds limit B (s .count) nodes₀ lookup₀ → Local C n b words₀ → (p : ℕ) → p < 0 + 2 → at B p ≡ at C p
+      leaf-at : {limit : ℕ} (B C : List Family) → Holds limit B (s .count) nodes₀ lookup₀ → Local C n b words₀ → (p : ℕ) → p < 0 + 2 → at B p ≡ at C p
       leaf-at B C H L p l =
           by-eq p 0
           (λ e t. rw e (at-0 H ∙ sym (at-0 L)))
           (λ d t. let e : p ≡ 1 = omega arith in rw e (at-1 H ∙ sym (at-1 L)))
 
+  -- a local book that is its last family's own keeps to a limit where that family does
+  last-tops : (C : List Family) → Local C n b words₀ → place start (at C (n + 1)) ≡ C → {limit : ℕ} → top (at C (n + 1)) ≤ limit → Tops limit C
+  last-tops C L own m = own-tops (at C (n + 1)) (within L (n + 1) (omega arith) .ordered) own m
+
   module _ (few : n ≤ b) (room : 6 * b ≤ length words₀) (N₀ : LocalNodes words₀ n) (k : ℕ) (current : Store) (nodes lookup words : List ℕ) (I : Turns s nodes₀ lookup₀ words₀ b n k current nodes lookup words) where
-    pub turns-roomy : Roomy s nodes₀ lookup₀ → Roomy current nodes lookup
+    pub turns-roomy : Roomy (fillIn s) nodes₀ lookup₀ → Roomy (fillIn current) nodes lookup
     turns-roomy R = kept-roomy (I .kept) R
 
     module _ (l : k < n) where
@@ -145,17 +152,17 @@ module _ (s : Store) (nodes₀ lookup₀ words₀ : List ℕ) (b n : ℕ) where
           }
 
       module _ {r : Placed} {nodes₁ lookup₁ : List ℕ}
-          (P : NodeIt current nodes lookup (getD words (3 * k) 0) (handleIn b words (getD words (3 * k + 1) 0)) (handleIn b words (getD words (3 * k + 2) 0)) r nodes₁ lookup₁) where
-        kept-on : Kept s nodes₀ lookup₀ (r .store) nodes₁ lookup₁
-        kept-on = kept-trans (I .kept) (P .kept)
+          (P : NodeGot current nodes lookup (getD words (3 * k) 0) (handleIn b words (getD words (3 * k + 1) 0)) (handleIn b words (getD words (3 * k + 2) 0)) r nodes₁ lookup₁) where
+        kept-on : Kept (fillIn s) nodes₀ lookup₀ (fillIn (r .store)) nodes₁ lookup₁
+        kept-on = kept-trans (I .kept) (P .node-is .kept)
 
         -- what the turn gives, in the book so far
-        module _ (B C : List Family) (H : Holds limit B (s .count) nodes₀ lookup₀) (L : Local C n b words₀) where
+        module _ {limit : ℕ} (B C : List Family) (t : Tops limit C) (H : Holds limit B (s .count) nodes₀ lookup₀) (L : Local C n b words₀) where
           D : List Family
           D = upto B C k
 
-          S : Stored B C k b words (current .count) nodes lookup
-          S = I .sound B C H L
+          S : Stored limit B C k b words (current .count) nodes lookup
+          S = I .sound B C t H L
 
           zero-is : at (upto B C k) (handleIn b words (getD words (3 * k + 1) 0)) ≡ at C (getD words₀ (3 * k + 1) 0)
           zero-is = S .means (getD words (3 * k + 1) 0) (turns-node .zero-before) ∙ ap (λ p. at C p) zero-same
@@ -169,6 +176,9 @@ module _ (s : Store) (nodes₀ lookup₀ words₀ : List ℕ) (b n : ℕ) where
           is-within : Within largestItem (node (getD words (3 * k) 0) (at (upto B C k) (handleIn b words (getD words (3 * k + 1) 0))) (at (upto B C k) (handleIn b words (getD words (3 * k + 2) 0))))
           is-within = rw family-is at (within L (k + 2) (omega arith))
 
+          item-low : getD words (3 * k) 0 ≤ limit
+          item-low = omega (arith, ap top family-is, t .each (at C (k + 2)) (held L (k + 2) (omega arith)))
+
           turn-answer : Outcome limit (add (upto B C k) (at C (k + 2))) (at C (k + 2)) (current .capacity) (r .store .count) nodes₁ lookup₁ (r .answer)
           turn-answer =
               let o = is-within .ordered in
@@ -177,7 +187,7 @@ module _ (s : Store) (nodes₀ lookup₀ words₀ : List ℕ) (b n : ℕ) where
                 mk-node (getD words (3 * k) 0) (at (upto B C k) (handleIn b words (getD words (3 * k + 1) 0))) (at (upto B C k) (handleIn b words (getD words (3 * k + 2) 0))) (o .2),
                 made-inhabited (upto B C k) (getD words (3 * k) 0) (at (upto B C k) (handleIn b words (getD words (3 * k + 1) 0))) (at (upto B C k) (handleIn b words (getD words (3 * k + 2) 0))) (o .2),
               ) at
-              (P .sound (upto B C k) (S .holds) (o .0) (o .1)))
+              (P .node-is .sound (upto B C k) item-low (S .holds) (o .0) (o .1)))
 
           inside-local : k + 2 < length C
           inside-local = omega (arith, L .size)
@@ -190,17 +200,17 @@ module _ (s : Store) (nodes₀ lookup₀ words₀ : List ℕ) (b n : ℕ) where
           next =
               record {
                 each = λ p m. rw put (by-eq p (k + 2)
-                    (λ q t. rw (q, handle-new b words k h size) (P .handle h e))
-                    (λ d t. rw (handle-old b words k h p (omega arith)) (omega (arith, I .handles .each p (omega arith), P .kept .grows))));
+                    (λ q t. rw (q, handle-new b words k h size) (P .node-is .handle h e))
+                    (λ d t. rw (handle-old b words k h p (omega arith)) (omega (arith, I .handles .each p (omega arith), P .node-is .kept .grows))));
               }
 
-          stored : (B C : List Family) → Holds limit B (s .count) nodes₀ lookup₀ → Local C n b words₀ → Stored B C (k + 1) b words₁ (r .store .count) nodes₁ lookup₁
-          stored B C H L =
-              let G = handed-of e (turn-answer B C H L) in
-              let old = S B C H L in
+          stored : {limit : ℕ} (B C : List Family) → Tops limit C → Holds limit B (s .count) nodes₀ lookup₀ → Local C n b words₀ → Stored limit B C (k + 1) b words₁ (r .store .count) nodes₁ lookup₁
+          stored B C t H L =
+              let G = handed-of e (turn-answer B C t H L) in
+              let old = S B C t H L in
               rw put record {
-                holds = rw (upto-next B C k (inside-local B C H L)) (G .holds);
-                means = λ p m. rw (upto-next B C k (inside-local B C H L)) (by-eq p (k + 2)
+                holds = rw (upto-next B C k (inside-local B C t H L)) (G .holds);
+                means = λ p m. rw (upto-next B C k (inside-local B C t H L)) (by-eq p (k + 2)
                     (λ q t. rw (q, handle-new b words k h size) (G .means))
                     (λ d t. rw (handle-old b words k h p (omega arith))
                     (grown-at (add-grown (upto B C k) (at C (k + 2))) (handleIn b words p) (omega (arith, I .handles .each p (omega arith), old .holds .size)) ∙ old .means p (omega arith))));
@@ -214,6 +224,7 @@ module _ (s : Store) (nodes₀ lookup₀ words₀ : List ℕ) (b n : ℕ) where
                 rest = λ j m. ap (λ x. getD x j 0) put ∙ getD-set-other words (5 * b + k) j h 0 (omega arith) ∙ I .rest j m;
                 most = omega arith;
                 kept = kept-on;
+                limit = P .limit ∙ I .limit;
                 handles = next;
                 sound = stored;
               }
@@ -224,17 +235,20 @@ module _ (s : Store) (nodes₀ lookup₀ words₀ : List ℕ) (b n : ℕ) where
               long = I .long;
               rest = I .rest;
               kept = kept-on;
+              limit = P .limit ∙ I .limit;
               ran = λ C L own. record {
                 kept = kept-on;
                 handle = λ h d. not-both h x d e;
-                sound = λ B H. refused-on x e (longer C L own B H) (rw (I .kept .same-capacity) at (turn-answer B C H L));
+                sound = λ B m H.
+                    let t = last-tops C L own m in
+                    refused-on x e (longer C L own B t H) (rw (I .kept .same-capacity) at (turn-answer B C t H L));
               };
             }
           where
-            longer : (C : List Family) → Local C n b words₀ → place start (at C (n + 1)) ≡ C → {limit : ℕ} (B : List Family) → Holds limit B (s .count) nodes₀ lookup₀
+            longer : (C : List Family) → Local C n b words₀ → place start (at C (n + 1)) ≡ C → {limit : ℕ} (B : List Family) → Tops limit C → Holds limit B (s .count) nodes₀ lookup₀
                 → length (add (upto B C k) (at C (k + 2))) ≤ length (place B (at C (n + 1)))
-            longer C L own B H =
-                rw (← upto-next B C k (inside-local B C H L), ← place-own B (at C (n + 1)) (H .book), own) (grown-length (upto-grown B C (k + 1)))
+            longer C L own B t H =
+                rw (← upto-next B C k (inside-local B C t H L), ← place-own B (at C (n + 1)) (H .book), own) (grown-length (upto-grown B C (k + 1)))
 
     module _ (m : n ≤ k) where
       all : k ≡ n
@@ -246,19 +260,20 @@ module _ (s : Store) (nodes₀ lookup₀ words₀ : List ℕ) (b n : ℕ) where
             long = I .long;
             rest = I .rest;
             kept = rw es (I .kept);
+            limit = rw es (I .limit);
             ran = λ C L own. record {
               kept = rw es (I .kept);
               handle = λ h e. rw es (omega (arith, handle-is (sym ea ∙ e), last));
-              sound = λ B H. rw (ea, es) (gave {h = handleIn b words (n + 1)} (handed C L own B H));
+              sound = λ B m H. rw (ea, es) (gave {h = handleIn b words (n + 1)} (handed C L own B (last-tops C L own m) H));
             };
           }
         where
           last : handleIn b words (n + 1) ≤ current .count + 1
           last = I .handles .each (n + 1) (omega (arith, all))
 
-          handed : (C : List Family) → Local C n b words₀ → place start (at C (n + 1)) ≡ C → {limit : ℕ} (B : List Family) → Holds limit B (s .count) nodes₀ lookup₀
+          handed : (C : List Family) → Local C n b words₀ → place start (at C (n + 1)) ≡ C → {limit : ℕ} (B : List Family) → Tops limit C → Holds limit B (s .count) nodes₀ lookup₀
               → Handed limit (place B (at C (n + 1))) (at C (n + 1)) (handleIn b words (n + 1)) (current .count) nodes lookup
-          handed C L own B H =
-              let S = I .sound B C H L in
+          handed C L own B t H =
+              let S = I .sound B C t H L in
               let e : place B (at C (n + 1)) ≡ upto B C k = sym (place-own B (at C (n + 1)) (H .book)) ∙ ap (λ X. foldl add B (drop 2 X)) own ∙ sym (upto-all B C n (L .size)) ∙ ap (λ j. upto B C j) (sym all) in
               rw e record { holds = S .holds; within = omega (arith, last); means = S .means (n + 1) (omega (arith, all)) }

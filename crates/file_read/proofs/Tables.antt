@@ -46,6 +46,7 @@ module _ (b : ℕ) (words : List ℕ) (room : 6 * b ≤ length words) where
   unfolding entered
   blank-table e =
       rw e record {
+        limit-low = omega arith;
         book = book-start largestItem;
         size = refl;
         each = λ k l. absurd (omega arith);
@@ -56,7 +57,7 @@ module _ (b : ℕ) (words : List ℕ) (room : 6 * b ≤ length words) where
   blank-rest e j h = ap (λ x. getD x j 0) e ∙ zeroed-after (3 * b) (5 * b) words (omega arith) (omega arith) j (omega arith)
 
 -- the last family
-module _ {C : List Family} {n : ℕ} {words lookup : List ℕ} (H : Holds limit C n words lookup) where
+module _ {C : List Family} {n : ℕ} {words lookup : List ℕ} (H : Holds largestItem C n words lookup) where
   lasts : (m : ℕ) → order C (at C (n + 1)) 2 ≡ some m → lastOf n C ≡ cond (eqb m (n + 2)) (some (at C (n + 1))) none
   unfolding lastOf
   lasts m e = let q : n + 2 ≡ suc (suc n) = omega arith in rw (q, add-one n) (rw (rw (add-one n) at e))

@@ -76,19 +76,19 @@ module _ (nodes : List ℕ) (n p last : ℕ) (lp : p ≤ n + 1) (some′ : 1 ≤
         ∙ ap (λ k. andThen (order B (at B (zeroAt nodes p)) (suc last)) (λ n₁. andThen (order B (at B (oneAt nodes p)) n₁) (λ n₂. cond (eqb n₂ k) (some (suc n₂)) none))) number-is
 
     walk-broken : ((limit : ℕ) (B : List Family) (lookup : List ℕ) → Holds limit B n nodes lookup → order B (at B p) (suc last) ≡ none) → OrderOf nodes n p last Broken
-    walk-broken f = record { low = λ m d. never d; sound = λ B lookup H. broken (f B lookup H) }
+    walk-broken f = record { low = λ m d. never d; sound = λ B lookup H. broken (f _ B lookup H) }
 
     pub walk-first : x ≡ Broken → OrderOf nodes n p last Broken
-    walk-first e = walk-broken (λ B lookup H. walk-node H ∙ rw (broken-of e (A .sound B lookup H)))
+    walk-first e = walk-broken (λ l B lookup H. walk-node H ∙ rw (broken-of e (A .sound B lookup H)))
 
     module _ (first : ℕ) (e₁ : x ≡ Upto first) {y : Order} (A′ : OrderOf nodes n (oneAt nodes p) first y) where
       pub walk-second : y ≡ Broken → OrderOf nodes n p last Broken
-      walk-second e = walk-broken (λ B lookup H. walk-node H ∙ rw (went-of first e₁ (A .sound B lookup H), broken-of e (A′ .sound B lookup H)))
+      walk-second e = walk-broken (λ l B lookup H. walk-node H ∙ rw (went-of first e₁ (A .sound B lookup H), broken-of e (A′ .sound B lookup H)))
 
       module _ (second : ℕ) (e₂ : y ≡ Upto second) where
         pub walk-other : (p - 1 ≡ second → ⊥) → OrderOf nodes n p last Broken
         walk-other d =
-            walk-broken (λ B lookup H. walk-node H
+            walk-broken (λ l B lookup H. walk-node H
             ∙ rw (went-of first e₁ (A .sound B lookup H), went-of second e₂ (A′ .sound B lookup H), ne-eqb (suc second) p (λ q. d (omega arith))))
 
         pub walk-next : p - 1 ≡ second → OrderOf nodes n p last (Upto p)
@@ -106,5 +106,5 @@ local-nodes H =
       each = λ k l.
           let E = H .each k l in
           let w = rw (E .is) at (within H (k + 2) (omega arith)) in
-          record { item-some = omega (arith, w .ordered .0); item-low = w .low; zero-before = E .zero-before; one-before = E .one-before };
+          record { item-some = omega (arith, w .ordered .0); item-low = omega (arith, w .low, H .limit-low); zero-before = E .zero-before; one-before = E .one-before };
     }

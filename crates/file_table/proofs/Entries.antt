@@ -34,7 +34,7 @@ stored words k i z o place v = refl
 
 module _ (words : List ℕ) (b k i z o slot : ℕ) (room : 6 * b ≤ length words) (below : k < b) (is : slot ≡ probeOf (take (3 * b) words) (localSlots b words) k i z o) where
   -- the local nodes by themselves
-  apart : {limit : ℕ} {C : List Family} → Local C k b words → Holds limit C k (take (3 * b) words) (localSlots b words)
+  apart : {C : List Family} → Local C k b words → Holds largestItem C k (take (3 * b) words) (localSlots b words)
   apart H = holds-kept (take (3 * b) words) (localSlots b words) H (λ j l. getD-take (3 * b) words j 0 (omega arith)) (H .lookup-is)
 
   -- what the probe found

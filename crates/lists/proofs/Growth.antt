@@ -13,7 +13,7 @@ use Rattle.family.proofs.Placing.{place-parts, place-grown}
 use Rattle.family.proofs.Different.{add-all, absent-append, absent-start}
 use Rattle.lists.specs.Calls.{Call}
 use Rattle.lists.specs.Acts.{Effect, stays, grows, changed}
-use Rattle.lists.specs.Books.{bookAnswer, bookEffect, bookAfter, Handout, firstHandouts, handout, handing, answersFrom, bookFrom, handedFrom, allParts}
+use Rattle.lists.specs.Books.{Bounds, bookAnswer, bookEffect, bookAfter, Handout, firstHandouts, handout, handing, answersFrom, bookFrom, handedFrom, allParts}
 
 -- the number of a family in a book
 pub record Numbered (B : List Family) (F : Family) (h : ℕ) : Type 0 where
@@ -73,27 +73,27 @@ pub handed-length : {B : List Family} {hs : List Handout} → MadeBy B hs → le
 handed-length {B} {hs} H =
     ap length (H .adds ∙ add-all start (allParts hs)) ∙ length-append start (distinct (absent start (allParts hs))) ∙ rw (absent-all hs)
 
-module _ (capacity : ℕ) where
+module _ (bounds : Bounds) where
   -- more calls, and one call more
-  pub book-append : (B : List Family) (calls more : List Call) → bookFrom capacity B (calls ++ more) ≡ bookFrom capacity (bookFrom capacity B calls) more
+  pub book-append : (B : List Family) (calls more : List Call) → bookFrom bounds B (calls ++ more) ≡ bookFrom bounds (bookFrom bounds B calls) more
   book-append B [] more = refl
-  book-append B (c ∷ calls) more = book-append (bookAfter capacity B c) calls more
+  book-append B (c ∷ calls) more = book-append (bookAfter bounds B c) calls more
 
-  pub book-snoc : (B : List Family) (calls : List Call) (call : Call) → bookFrom capacity B (calls ++ (call ∷ [])) ≡ bookAfter capacity (bookFrom capacity B calls) call
+  pub book-snoc : (B : List Family) (calls : List Call) (call : Call) → bookFrom bounds B (calls ++ (call ∷ [])) ≡ bookAfter bounds (bookFrom bounds B calls) call
   book-snoc B calls call = book-append B calls (call ∷ [])
 
   pub answers-snoc : (B : List Family) (calls : List Call) (call : Call)
-      → answersFrom capacity B (calls ++ (call ∷ [])) ≡ answersFrom capacity B calls ++ (bookAnswer capacity (bookFrom capacity B calls) call ∷ [])
+      → answersFrom bounds B (calls ++ (call ∷ [])) ≡ answersFrom bounds B calls ++ (bookAnswer bounds (bookFrom bounds B calls) call ∷ [])
   answers-snoc B [] call = refl
-  answers-snoc B (c ∷ calls) call = ap (λ l. bookAnswer capacity B c ∷ l) (answers-snoc (bookAfter capacity B c) calls call)
+  answers-snoc B (c ∷ calls) call = ap (λ l. bookAnswer bounds B c ∷ l) (answers-snoc (bookAfter bounds B c) calls call)
 
-  pub handed-from : (B : List Family) (hs : List Handout) (calls : List Call) → Grown start B → MadeBy B hs → MadeBy (bookFrom capacity B calls) (handedFrom capacity B hs calls)
+  pub handed-from : (B : List Family) (hs : List Handout) (calls : List Call) → Grown start B → MadeBy B hs → MadeBy (bookFrom bounds B calls) (handedFrom bounds B hs calls)
   handed-from B hs [] s H = H
   handed-from B hs (c ∷ calls) s H =
-      let e = bookEffect capacity B c in
+      let e = bookEffect bounds B c in
       handed-from (changed B e) (handing B hs e) calls (grown-trans s (changed-grown B e)) (handing-handed B hs s H e)
 
   -- the book only grows
-  pub book-grown : (B : List Family) (calls : List Call) → Grown B (bookFrom capacity B calls)
+  pub book-grown : (B : List Family) (calls : List Call) → Grown B (bookFrom bounds B calls)
   book-grown B [] = grown-self B
-  book-grown B (c ∷ calls) = grown-trans (changed-grown B (bookEffect capacity B c)) (book-grown (bookAfter capacity B c) calls)
+  book-grown B (c ∷ calls) = grown-trans (changed-grown B (bookEffect bounds B c)) (book-grown (bookAfter bounds B c) calls)

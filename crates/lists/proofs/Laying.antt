@@ -7,13 +7,13 @@ use native.Mathlib.Omega.{arith}
 use lib.ListN.{length, getD, drop, replicate, length-append, length-drop, List·getD-append}
 use lib.Seq.{getD-append-add}
 use Rattle.words.proofs.Zeroed.{zeros-length, zero-getD}
-use Rattle.family.specs.Family.{Family, node, top, withoutSide, withSide}
+use Rattle.family.specs.Family.{Family, node, top, withoutSide, withSide, largestItem}
 use Rattle.family.specs.Book.{at, number, Book}
 use Rattle.family.proofs.Books.{number-at, is-node, two-long}
 use Rattle.table.specs.Entered.{startAt}
 use Rattle.table.proofs.Filled.{length-entered}
 use Rattle.store.specs.Capacity.{capacityOf}
-use Rattle.store.specs.Words.{itemLimit, wordsOf, nodesWith, lookupOf}
+use Rattle.store.specs.Words.{wordsOf, nodesWith, lookupOf}
 use Rattle.store.specs.Cache.{True}
 use Rattle.store.specs.Sound.{Sound}
 use Rattle.store.specs.Inner.{Entry, Holds}
@@ -23,7 +23,7 @@ use Rattle.store.proofs.Recovering.{words-has}
 use Rattle.store.proofs.Sounds.{holds-sound}
 
 -- the words of a node, and its family
-module _ (C : List Family) (book : Book itemLimit C) (rest : List ℕ) where
+module _ {limit : ℕ} (C : List Family) (book : Book limit C) (rest : List ℕ) where
   entry : (k : ℕ) → k < length C - 2 → Entry C k (getD (wordsOf C ++ rest) (3 * k) 0) (getD (wordsOf C ++ rest) (3 * k + 1) 0) (getD (wordsOf C ++ rest) (3 * k + 2) 0)
   entry k l =
       let H = words-has C book rest k (omega arith) in
@@ -48,15 +48,16 @@ getD-past : (l r : List ℕ) (k : ℕ) → length l ≤ k → getD (l ++ r) k 0 
 getD-past l r k h = let e : length l + (k - length l) ≡ k = omega arith in ap (λ j. getD (l ++ r) j 0) (sym e) ∙ getD-append-add l r (k - length l) 0
 
 -- the book's words in a store of some capacity, and its lookup of so many slots
-module _ (C : List Family) (book : Book itemLimit C) (capacity : ℕ) (nodes : List ℕ) (slots : ℕ) where
+module _ {limit : ℕ} (low : limit ≤ largestItem) (C : List Family) (book : Book limit C) (capacity : ℕ) (nodes : List ℕ) (slots : ℕ) where
   word-below : (k : ℕ) → k < 3 * (length C - 2) → getD (nodesWith capacity C nodes) k 0 ≡ getD (wordsOf C) k 0
   unfolding nodesWith
   word-below k l = List·getD-append (wordsOf C) _ 0 k (omega (arith, words-length C))
 
-  laid-holds : Holds C (length C - 2) (nodesWith capacity C nodes) (lookupOf slots C)
+  laid-holds : Holds limit C (length C - 2) (nodesWith capacity C nodes) (lookupOf slots C)
   unfolding nodesWith lookupOf
   laid-holds =
       record {
+        limit-low = low;
         book = book;
         size = omega (arith, two-long C book);
         each = entry C book (replicate (3 * capacity - length (wordsOf C)) 0 ++ drop (3 * capacity) nodes);
@@ -81,7 +82,7 @@ module _ (C : List Family) (book : Book itemLimit C) (capacity : ℕ) (nodes : L
         ∙ List·getD-append (replicate (3 * capacity - length (wordsOf C)) 0) (drop (3 * capacity) nodes) 0 (k - length (wordsOf C)) (omega (arith, words-length C, zeros-length (3 * capacity - length (wordsOf C))))
         ∙ zero-getD (3 * capacity - length (wordsOf C)) (k - length (wordsOf C))
 
-    pub laid-sound : (cache : List ℕ) → capacity ≡ capacityOf (length nodes) → capacity < slots → True C cache
-        → Sound (record { capacity = capacity; count = length C - 2 }) (nodesWith capacity C nodes) (lookupOf slots C) cache
-    laid-sound cache c l t =
-        holds-sound (record { capacity = capacity; count = length C - 2 }) laid-holds (c ∙ ap capacityOf (sym laid-long)) (omega (arith, looked-long)) fits blank t
+    pub laid-sound : (cache : List ℕ) → 1 ≤ limit → capacity ≡ capacityOf (length nodes) → capacity < slots → True limit C cache
+        → Sound (record { capacity = capacity; count = length C - 2; limit = limit }) (nodesWith capacity C nodes) (lookupOf slots C) cache
+    laid-sound cache some c l t =
+        holds-sound (record { capacity = capacity; count = length C - 2; limit = limit }) some laid-holds (c ∙ ap capacityOf (sym laid-long)) (omega (arith, looked-long)) fits blank t

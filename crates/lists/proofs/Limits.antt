@@ -17,7 +17,6 @@ use Rattle.family.proofs.Books.{held-at, book-start}
 use Rattle.family.proofs.Records.{not-some, then-inv}
 use Rattle.family.proofs.Orders.{and-then-inv, cond-inv}
 use Rattle.family.proofs.Reading.{fits-next, book-next}
-use Rattle.store.specs.Words.{itemLimit}
 use Rattle.store.specs.Operations.{named}
 use Rattle.store.proofs.Naming.{named-families, named-item, families-within, restrict-within}
 use Rattle.store.specs.Tests.{itemTest}
@@ -34,14 +33,14 @@ at-within {limit} B book k =
     by-lt k (length B) (λ h e. book .within (at B k) (held-at B book k h)) (λ h e. rw (List·getD-eq-default B empty {n = k} h) (empty-within limit))
 
 -- an operation that is not refused has an item where it takes one
-item-some : (op n p q : ℕ) → op < 4 → operationRefusal op n p q ≡ 0 → (1 ≤ q) × (q ≤ itemLimit)
-item-some op n p q l e = item-passed q (passes n p 0 (itemTest q) 0 0 (sym (item-number op n p q l) ∙ e) .none)
+item-some : (op limit n p q : ℕ) → op < 4 → operationRefusal op limit n p q ≡ 0 → (1 ≤ q) × (q ≤ limit)
+item-some op limit n p q l e = item-passed limit q (passes n p 0 (itemTest limit q) 0 0 (sym (item-number op limit n p q l) ∙ e) .none)
 
 -- the family that an operation names, by the operation's number
-pub named-within : (op : ℕ) (B : List Family) → Book itemLimit B → (n p q : ℕ) → operationRefusal op n p q ≡ 0 → Within itemLimit (named op B p q)
-named-within op B book n p q e =
+pub named-within : {limit : ℕ} (op : ℕ) (B : List Family) → Book limit B → (n p q : ℕ) → operationRefusal op limit n p q ≡ 0 → Within limit (named op B p q)
+named-within {limit} op B book n p q e =
     by-lt op 4
-    (λ l t. let i = item-some op n p q l e in rw (named-item op B p q l) (restrict-within op q (at B p) (i .0) (i .1) (at-within B book p)))
+    (λ l t. let i = item-some op limit n p q l e in rw (named-item op B p q l) (restrict-within op q (at B p) (i .0) (i .1) (at-within B book p)))
     (λ l t. rw (named-families op B p q l) (families-within op (at B p) (at B q) (at-within B book p) (at-within B book q)))
 
 -- reading a file

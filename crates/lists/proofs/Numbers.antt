@@ -10,13 +10,12 @@ use lib.Dec.{eqb, ltb}
 use lib.ListN.{length, drop, length-append, length-drop, length-map}
 use borrow.Author.Tests.{ne-eqb}
 use Rattle.words.proofs.Cases.{by-test, by-lt, by-eq}
-use Rattle.family.specs.Family.{Family, size}
+use Rattle.family.specs.Family.{Family, size, top, largestItem}
 use Rattle.family.specs.Book.{at}
 use Rattle.family.specs.File.{fileOf, familyOf}
 use Rattle.store.specs.declared.record.Refusal.{Refusal}
-use Rattle.store.specs.declared.record.Refusal.the-variants.{Item, Handle as NoHandle, Large, Scratch, Output, NoFile}
+use Rattle.store.specs.declared.record.Refusal.the-variants.{Item, Handle as NoHandle, Large, Scratch, Output, NoFile, AboveLimit}
 use Rattle.store.specs.Refusals.{refusalNumber}
-use Rattle.store.specs.Words.{itemLimit}
 use Rattle.store.specs.Scratch.{scratchTests}
 use Rattle.store.proofs.Calls.{refusal-some}
 use Rattle.store.specs.Tests.{isItem, testsOf}
@@ -28,7 +27,7 @@ use Rattle.query_size.specs.declared.SizeAnswer.the-variants.{Members, Refused 
 use Rattle.query_size.specs.Promise.{sizeGivenBy, sizeRefusal, sizeAnswer, sizeScratch}
 use Rattle.file_save.specs.declared.SaveAnswer.the-variants.{Length, Refused as SaveRefused}
 use Rattle.file_save.specs.Promise.{saveGivenBy, saveRefusal, saveAnswer, saveOutput}
-use Rattle.file_load.specs.Promise.{noFile, loadRefusal}
+use Rattle.file_load.specs.Promise.{fileNumber, loadRefusal}
 
 -- a number that refuses a call before it places: that of a refusal other than 5, or 0 where there is none
 pub data Refusing : ℕ → Type 0 where
@@ -46,21 +45,21 @@ tests-refusing n p q scratch need own =
     by-own nothing = by-test (ltb scratch need) (λ s. rw s (refuses Scratch (λ e. omega arith))) (λ s. rw s nothing)
     by-own (refuses x five) = rw (ne-eqb (refusalNumber x) 0 (refusal-some x)) (refuses x five)
 
-pub operation-refusing : (op n p q : ℕ) → Refusing (operationRefusal op n p q)
+pub operation-refusing : (op limit n p q : ℕ) → Refusing (operationRefusal op limit n p q)
 unfolding operationRefusal
-operation-refusing op n p q =
+operation-refusing op limit n p q =
     by-test (ltb op 4)
-    (λ t. rw t (tests-refusing n p 0 0 0 (by-test (isItem q) (λ i. rw i nothing) (λ i. rw i (refuses Item (λ e. omega arith))))))
+    (λ t. rw t (tests-refusing n p 0 0 0 (by-test (isItem limit q) (λ i. rw i nothing) (λ i. rw i (refuses Item (λ e. omega arith))))))
     (λ t. rw t (tests-refusing n p q 0 0 nothing))
 
-pub load-refusing : (file : List ℕ) (words : ℕ) → Refusing (loadRefusal file words)
+pub load-refusing : (limit : ℕ) (file : List ℕ) (words : ℕ) → Refusing (loadRefusal limit file words)
 unfolding loadRefusal
-load-refusing file words =
-    by-test (ltb words (6 * length file)) (λ s. rw s (refuses Scratch (λ e. omega arith))) (λ s. rw s (by-file (familyOf itemLimit file)))
+load-refusing limit file words =
+    by-test (ltb words (6 * length file)) (λ s. rw s (refuses Scratch (λ e. omega arith))) (λ s. rw s (by-file (familyOf largestItem file)))
   where
-    by-file : (o : Option Family) → Refusing (noFile o)
+    by-file : (o : Option Family) → Refusing (fileNumber limit o)
     by-file none = refuses NoFile (λ e. omega arith)
-    by-file (some F) = nothing
+    by-file (some F) = by-test (ltb limit (top F)) (λ t. rw t (refuses AboveLimit (λ e. omega arith))) (λ t. rw t nothing)
 
 scratch-refusing : (B : List Family) (p words : ℕ) → Refusing (scratchTests B p words)
 unfolding scratchTests

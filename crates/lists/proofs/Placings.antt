@@ -20,7 +20,7 @@ use Rattle.store.specs.Promise.{leaves, placing, Placed-sound, PlaceCall}
 use Rattle.store.proofs.Recovering.{book-of-words}
 use Rattle.lists.specs.Calls.{Call}
 use Rattle.lists.specs.Acts.{placeReturns, Places, actOf, Effect, stays, grows}
-use Rattle.lists.specs.Books.{bookAnswer, bookEffect}
+use Rattle.lists.specs.Books.{Bounds, bookAnswer, bookEffect}
 use Rattle.lists.specs.Runs.{State, withPart}
 use Rattle.lists.proofs.Acting.{grounded, places-within}
 use Rattle.store.proofs.Sounds.{sound-with}
@@ -41,7 +41,7 @@ module _ (n : ℕ) (F : Family) (s : Store) (nodes lookup : List ℕ) where
   pub way-placed : n ≡ 0 → tooLarge (s .capacity) (bookOf nodes (s .count)) F ≡ false
       → placing n F s nodes lookup ≡ record {
         given = record { refusal = 0; handle = number (place (bookOf nodes (s .count)) F) F };
-        store = record { capacity = s .capacity; count = length (place (bookOf nodes (s .count)) F) - 2 };
+        store = record { capacity = s .capacity; count = length (place (bookOf nodes (s .count)) F) - 2; limit = s .limit };
         nodes = nodesWith (s .capacity) (place (bookOf nodes (s .count)) F) nodes;
         lookup = lookupOf (length lookup) (place (bookOf nodes (s .count)) F);
       }
@@ -49,58 +49,59 @@ module _ (n : ℕ) (F : Family) (s : Store) (nodes lookup : List ℕ) where
   way-placed e t = rw (e, t)
 
 -- a call that takes the family F, or is refused before that by the number n
-pub record TakesFamily (capacity : ℕ) (B : List Family) (call : Call) (n : ℕ) (F : Family) : Type 0 where
-  pub act : actOf B call ≡ Places n F
+pub record TakesFamily (bounds : Bounds) (B : List Family) (call : Call) (n : ℕ) (F : Family) : Type 0 where
+  pub act : actOf (bounds .limit) B call ≡ Places n F
 
 -- what the book answers and does
-record Book-does (capacity : ℕ) (B : List Family) (call : Call) (m h : ℕ) (effect : Effect) : Type 0 where
-  answers : bookAnswer capacity B call ≡ placeReturns (record { refusal = m; handle = h })
-  does : bookEffect capacity B call ≡ effect
+record Book-does (bounds : Bounds) (B : List Family) (call : Call) (m h : ℕ) (effect : Effect) : Type 0 where
+  answers : bookAnswer bounds B call ≡ placeReturns (record { refusal = m; handle = h })
+  does : bookEffect bounds B call ≡ effect
 
-module _ {capacity : ℕ} {B : List Family} {call : Call} {n : ℕ} {F : Family} (K : TakesFamily capacity B call n F) where
-  book-refused : (n ≡ 0 → ⊥) → Book-does capacity B call n 0 stays
+module _ {bounds : Bounds} {B : List Family} {call : Call} {n : ℕ} {F : Family} (K : TakesFamily bounds B call n F) where
+  book-refused : (n ≡ 0 → ⊥) → Book-does bounds B call n 0 stays
   unfolding bookAnswer bookEffect placeAnswer
   book-refused d = record { answers = rw (K .act, ne-eqb n 0 d); does = rw (K .act, ne-eqb n 0 d) }
 
-  book-full : n ≡ 0 → tooLarge capacity B F ≡ true → Book-does capacity B call 5 0 stays
+  book-full : n ≡ 0 → tooLarge (bounds .capacity) B F ≡ true → Book-does bounds B call 5 0 stays
   unfolding bookAnswer bookEffect placeAnswer
   book-full e t = record { answers = rw (K .act, e, t); does = rw (K .act, e, t) }
 
-  book-placed : n ≡ 0 → tooLarge capacity B F ≡ false → Book-does capacity B call 0 (number (place B F) F) (grows F)
+  book-placed : n ≡ 0 → tooLarge (bounds .capacity) B F ≡ false → Book-does bounds B call 0 (number (place B F) F) (grows F)
   unfolding bookAnswer bookEffect placeAnswer
   book-placed e t = record { answers = rw (K .act, e, t); does = rw (K .act, e, t) }
 
-  module _ {slots : ℕ} {x : State} (I : Inv capacity slots B x) (lent : ℕ) {r : Placed} {nodes lookup part : List ℕ}
+  module _ {slots : ℕ} {x : State} (I : Inv bounds slots B x) (lent : ℕ) {r : Placed} {nodes lookup part : List ℕ}
       (P : PlaceCall n F (x .store) (x .nodes) (x .lookup) (take lent (x .cache)) r nodes lookup part) where
     promised : Placed-sound n F (x .store) (x .nodes) (x .lookup) (take lent (x .cache)) r nodes lookup part
     promised = P .on-sound (sound-with (take lent (x .cache)) (I .sound) (lent-true (x .cache) lent (I .sound .cached)))
 
     -- the state after it, by the book that its words hold
-    next-inv : (C : List Family) → Grown B C → bookOf nodes (r .store .count) ≡ C → Inv capacity slots C (withPart x lent (r .store) nodes lookup part)
+    next-inv : (C : List Family) → Grown B C → bookOf nodes (r .store .count) ≡ C → Inv bounds slots C (withPart x lent (r .store) nodes lookup part)
     next-inv C g e =
         record {
           sound = sound-with (part ++ drop lent (x .cache)) (promised .sound)
-              (rw e (joined-true g (x .cache) part lent (P .lengths .2) (promised .rest) (rw (I .book-is) at (I .sound .cached)) (rw e at (promised .sound .cached))));
+              (rw e (joined-true g (x .cache) part lent (P .lengths .2) (promised .rest) (rw (P .limit) (rw (I .book-is) at (I .sound .cached))) (rw e at (promised .sound .cached))));
           book-is = e;
           capacity-is = P .capacity ∙ I .capacity-is;
+          limit-is = P .limit ∙ I .limit-is;
           slots-are = P .lengths .1 ∙ I .slots-are;
         }
 
-    left : (m : ℕ) → Book-does capacity B call m 0 stays
+    left : (m : ℕ) → Book-does bounds B call m 0 stays
         → leaves r nodes lookup ≡ record { given = record { refusal = m; handle = 0 }; store = x .store; nodes = x .nodes; lookup = x .lookup }
-        → BookStep capacity slots B call (placeReturns (givenBy (r .answer))) (withPart x lent (r .store) nodes lookup part)
+        → BookStep bounds slots B call (placeReturns (givenBy (r .answer))) (withPart x lent (r .store) nodes lookup part)
     left m D L =
         record {
           answer-is = ap (λ l. placeReturns (l .given)) L ∙ sym (D .answers);
           after = rw (D .does) (next-inv B (grown-self B) (ap (λ l. bookOf (l .nodes) (l .store .count)) L ∙ I .book-is));
         }
 
-    grown : n ≡ 0 → tooLarge capacity B F ≡ false
-        → BookStep capacity slots B call (placeReturns (givenBy (r .answer))) (withPart x lent (r .store) nodes lookup part)
+    grown : n ≡ 0 → tooLarge (bounds .capacity) B F ≡ false
+        → BookStep bounds slots B call (placeReturns (givenBy (r .answer))) (withPart x lent (r .store) nodes lookup part)
     grown z f =
         let D = book-placed z f in
         let L = promised .leaves-is ∙ way-placed n F (x .store) (x .nodes) (x .lookup) z (rw (I .capacity-is, I .book-is) f) in
-        let w = places-within (rw (K .act) at (grounded B (book I) call)) z in
+        let w = places-within (rw (K .act) at (grounded (bounds .limit) B (book I) call)) z in
         record {
           answer-is = ap (λ l. placeReturns (l .given)) L ∙ ap (λ X. placeReturns (record { refusal = 0; handle = number (place X F) F })) (I .book-is) ∙ sym (D .answers);
           after = rw (D .does) (next-inv (place B F) (place-grown B F)
@@ -109,10 +110,10 @@ module _ {capacity : ℕ} {B : List Family} {call : Call} {n : ℕ} {F : Family}
               ∙ book-of-words (place B F) (book-place B F (book I) w .0) (x .store .capacity) (x .nodes)));
         }
 
-    pub place-step : BookStep capacity slots B call (placeReturns (givenBy (r .answer))) (withPart x lent (r .store) nodes lookup part)
+    pub place-step : BookStep bounds slots B call (placeReturns (givenBy (r .answer))) (withPart x lent (r .store) nodes lookup part)
     place-step =
         by-eq n 0
-        (λ z t. by-test (tooLarge capacity B F)
+        (λ z t. by-test (tooLarge (bounds .capacity) B F)
         (λ f. left 5 (book-full z f) (promised .leaves-is ∙ way-full n F (x .store) (x .nodes) (x .lookup) z (rw (I .capacity-is, I .book-is) f)))
         (λ f. grown z f))
         (λ z t. left n (book-refused z) (promised .leaves-is ∙ way-refused n F (x .store) (x .nodes) (x .lookup) z))

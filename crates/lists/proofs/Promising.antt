@@ -22,7 +22,7 @@ use Rattle.store.specs.declared.record.Refusal.the-variants.{Full}
 use Rattle.store.specs.declared.record.PlaceAnswer.the-variants.{Handle, Refused}
 use Rattle.store.specs.declared.record.Placed.{Placed}
 use Rattle.store.specs.Refusals.{refusalNumber}
-use Rattle.store.specs.Words.{itemLimit, bookOf, nodesWith, lookupOf}
+use Rattle.store.specs.Words.{bookOf, nodesWith, lookupOf}
 use Rattle.store.specs.Placing.{costOf, tooLarge}
 use Rattle.store.specs.Promise.{cacheRefused, PlaceCall}
 use Rattle.store.specs.Sound.{Sound}
@@ -76,12 +76,13 @@ module _ (F : Family) {s : Store} {nodes lookup cache : List ℕ} (S : Sound s n
           };
           lengths = (refl, refl, long);
           capacity = refl;
+          limit = refl;
           refused = λ d. refl;
         };
       }
 
   -- placed: the words are those of the book with the family, and the cache stays
-  module _ (w : Within itemLimit F) (f : tooLarge (s .capacity) (bookOf nodes (s .count)) F ≡ false) where
+  module _ (w : Within (s .limit) F) (f : tooLarge (s .capacity) (bookOf nodes (s .count)) F ≡ false) where
     fits : length (place (bookOf nodes (s .count)) F) - 2 ≤ s .capacity
     unfolding tooLarge costOf
     fits =
@@ -95,7 +96,7 @@ module _ (F : Family) {s : Store} {nodes lookup cache : List ℕ} (S : Sound s n
         let K = book-place B F (sound-holds S .book) w .0 in
         let room : 3 * s .capacity ≤ length nodes = omega (arith, S .capacity-is) in
         record {
-          r = record { store = record { capacity = s .capacity; count = length C - 2 }; answer = Handle (number C F) };
+          r = record { store = record { capacity = s .capacity; count = length C - 2; limit = s .limit }; answer = Handle (number C F) };
           nodes′ = nodesWith (s .capacity) C nodes;
           lookup′ = lookupOf (length lookup) C;
           cache′ = cache;
@@ -104,16 +105,17 @@ module _ (F : Family) {s : Store} {nodes lookup cache : List ℕ} (S : Sound s n
             on-sound = λ T. record {
               leaves-is = sym (way-placed 0 F s nodes lookup refl f);
               refused-cache = λ m em dm. absurd (dm (sym em));
-              sound = laid-sound C K (s .capacity) nodes (length lookup) fits room cache (S .capacity-is) (S .longer) (true-grown (place-grown B F) (S .cached));
+              sound = laid-sound (S .limit-low) C K (s .capacity) nodes (length lookup) fits room cache (S .limit-some) (S .capacity-is) (S .longer) (true-grown (place-grown B F) (S .cached));
               rest = refl;
             };
-            lengths = (laid-long C K (s .capacity) nodes (length lookup) fits room, looked-long C K (s .capacity) nodes (length lookup), refl);
+            lengths = (laid-long (S .limit-low) C K (s .capacity) nodes (length lookup) fits room, looked-long (S .limit-low) C K (s .capacity) nodes (length lookup), refl);
             capacity = refl;
+            limit = refl;
             refused = λ d. absurd (d refl);
           };
         }
 
-  pub place-kept : {n : ℕ} → Refusing n → (n ≡ 0 → Within itemLimit F) → Places-kept n F s nodes lookup cache
+  pub place-kept : {n : ℕ} → Refusing n → (n ≡ 0 → Within (s .limit) F) → Places-kept n F s nodes lookup cache
   place-kept nothing w = by-test (tooLarge (s .capacity) (bookOf nodes (s .count)) F) (λ f. kept-full f) (λ f. kept-placed (w refl) f)
   place-kept (refuses x five) w =
       record {

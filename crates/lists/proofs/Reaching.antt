@@ -12,47 +12,46 @@ use Rattle.words.proofs.Cases.{by-lt}
 use Rattle.family.specs.Family.{Within}
 use Rattle.family.specs.Book.{start, distinct}
 use Rattle.family.proofs.Books.{number-at, grown-self, grown-length, grown-at}
-use Rattle.store.specs.Capacity.{capacityOf}
-use Rattle.store.specs.Words.{itemLimit, bookOf}
+use Rattle.store.specs.Words.{bookOf}
 use Rattle.store.proofs.Decoding.{sound-holds}
 use Rattle.store.proofs.Held.{at-inj}
 use Rattle.lists.specs.Calls.{Call, Answer}
-use Rattle.lists.specs.Books.{answersFrom, bookFrom, answersOf, bookOfCalls, Handout, firstHandouts, handedFrom, handedOut, allParts, SavedFile, filesFrom, filesOf}
-use Rattle.lists.specs.Runs.{State, Step, Runs, fresh, next}
+use Rattle.lists.specs.Books.{Bounds, answersFrom, bookFrom, answersOf, bookOfCalls, Handout, firstHandouts, handedFrom, handedOut, allParts, SavedFile, filesFrom, filesOf}
+use Rattle.lists.specs.Runs.{State, Opening, boundsOf, Step, Runs, fresh, next}
 use Rattle.lists.specs.Demand3.{meaning}
 use Rattle.lists.proofs.Limits.{at-within}
-use Rattle.lists.proofs.Invariant.{Inv, book, size, count-fits, capacity-low, fresh-inv}
+use Rattle.lists.proofs.Invariant.{Inv, limit-low, book, size, count-fits, capacity-low, fresh-inv}
 use Rattle.lists.proofs.Steps.{step}
 use Rattle.lists.proofs.Growth.{book-append, book-snoc, answers-snoc, MadeBy, first-handed, handed-from, handed-length, book-grown}
 use Rattle.lists.proofs.Filing.{Filed, now-filed, files-snoc}
 
 -- what a list of calls has come to
-pub record Reached (capacity slots : ℕ) (calls : List Call) (answers : List Answer) (x : State) : Type 0 where
-  pub inv : Inv capacity slots (bookFrom capacity start calls) x
-  pub answered : answers ≡ answersFrom capacity start calls
-  pub filed : (f : SavedFile) → List·Memᴰ f (filesFrom capacity start calls (answersFrom capacity start calls)) → Filed f
+pub record Reached (bounds : Bounds) (slots : ℕ) (calls : List Call) (answers : List Answer) (x : State) : Type 0 where
+  pub inv : Inv bounds slots (bookFrom bounds start calls) x
+  pub answered : answers ≡ answersFrom bounds start calls
+  pub filed : (f : SavedFile) → List·Memᴰ f (filesFrom bounds start calls (answersFrom bounds start calls)) → Filed f
 
-more : {capacity slots : ℕ} {calls : List Call} {answers : List Answer} {x y : State} {call : Call} {answer : Answer}
-    → Reached capacity slots calls answers x → Step x call answer y → Reached capacity slots (calls ++ (call ∷ [])) (answers ++ (answer ∷ [])) y
-more {capacity} {slots} {calls} {answers} {x} {y} {call} {answer} R s =
+more : {bounds : Bounds} {slots : ℕ} {calls : List Call} {answers : List Answer} {x y : State} {call : Call} {answer : Answer}
+    → Reached bounds slots calls answers x → Step x call answer y → Reached bounds slots (calls ++ (call ∷ [])) (answers ++ (answer ∷ [])) y
+more {bounds} {slots} {calls} {answers} {x} {y} {call} {answer} R s =
     let S = step (R .inv) s in
     record {
-      inv = rw (book-snoc capacity start calls call) (S .after);
-      answered = rw (R .answered, S .answer-is) (sym (answers-snoc capacity start calls call));
+      inv = rw (book-snoc bounds start calls call) (S .after);
+      answered = rw (R .answered, S .answer-is) (sym (answers-snoc bounds start calls call));
       filed = λ f m. ⊎-elim (λ l. R .filed f l)
-          (λ r. now-filed capacity (bookFrom capacity start calls) (book (R .inv)) (omega (arith, size (R .inv), count-fits (R .inv), capacity-low (R .inv))) call f r)
-          (List·Memᴰ·append-cases (filesFrom capacity start calls (answersFrom capacity start calls)) (rw (files-snoc capacity start calls call) at m));
+          (λ r. now-filed bounds (bookFrom bounds start calls) (book (R .inv)) (limit-low (R .inv)) (omega (arith, size (R .inv), count-fits (R .inv), capacity-low (R .inv))) call f r)
+          (List·Memᴰ·append-cases (filesFrom bounds start calls (answersFrom bounds start calls)) (rw (files-snoc bounds start calls call) at m));
     }
 
-pub reached : {nodes lookup cache : List ℕ} {calls : List Call} {answers : List Answer} {x : State} → Runs nodes lookup cache calls answers x → Reached (capacityOf (length nodes)) (length lookup) calls answers x
-reached {nodes} {lookup} {cache} (fresh P e) = record { inv = fresh-inv nodes lookup cache P e; answered = refl; filed = λ f m. absurd (List·Memᴰ·not-nil m) }
+pub reached : {o : Opening} {calls : List Call} {answers : List Answer} {x : State} → Runs o calls answers x → Reached (boundsOf o) (length (o .lookup)) calls answers x
+reached {o} (fresh P e) = record { inv = fresh-inv o P e; answered = refl; filed = λ f m. absurd (List·Memᴰ·not-nil m) }
 reached (next R s) = more (reached R) s
 
 -- each beginning of a list is such a list
-beginning : {nodes lookup cache : List ℕ} {calls : List Call} {answers : List Answer} {x : State} → Runs nodes lookup cache calls answers x
-    → (length answers ≡ length calls) × ((n : ℕ) → (y : State) × Runs nodes lookup cache (take n calls) (take n answers) y)
+beginning : {o : Opening} {calls : List Call} {answers : List Answer} {x : State} → Runs o calls answers x
+    → (length answers ≡ length calls) × ((n : ℕ) → (y : State) × Runs o (take n calls) (take n answers) y)
 beginning (fresh P e) = (refl, λ n. rw (take-nil {A = Call} n, take-nil {A = Answer} n) (_, fresh P e))
-beginning {nodes} {lookup} {cache} (next {calls = calls} {answers = answers} {y = y} {call = call} {answer = answer} R s) =
+beginning (next {calls = calls} {answers = answers} {y = y} {call = call} {answer = answer} R s) =
     let q = beginning R in
     let l : length (answers ++ (answer ∷ [])) ≡ length (calls ++ (call ∷ [])) = rw (length-append answers (answer ∷ []), length-append calls (call ∷ []), q .0) in (
       l,
@@ -61,44 +60,44 @@ beginning {nodes} {lookup} {cache} (next {calls = calls} {answers = answers} {y 
           (λ h e. rw (take-append-le n calls (call ∷ []) h, take-append-le n answers (answer ∷ []) (omega (arith, q .0))) (q .1 n)),
     )
 
-pub beginnings : {nodes lookup cache : List ℕ} {calls : List Call} {answers : List Answer} {x : State} → Runs nodes lookup cache calls answers x
-    → (n : ℕ) → (y : State) × Runs nodes lookup cache (take n calls) (take n answers) y
+pub beginnings : {o : Opening} {calls : List Call} {answers : List Answer} {x : State} → Runs o calls answers x
+    → (n : ℕ) → (y : State) × Runs o (take n calls) (take n answers) y
 beginnings run = beginning run .1
 
-module _ {capacity slots : ℕ} {calls : List Call} {answers : List Answer} {x : State} (R : Reached capacity slots calls answers x) where
-  pub held-is : bookOf (x .nodes) (x .store .count) ≡ bookOfCalls capacity calls
+module _ {bounds : Bounds} {slots : ℕ} {calls : List Call} {answers : List Answer} {x : State} (R : Reached bounds slots calls answers x) where
+  pub held-is : bookOf (x .nodes) (x .store .count) ≡ bookOfCalls bounds calls
   unfolding bookOfCalls
   held-is = R .inv .book-is
 
   -- a handle's family is the book's
-  pub means-within : (h : ℕ) → Within itemLimit (meaning x h)
-  means-within h = at-within (bookOf (x .nodes) (x .store .count)) (sound-holds (R .inv .sound) .book) h
+  pub means-within : (h : ℕ) → Within (bounds .limit) (meaning x h)
+  means-within h = at-within (bookOf (x .nodes) (x .store .count)) (rw (R .inv .limit-is) at (sound-holds (R .inv .sound) .book)) h
 
   pub handles-equal : (h k : ℕ) → h ≤ x .store .count + 1 → k ≤ x .store .count + 1 → (h ≡ k) ↔ (meaning x h ≡ meaning x k)
   handles-equal h k l m = (λ e. ap (λ j. meaning x j) e, λ e. at-inj (sound-holds (R .inv .sound)) h k (omega arith) (omega arith) e)
 
-  handed : MadeBy (bookFrom capacity start calls) (handedFrom capacity start firstHandouts calls)
-  handed = handed-from capacity start firstHandouts calls (grown-self start) first-handed
+  handed : MadeBy (bookFrom bounds start calls) (handedFrom bounds start firstHandouts calls)
+  handed = handed-from bounds start firstHandouts calls (grown-self start) first-handed
 
-  pub counts : x .store .count ≡ length (distinct (allParts (handedOut capacity calls)))
+  pub counts : x .store .count ≡ length (distinct (allParts (handedOut bounds calls)))
   unfolding handedOut
   counts = omega (arith, handed-length handed, size (R .inv))
 
-  pub keeps : (g : Handout) → List·Memᴰ g (handedOut capacity calls) → (g .handle ≤ x .store .count + 1) × (meaning x (g .handle) ≡ g .family)
+  pub keeps : (g : Handout) → List·Memᴰ g (handedOut bounds calls) → (g .handle ≤ x .store .count + 1) × (meaning x (g .handle) ≡ g .family)
   unfolding handedOut
   keeps g m =
       let N = handed .each g m in
-      (omega (arith, N .held, N .is, size (R .inv)), rw (R .inv .book-is, ← N .is) (number-at (bookFrom capacity start calls) (g .family) (N .held)))
+      (omega (arith, N .held, N .is, size (R .inv)), rw (R .inv .book-is, ← N .is) (number-at (bookFrom bounds start calls) (g .family) (N .held)))
 
-  pub files-filed : (f : SavedFile) → List·Memᴰ f (filesOf capacity calls answers) → Filed f
+  pub files-filed : (f : SavedFile) → List·Memᴰ f (filesOf bounds calls answers) → Filed f
   unfolding filesOf
   files-filed f m = R .filed f (rw (R .answered) at m)
 
-  pub lasts : (more : List Call) {theirs : List Answer} {y : State} → Reached capacity slots (calls ++ more) theirs y → (h : ℕ) → h ≤ x .store .count + 1 → (h ≤ y .store .count + 1) × (meaning y h ≡ meaning x h)
+  pub lasts : (more : List Call) {theirs : List Answer} {y : State} → Reached bounds slots (calls ++ more) theirs y → (h : ℕ) → h ≤ x .store .count + 1 → (h ≤ y .store .count + 1) × (meaning y h ≡ meaning x h)
   lasts more Q h l =
-      let g = rw (← book-append capacity start calls more) at (book-grown capacity (bookFrom capacity start calls) more) in
+      let g = rw (← book-append bounds start calls more) at (book-grown bounds (bookFrom bounds start calls) more) in
       (omega (arith, grown-length g, size (R .inv), size (Q .inv)), rw (Q .inv .book-is, R .inv .book-is) (grown-at g h (omega (arith, size (R .inv)))))
 
-  pub as-book : answers ≡ answersOf capacity calls
+  pub as-book : answers ≡ answersOf bounds calls
   unfolding answersOf
   as-book = R .answered

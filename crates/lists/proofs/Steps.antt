@@ -34,7 +34,7 @@ use Rattle.store_audit.specs.Promise.{AuditCall}
 use Rattle.op_promise.specs.declared.Operation.{Operation}
 use Rattle.lists.specs.Calls.{Call, Operate, Size, Has, Save, Load, Audit, Answer}
 use Rattle.lists.specs.Acts.{placeReturns, sizeReturns, hasReturns, saveReturns, auditReturns, Saves, actAnswer, stays}
-use Rattle.lists.specs.Books.{bookAnswer, bookEffect}
+use Rattle.lists.specs.Books.{Bounds, bookAnswer, bookEffect}
 use Rattle.lists.specs.Runs.{State, sameWords, withPart, Step, operates, sizes, asks, saves, loads, audits}
 use Rattle.lists.proofs.Lending.{joined-true}
 use Rattle.lists.proofs.Invariant.{Inv, BookStep, count-is}
@@ -49,52 +49,52 @@ save-answers capacity B p words out =
     (λ t. rw (t, take-append-seam (fileOf (at B p)) (drop (length (fileOf (at B p))) out)))
     (λ t. rw t)
 
-module _ {capacity slots : ℕ} {B : List Family} {x : State} (I : Inv capacity slots B x) where
+module _ {bounds : Bounds} {slots : ℕ} {B : List Family} {x : State} (I : Inv bounds slots B x) where
   operate-step : (lent : ℕ) {op : Operation} {p q : ℕ} {r : Placed} {nodes lookup part : List ℕ}
       → OperationCall (numberOf op) p q (x .store) (x .nodes) (x .lookup) (take lent (x .cache)) r nodes lookup part
-      → BookStep capacity slots B (Operate op p q) (placeReturns (givenBy (r .answer))) (withPart x lent (r .store) nodes lookup part)
-  operate-step lent P = place-step (record { act = rw (← count-is I) refl }) I lent (rw (I .book-is) at P)
+      → BookStep bounds slots B (Operate op p q) (placeReturns (givenBy (r .answer))) (withPart x lent (r .store) nodes lookup part)
+  operate-step lent P = place-step (record { act = rw (← count-is I, ← I .limit-is) refl }) I lent (rw (I .book-is) at P)
 
   load-step : (lent : ℕ) {file scratch : List ℕ} {r : Placed} {nodes lookup part scratch′ : List ℕ}
       → LoadCall (x .store) (x .nodes) (x .lookup) (take lent (x .cache)) file scratch r nodes lookup part scratch′
-      → BookStep capacity slots B (Load file (length scratch)) (placeReturns (givenBy (r .answer))) (withPart x lent (r .store) nodes lookup part)
-  load-step lent P = place-step (record { act = refl }) I lent (P .places)
+      → BookStep bounds slots B (Load file (length scratch)) (placeReturns (givenBy (r .answer))) (withPart x lent (r .store) nodes lookup part)
+  load-step lent P = place-step (record { act = rw (← I .limit-is) refl }) I lent (P .places)
 
   -- the store with no cache
   pub no-cache : Sound (x .store) (x .nodes) (x .lookup) []
   no-cache = bare (I .sound)
 
   -- a call that writes no store word, and hands the record back as it came
-  query-step : (call : Call) (answer : Answer) (s : Store) → bookEffect capacity B call ≡ stays → answer ≡ bookAnswer capacity B call → s ≡ x .store
-      → BookStep capacity slots B call answer (sameWords x s)
+  query-step : (call : Call) (answer : Answer) (s : Store) → bookEffect bounds B call ≡ stays → answer ≡ bookAnswer bounds B call → s ≡ x .store
+      → BookStep bounds slots B call answer (sameWords x s)
   query-step call answer s t a e = record { answer-is = a; after = rw (e, t) I }
 
   size-step : {p : ℕ} {scratch scratch′ : List ℕ} {r : Measured} → SizeCall (x .store) (x .nodes) (x .lookup) p scratch r scratch′
-      → BookStep capacity slots B (Size p (length scratch)) (sizeReturns (sizeGivenBy (r .answer))) (sameWords x (r .store))
+      → BookStep bounds slots B (Size p (length scratch)) (sizeReturns (sizeGivenBy (r .answer))) (sameWords x (r .store))
   unfolding bookAnswer bookEffect
   size-step {p} {scratch} {scratch′} {r} P =
       query-step (Size p (length scratch)) (sizeReturns (sizeGivenBy (r .answer))) (r .store) refl
       (ap sizeReturns (P .answer-is no-cache) ∙ ap (λ X. sizeReturns (sizeAnswer X p (length scratch))) (I .book-is)) (P .store-is)
 
   has-step : {p : ℕ} (w : List ℕ) {r : Asked} → HasCall (x .store) (x .nodes) (x .lookup) p (itemsOf w) r
-      → BookStep capacity slots B (Has p w) (hasReturns (hasGivenBy (r .answer))) (sameWords x (r .store))
+      → BookStep bounds slots B (Has p w) (hasReturns (hasGivenBy (r .answer))) (sameWords x (r .store))
   unfolding bookAnswer bookEffect
   has-step {p} w {r} P =
       query-step (Has p w) (hasReturns (hasGivenBy (r .answer))) (r .store) refl
       (ap hasReturns (P .answer-is no-cache) ∙ ap (λ X. hasReturns (hasAnswer X p (itemsOf w))) (I .book-is)) (P .store-is)
 
   save-step : {p : ℕ} {scratch out scratch′ out′ : List ℕ} {r : Saved} → SaveCall (x .store) (x .nodes) (x .lookup) p scratch out r scratch′ out′
-      → BookStep capacity slots B (Save p (length scratch) (length out)) (saveReturns (saveGivenBy (r .answer)) out′) (sameWords x (r .store))
+      → BookStep bounds slots B (Save p (length scratch) (length out)) (saveReturns (saveGivenBy (r .answer)) out′) (sameWords x (r .store))
   unfolding bookAnswer bookEffect
   save-step {p} {scratch} {out} {scratch′} {out′} {r} P =
       query-step (Save p (length scratch) (length out)) (saveReturns (saveGivenBy (r .answer)) out′) (r .store) refl
       (ap (λ g. saveReturns g out′) (P .answer-is no-cache)
       ∙ ap (λ l. saveReturns (saveAnswer (bookOf (x .nodes) (x .store .count)) p (length scratch) (length out)) l) (P .out-is no-cache)
       ∙ ap (λ X. saveReturns (saveAnswer X p (length scratch) (length out)) (saveOutput X p (length scratch) out)) (I .book-is)
-      ∙ save-answers capacity B p (length scratch) out) (P .store-is)
+      ∙ save-answers (bounds .capacity) B p (length scratch) out) (P .store-is)
 
   audit-step : (lent : ℕ) {r : Audited} {part : List ℕ} → AuditCall (x .store) (x .nodes) (x .lookup) (take lent (x .cache)) r part
-      → BookStep capacity slots B Audit (auditReturns (r .sound)) (withPart x lent (r .store) (x .nodes) (x .lookup) part)
+      → BookStep bounds slots B Audit (auditReturns (r .sound)) (withPart x lent (r .store) (x .nodes) (x .lookup) part)
   unfolding bookAnswer bookEffect
   audit-step lent {r} {part} P =
       record {
@@ -104,11 +104,12 @@ module _ {capacity slots : ℕ} {B : List Family} {x : State} (I : Inv capacity 
               (joined-true (grown-self (bookOf (x .nodes) (x .store .count))) (x .cache) part lent long rest (I .sound .cached) (true-of (bookOf (x .nodes) (x .store .count))));
           book-is = I .book-is;
           capacity-is = I .capacity-is;
+          limit-is = I .limit-is;
           slots-are = I .slots-are;
         };
       }
     where
-      true-of : (C : List Family) → True C part
+      true-of : (C : List Family) → True (x .store .limit) C part
       true-of C = rw (P .cache-is) (zeroed-true C (take lent (x .cache)))
 
       long : length part ≡ length (take lent (x .cache))
@@ -119,7 +120,7 @@ module _ {capacity slots : ℕ} {B : List Family} {x : State} (I : Inv capacity 
           ap (λ l. drop (length (take lent (x .cache)) / 4 * 4) l) (P .cache-is)
           ∙ zeroed-drop 0 (length (take lent (x .cache)) / 4 * 4) (take lent (x .cache)) (omega arith) (omega arith)
 
-  pub step : {call : Call} {answer : Answer} {y : State} → Step x call answer y → BookStep capacity slots B call answer y
+  pub step : {call : Call} {answer : Answer} {y : State} → Step x call answer y → BookStep bounds slots B call answer y
   step (operates lent {op = op} {p = p} {q = q} P) = operate-step lent {op = op} {p = p} {q = q} P
   step (sizes P) = size-step P
   step (asks {combination = w} P) = has-step w P

@@ -10,10 +10,9 @@ use lib.ListN.{length}
 use native.Mathlib.Omega.{arith}
 use borrow.Author.Tests.{le-ltb}
 use Rattle.words.proofs.Cases.{by-test}
-use Rattle.family.specs.Family.{Family, size}
+use Rattle.family.specs.Family.{Family, size, top, largestItem}
 use Rattle.family.specs.Book.{at}
 use Rattle.family.specs.File.{fileOf, familyOf}
-use Rattle.store.specs.Words.{itemLimit}
 use Rattle.store.specs.Operations.{named}
 use Rattle.store.specs.Placing.{tooLarge, placeAnswer}
 use Rattle.store.specs.Scratch.{scratchTests}
@@ -23,39 +22,39 @@ use Rattle.query_sizes.specs.NodeSizes.{most}
 use Rattle.query_size.specs.Promise.{sizeRefusal, sizeAnswer}
 use Rattle.query_has.specs.Promise.{hasAnswer, hasRefusal}
 use Rattle.file_save.specs.Promise.{saveRefusal}
-use Rattle.file_load.specs.Promise.{noFile, foundFamily, loadRefusal, loadFamily}
+use Rattle.file_load.specs.Promise.{fileNumber, foundFamily, loadRefusal, loadFamily}
 use Rattle.op_promise.specs.declared.Operation.{Operation}
 use Rattle.lists.specs.Calls.{Call, Operate, Size, Has, Save, Load, Audit}
 use Rattle.lists.specs.Acts.{count}
-use Rattle.lists.specs.Books.{bookAnswer}
+use Rattle.lists.specs.Books.{Bounds, bookAnswer}
 use Rattle.lists.specs.Table.{above, onItem, fileRefusal, refusalOf}
 
-module _ (capacity : ℕ) (B : List Family) where
-  place-refusal : (n : ℕ) (F : Family) → placeAnswer capacity B n F .refusal ≡ cond (eqb n 0) (cond (tooLarge capacity B F) 5 0) n
+module _ (bounds : Bounds) (B : List Family) where
+  place-refusal : (n : ℕ) (F : Family) → placeAnswer (bounds .capacity) B n F .refusal ≡ cond (eqb n 0) (cond (tooLarge (bounds .capacity) B F) 5 0) n
   unfolding placeAnswer
-  place-refusal n F = by-test (eqb n 0) (λ t. rw t (by-test (tooLarge capacity B F) (λ f. rw f) (λ f. rw f))) (λ t. rw t)
+  place-refusal n F = by-test (eqb n 0) (λ t. rw t (by-test (tooLarge (bounds .capacity) B F) (λ f. rw f) (λ f. rw f))) (λ t. rw t)
 
-  operate-table : (op : Operation) (p q : ℕ) → refusalOf capacity B (Operate op p q)
-      ≡ cond (eqb (operationRefusal (numberOf op) (count B) p q) 0) (cond (tooLarge capacity B (named (numberOf op) B p q)) 5 0) (operationRefusal (numberOf op) (count B) p q)
+  operate-table : (op : Operation) (p q : ℕ) → refusalOf bounds B (Operate op p q)
+      ≡ cond (eqb (operationRefusal (numberOf op) (bounds .limit) (count B) p q) 0) (cond (tooLarge (bounds .capacity) B (named (numberOf op) B p q)) 5 0) (operationRefusal (numberOf op) (bounds .limit) (count B) p q)
   unfolding refusalOf operationRefusal testsOf
   operate-table op p q =
       by-test (onItem op)
-      (λ t. rw t (by-test (above B p) (λ a. rw a) (λ a. rw (a, le-ltb (count B + 1) 0 (omega arith)) (by-test (isItem q) (λ i. rw i) (λ i. rw i)))))
+      (λ t. rw t (by-test (above B p) (λ a. rw a) (λ a. rw (a, le-ltb (count B + 1) 0 (omega arith)) (by-test (isItem (bounds .limit) q) (λ i. rw i) (λ i. rw i)))))
       (λ t. rw t (by-test (above B p) (λ a. rw a) (λ a. rw a (by-test (above B q) (λ b. rw b) (λ b. rw b)))))
 
-  load-table : (file : List ℕ) (scratch : ℕ) → refusalOf capacity B (Load file scratch)
-      ≡ cond (eqb (loadRefusal file scratch) 0) (cond (tooLarge capacity B (loadFamily file)) 5 0) (loadRefusal file scratch)
+  load-table : (file : List ℕ) (scratch : ℕ) → refusalOf bounds B (Load file scratch)
+      ≡ cond (eqb (loadRefusal (bounds .limit) file scratch) 0) (cond (tooLarge (bounds .capacity) B (loadFamily file)) 5 0) (loadRefusal (bounds .limit) file scratch)
   unfolding refusalOf loadRefusal loadFamily
   load-table file scratch =
-      by-test (ltb scratch (6 * length file)) (λ s. rw s) (λ s. rw s (by-file (familyOf itemLimit file)))
+      by-test (ltb scratch (6 * length file)) (λ s. rw s) (λ s. rw s (by-file (familyOf largestItem file)))
     where
-      by-file : (o : Option Family) → fileRefusal capacity B o ≡ cond (eqb (noFile o) 0) (cond (tooLarge capacity B (foundFamily o)) 5 0) (noFile o)
+      by-file : (o : Option Family) → fileRefusal bounds B o ≡ cond (eqb (fileNumber (bounds .limit) o) 0) (cond (tooLarge (bounds .capacity) B (foundFamily o)) 5 0) (fileNumber (bounds .limit) o)
       by-file none = refl
-      by-file (some F) = refl
+      by-file (some F) = by-test (ltb (bounds .limit) (top F)) (λ t. rw t) (λ t. rw t)
 
-  pub tabled : (call : Call) → bookAnswer capacity B call .refusal ≡ refusalOf capacity B call
+  pub tabled : (call : Call) → bookAnswer bounds B call .refusal ≡ refusalOf bounds B call
   unfolding bookAnswer refusalOf sizeAnswer sizeRefusal saveRefusal scratchTests hasAnswer hasRefusal testsOf
-  tabled (Operate op p q) = place-refusal (operationRefusal (numberOf op) (count B) p q) (named (numberOf op) B p q) ∙ sym (operate-table op p q)
+  tabled (Operate op p q) = place-refusal (operationRefusal (numberOf op) (bounds .limit) (count B) p q) (named (numberOf op) B p q) ∙ sym (operate-table op p q)
   tabled (Size p scratch) =
       by-test (above B p) (λ a. rw a)
       (λ a. rw (a, le-ltb (count B + 1) 0 (omega arith)) (by-test (ltb scratch (count B)) (λ s. rw s) (λ s. rw s (by-test (ltb most (size (at B p))) (λ l. rw l) (λ l. rw l)))))
@@ -63,5 +62,5 @@ module _ (capacity : ℕ) (B : List Family) where
   tabled (Save p scratch output) =
       by-test (above B p) (λ a. rw a)
       (λ a. rw (a, le-ltb (count B + 1) 0 (omega arith)) (by-test (ltb scratch (count B)) (λ s. rw s) (λ s. rw s (by-test (ltb output (length (fileOf (at B p)))) (λ l. rw l) (λ l. rw l)))))
-  tabled (Load file scratch) = place-refusal (loadRefusal file scratch) (loadFamily file) ∙ sym (load-table file scratch)
+  tabled (Load file scratch) = place-refusal (loadRefusal (bounds .limit) file scratch) (loadFamily file) ∙ sym (load-table file scratch)
   tabled Audit = refl

@@ -9,8 +9,7 @@ use Rattle.words.proofs.Zeroed.{zeros-length}
 use Rattle.family.specs.Family.{Family}
 use Rattle.family.specs.Combination.{itemsOf}
 use Rattle.family.specs.Book.{start}
-use Rattle.store.specs.Capacity.{capacityOf}
-use Rattle.store.specs.Words.{itemLimit, bookOf}
+use Rattle.store.specs.Words.{bookOf}
 use Rattle.store.specs.Operations.{named}
 use Rattle.store.specs.Sound.{Sound}
 use Rattle.store.proofs.Decoding.{sound-holds}
@@ -19,11 +18,11 @@ use Rattle.store_fresh.specs.Promise.{freshLeaves, freshOf}
 use Rattle.file_load.specs.Promise.{loadFamily}
 use Rattle.op_promise.specs.Promise.{numberOf}
 use Rattle.lists.specs.Calls.{Call, Operate, Size, Has, Save, Load, Audit, Answer}
-use Rattle.lists.specs.Books.{bookAnswer, answersOf, bookOfCalls}
-use Rattle.lists.specs.Runs.{State, Step, operates, sizes, asks, saves, loads, audits, Runs, fresh, next}
+use Rattle.lists.specs.Books.{Bounds, bookAnswer, answersOf, bookOfCalls}
+use Rattle.lists.specs.Runs.{State, Opening, boundsOf, Step, operates, sizes, asks, saves, loads, audits, Runs, fresh, next}
 use Rattle.lists.specs.Witness.{WitnessClaim}
-use Rattle.lists.proofs.Limits.{named-within, file-within}
-use Rattle.lists.proofs.Acting.{load-finds}
+use Rattle.lists.proofs.Limits.{named-within}
+use Rattle.lists.proofs.Acting.{load-within}
 use Rattle.store.proofs.Sounds.{sound-with}
 use Rattle.lists.proofs.Lending.{lent-true}
 use Rattle.lists.proofs.Invariant.{Inv}
@@ -37,7 +36,7 @@ use Rattle.lists.proofs.Promising.{place-kept, has-kept, audit-kept, si
 data Steps (x : State) (call : Call) : Type 0 where
   taken : {answer : Answer} {y : State} → Step x call answer y → Steps x call
 
-module _ {capacity slots : ℕ} {B : List Family} {x : State} (I : Inv capacity slots B x) where
+module _ {bounds : Bounds} {slots : ℕ} {B : List Family} {x : State} (I : Inv bounds slots B x) where
   -- the store with the part of the cache that is lent
   lent-sound : (lent : ℕ) → Sound (x .store) (x .nodes) (x .lookup) (take lent (x .cache))
   lent-sound lent = sound-with (take lent (x .cache)) (I .sound) (lent-true (x .cache) lent (I .sound .cached))
@@ -51,7 +50,7 @@ module _ {capacity slots : ℕ} {B : List Family} {x : State} (I : Inv capacity 
 
   load-steps : ℕ → (file scratch : List ℕ) → Steps x (Load file (length scratch))
   load-steps lent file scratch =
-      let K = place-kept (loadFamily file) (lent-sound lent) (load-refusing file (length scratch)) (λ e. file-within itemLimit file (loadFamily file) (load-finds file (length scratch) e)) in
+      let K = place-kept (loadFamily file) (lent-sound lent) (load-refusing (x .store .limit) file (length scratch)) (λ e. load-within (x .store .limit) file (length scratch) e) in
       taken (loads lent {scratch = scratch} {scratch′ = scratch} (record { places = K .call; scratch-misfit = λ d. refl; scratch-short = λ d. refl; scratch-rest = refl; long = refl }))
 
   steps : ℕ → (call : Call) → Steps x call
@@ -59,7 +58,7 @@ module _ {capacity slots : ℕ} {B : List Family} {x : State} (I : Inv capacity 
       let n = x .store .count in
       let book = sound-holds (I .sound) .book in
       taken (operates lent (place-kept (named (numberOf op) (bookOf (x .nodes) n) p q) (lent-sound lent)
-      (operation-refusing (numberOf op) n p q) (λ e. named-within (numberOf op) (bookOf (x .nodes) n) book n p q e) .call))
+      (operation-refusing (numberOf op) (x .store .limit) n p q) (λ e. named-within (numberOf op) (bookOf (x .nodes) n) book n p q e) .call))
   steps lent (Size p scratch) = rw (zeros-length scratch) at (size-steps p (replicate scratch 0))
   steps lent (Has p combination) = taken (asks (has-kept (no-cache I) p (itemsOf combination) .call))
   steps lent (Save p scratch output) = rw (zeros-length scratch, zeros-length output) at (save-steps p (replicate scratch 0) (replicate output 0))
@@ -67,37 +66,37 @@ module _ {capacity slots : ℕ} {B : List Family} {x : State} (I : Inv capacity 
   steps lent Audit = taken (audits lent (audit-kept (no-cache I) (take lent (x .cache))))
 
   -- its answer is the book's
-  answered : {call : Call} → Steps x call → (y : State) × Step x call (bookAnswer capacity B call) y
+  answered : {call : Call} → Steps x call → (y : State) × Step x call (bookAnswer bounds B call) y
   answered (taken {y = y} s) = (y, rw (step I s .answer-is) at s)
 
 -- the whole cache is lent to each call
-module _ (nodes lookup cache : List ℕ) where
-  follows : {calls : List Call} {answers : List Answer} {x : State} → Runs nodes lookup cache calls answers x
-      → (call : Call) → (y : State) × Step x call (bookAnswer (capacityOf (length nodes)) (bookOfCalls (capacityOf (length nodes)) calls) call) y
+module _ (o : Opening) where
+  follows : {calls : List Call} {answers : List Answer} {x : State} → Runs o calls answers x
+      → (call : Call) → (y : State) × Step x call (bookAnswer (boundsOf o) (bookOfCalls (boundsOf o) calls) call) y
   unfolding bookOfCalls
   follows {x = x} run call = let I = reached run .inv in answered I (steps I (length (x .cache)) call)
 
-  goes-on : (done more : List Call) {x : State} → Runs nodes lookup cache done (answersOf (capacityOf (length nodes)) done) x
-      → (y : State) × Runs nodes lookup cache (done ++ more) (answersOf (capacityOf (length nodes)) (done ++ more)) y
+  goes-on : (done more : List Call) {x : State} → Runs o done (answersOf (boundsOf o) done) x
+      → (y : State) × Runs o (done ++ more) (answersOf (boundsOf o) (done ++ more)) y
   unfolding answersOf bookOfCalls
   goes-on done [] {x} run = rw (append-nil done) (x, run)
   goes-on done (call ∷ more) run =
       let q = follows run call in
-      let onward = goes-on (done ++ (call ∷ [])) more {x = q .0} (rw (answers-snoc (capacityOf (length nodes)) start done call) (next run (q .1))) in
+      let onward = goes-on (done ++ (call ∷ [])) more {x = q .0} (rw (answers-snoc (boundsOf o) start done call) (next run (q .1))) in
       rw (append-assoc done (call ∷ []) more) at onward
 
-  begun : freshOf nodes lookup cache .refusal ≡ 0 → (x : State) × Runs nodes lookup cache [] [] x
-  begun e = (_, fresh {r = record { store = freshOf nodes lookup cache .store; answer = Done }} (record { leaves-is = left }) refl)
+  begun : freshOf (o .limit) (o .nodes) (o .lookup) (o .cache) .refusal ≡ 0 → (x : State) × Runs o [] [] x
+  begun e = (_, fresh {r = record { store = freshOf (o .limit) (o .nodes) (o .lookup) (o .cache) .store; answer = Done }} (record { leaves-is = left }) refl)
     where
-      left : freshLeaves (record { store = freshOf nodes lookup cache .store; answer = Done }) (freshOf nodes lookup cache .nodes) (freshOf nodes lookup cache .lookup) (freshOf nodes lookup cache .cache)
-          ≡ freshOf nodes lookup cache
+      left : freshLeaves (record { store = freshOf (o .limit) (o .nodes) (o .lookup) (o .cache) .store; answer = Done }) (freshOf (o .limit) (o .nodes) (o .lookup) (o .cache) .nodes) (freshOf (o .limit) (o .nodes) (o .lookup) (o .cache) .lookup) (freshOf (o .limit) (o .nodes) (o .lookup) (o .cache) .cache)
+          ≡ freshOf (o .limit) (o .nodes) (o .lookup) (o .cache)
       left =
-          let l = freshOf nodes lookup cache in
+          let l = freshOf (o .limit) (o .nodes) (o .lookup) (o .cache) in
           λ i. record { refusal = sym e i; store = l .store; nodes = l .nodes; lookup = l .lookup; cache = l .cache }
 
-  runs : freshOf nodes lookup cache .refusal ≡ 0 → (calls : List Call) → (x : State) × Runs nodes lookup cache calls (answersOf (capacityOf (length nodes)) calls) x
+  runs : freshOf (o .limit) (o .nodes) (o .lookup) (o .cache) .refusal ≡ 0 → (calls : List Call) → (x : State) × Runs o calls (answersOf (boundsOf o) calls) x
   unfolding answersOf
   runs e calls = goes-on [] calls (begun e .1)
 
 pub witness : WitnessClaim
-witness nodes lookup cache = record { follows = follows nodes lookup cache; runs = runs nodes lookup cache }
+witness o = record { follows = follows o; runs = runs o }

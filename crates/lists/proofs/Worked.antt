@@ -27,7 +27,7 @@ use Rattle.file_save.specs.Promise.{saveRefusal, saveAnswer}
 use Rattle.lists.specs.Calls.{Answer}
 use Rattle.lists.specs.Books.{bookAnswer, bookEffect, answersOf, bookOfCalls}
 use Rattle.lists.specs.Runs.{State}
-use Rattle.lists.specs.Worked.{worked, workedAnswers, workedWords, workedLookup, WorkedList, WorkedStore, WorkedClaim}
+use Rattle.lists.specs.Worked.{worked, workedBounds, workedAnswers, workedWords, workedLookup, WorkedList, WorkedStore, WorkedClaim}
 use Rattle.lists.proofs.Invariant.{holds}
 use Rattle.lists.proofs.Reaching.{Reached, reached, as-book}
 
@@ -35,11 +35,11 @@ use Rattle.lists.proofs.Reaching.{Reached, reached, as-book}
 abbrev book : List Family
 book = empty ∷ base ∷ node 1 empty base ∷ node 2 empty base ∷ node 2 (node 1 empty base) base ∷ node 2 base (node 1 empty base) ∷ []
 
-book-is : bookOfCalls 4 worked ≡ book
+book-is : bookOfCalls workedBounds worked ≡ book
 unfolding bookOfCalls bookEffect operationRefusal testsOf tooLarge costOf isItem named restrict rule combine same decide ℕ-discrete add fileOfBook recordBytes mapOf
 book-is = refl
 
-answers-are : answersOf 4 worked ≡ workedAnswers
+answers-are : answersOf workedBounds worked ≡ workedAnswers
 unfolding answersOf bookAnswer bookEffect operationRefusal testsOf placeAnswer saveAnswer saveRefusal scratchTests tooLarge costOf isItem named restrict rule combine same decide ℕ-discrete add fileOfBook recordBytes mapOf
 answers-are = refl
 
@@ -72,10 +72,10 @@ worked-list =
     }
 
 -- a store that came to the book has its words
-store-of : {answers : List Answer} {x : State} → Reached 4 7 worked answers x → WorkedStore answers x
+store-of : {answers : List Answer} {x : State} → Reached workedBounds 7 worked answers x → WorkedStore answers x
 unfolding bookOfCalls
 store-of {answers} {x} R =
-    let H : Holds book (x .store .count) (x .nodes) (x .lookup) = rw book-is at (holds (R .inv)) in
+    let H : Holds 512 book (x .store .count) (x .nodes) (x .lookup) = rw book-is at (holds (R .inv)) in
     let four : x .store .count ≡ 4 = omega (arith, H .size) in
     let fits : 3 * x .store .count ≤ length (x .nodes) = omega (arith, R .inv .sound .capacity-is, R .inv .sound .within) in
     record {
@@ -86,4 +86,4 @@ store-of {answers} {x} R =
     }
 
 pub worked-store : WorkedClaim
-worked-store nodes lookup cache answers x n l run = store-of (rw (n, l) at (reached run))
+worked-store o answers x n l m run = store-of (rw (n, l, m) at (reached run))

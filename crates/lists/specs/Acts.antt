@@ -47,14 +47,15 @@ pub data Act : Type 0 where
   Saves : (refusal : ℕ) → Family → Act
   Places : (refusal : ℕ) → Family → Act
 
--- "A call's handles are read in it", the book: refusals and facts are the promises' own. The capacity plays no part.
-abbrev pub actOf : List Family → Call → Act
-actOf B (Operate op p q) = Places (operationRefusal (numberOf op) (count B) p q) (named (numberOf op) B p q)
-actOf B (Size p scratch) = Gives (sizeAnswer B p scratch .refusal) (Number (sizeAnswer B p scratch .size))
-actOf B (Has p combination) = Gives (hasAnswer B p (itemsOf combination) .refusal) (Says (hasAnswer B p (itemsOf combination) .member))
-actOf B (Save p scratch output) = Saves (saveRefusal B p scratch output) (at B p)
-actOf B (Load file scratch) = Places (loadRefusal file scratch) (loadFamily file)
-actOf B Audit = Gives 0 (Says true)
+-- "A call's handles are read in it", the book: refusals and facts are the promises' own, in a store of some limit. The
+-- capacity plays no part.
+abbrev pub actOf : ℕ → List Family → Call → Act
+actOf limit B (Operate op p q) = Places (operationRefusal (numberOf op) limit (count B) p q) (named (numberOf op) B p q)
+actOf limit B (Size p scratch) = Gives (sizeAnswer B p scratch .refusal) (Number (sizeAnswer B p scratch .size))
+actOf limit B (Has p combination) = Gives (hasAnswer B p (itemsOf combination) .refusal) (Says (hasAnswer B p (itemsOf combination) .member))
+actOf limit B (Save p scratch output) = Saves (saveRefusal B p scratch output) (at B p)
+actOf limit B (Load file scratch) = Places (loadRefusal limit file scratch) (loadFamily file)
+actOf limit B Audit = Gives 0 (Says true)
 
 -- The book's answer to an act. A placing that nothing refused before is refused with 5 where the family has too many
 -- parts that the book does not hold.

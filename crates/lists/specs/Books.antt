@@ -9,15 +9,20 @@ use Rattle.family.specs.Book.{start, number, place}
 use Rattle.lists.specs.Calls.{Call, written, Answer}
 use Rattle.lists.specs.Acts.{Act, Gives, Saves, Places, actOf, actAnswer, Effect, stays, grows, actEffect, changed}
 
+-- What the book takes of Fresh's arguments: the capacity that its node words give, and its limit.
+pub record Bounds : Type 0 where
+  pub capacity : ℕ
+  pub limit : ℕ
+
 -- The book's answer to a call, what the call does to the book, and the book after it.
-unfoldable pub bookAnswer : ℕ → List Family → Call → Answer
-bookAnswer capacity B c = actAnswer capacity B (actOf B c)
+unfoldable pub bookAnswer : Bounds → List Family → Call → Answer
+bookAnswer bounds B c = actAnswer (bounds .capacity) B (actOf (bounds .limit) B c)
 
-unfoldable pub bookEffect : ℕ → List Family → Call → Effect
-bookEffect capacity B c = actEffect capacity B (actOf B c)
+unfoldable pub bookEffect : Bounds → List Family → Call → Effect
+bookEffect bounds B c = actEffect (bounds .capacity) B (actOf (bounds .limit) B c)
 
-abbrev pub bookAfter : ℕ → List Family → Call → List Family
-bookAfter capacity B c = changed B (bookEffect capacity B c)
+abbrev pub bookAfter : Bounds → List Family → Call → List Family
+bookAfter bounds B c = changed B (bookEffect bounds B c)
 
 -- a family handed out, and the handle given for it
 pub record Handout : Type 0 where
@@ -38,28 +43,28 @@ handing B hs stays = hs
 handing B hs (grows F) = hs ++ (handout (place B F) F ∷ [])
 
 -- for some calls after a book: the answers, the book at the end, and what was handed out
-abbrev pub answersFrom : ℕ → List Family → List Call → List Answer
-answersFrom capacity B [] = []
-answersFrom capacity B (c ∷ cs) = bookAnswer capacity B c ∷ answersFrom capacity (bookAfter capacity B c) cs
+abbrev pub answersFrom : Bounds → List Family → List Call → List Answer
+answersFrom bounds B [] = []
+answersFrom bounds B (c ∷ cs) = bookAnswer bounds B c ∷ answersFrom bounds (bookAfter bounds B c) cs
 
-abbrev pub bookFrom : ℕ → List Family → List Call → List Family
-bookFrom capacity B [] = B
-bookFrom capacity B (c ∷ cs) = bookFrom capacity (bookAfter capacity B c) cs
+abbrev pub bookFrom : Bounds → List Family → List Call → List Family
+bookFrom bounds B [] = B
+bookFrom bounds B (c ∷ cs) = bookFrom bounds (bookAfter bounds B c) cs
 
-abbrev pub handedFrom : ℕ → List Family → List Handout → List Call → List Handout
-handedFrom capacity B hs [] = hs
-handedFrom capacity B hs (c ∷ cs) = handedFrom capacity (bookAfter capacity B c) (handing B hs (bookEffect capacity B c)) cs
+abbrev pub handedFrom : Bounds → List Family → List Handout → List Call → List Handout
+handedFrom bounds B hs [] = hs
+handedFrom bounds B hs (c ∷ cs) = handedFrom bounds (bookAfter bounds B c) (handing B hs (bookEffect bounds B c)) cs
 
--- The answers, and the book, of a list of calls in a store of some capacity: the book is "at first {} and {{}}".
-unfoldable pub answersOf : ℕ → List Call → List Answer
-answersOf capacity calls = answersFrom capacity start calls
+-- The answers, and the book, of a list of calls in a store of some capacity and limit: the book is "at first {} and {{}}".
+unfoldable pub answersOf : Bounds → List Call → List Answer
+answersOf bounds calls = answersFrom bounds start calls
 
-unfoldable pub bookOfCalls : ℕ → List Call → List Family
-bookOfCalls capacity calls = bookFrom capacity start calls
+unfoldable pub bookOfCalls : Bounds → List Call → List Family
+bookOfCalls bounds calls = bookFrom bounds start calls
 
 -- All families handed out, with the handles given for them.
-unfoldable pub handedOut : ℕ → List Call → List Handout
-handedOut capacity calls = handedFrom capacity start firstHandouts calls
+unfoldable pub handedOut : Bounds → List Call → List Handout
+handedOut bounds calls = handedFrom bounds start firstHandouts calls
 
 -- the parts of all families handed out
 abbrev pub allParts : List Handout → List Family
@@ -77,11 +82,11 @@ fileBy (Gives n fact) a = []
 fileBy (Saves n F) a = cond (eqb (a .refusal) 0) (record { family = F; bytes = written (a .value) } ∷ []) []
 fileBy (Places n F) a = []
 
-abbrev pub filesFrom : ℕ → List Family → List Call → List Answer → List SavedFile
-filesFrom capacity B [] answers = []
-filesFrom capacity B (c ∷ cs) [] = []
-filesFrom capacity B (c ∷ cs) (a ∷ answers) = fileBy (actOf B c) a ++ filesFrom capacity (bookAfter capacity B c) cs answers
+abbrev pub filesFrom : Bounds → List Family → List Call → List Answer → List SavedFile
+filesFrom bounds B [] answers = []
+filesFrom bounds B (c ∷ cs) [] = []
+filesFrom bounds B (c ∷ cs) (a ∷ answers) = fileBy (actOf (bounds .limit) B c) a ++ filesFrom bounds (bookAfter bounds B c) cs answers
 
 -- all files that a list of calls saved, by the answers that it got
-unfoldable pub filesOf : ℕ → List Call → List Answer → List SavedFile
-filesOf capacity calls answers = filesFrom capacity start calls answers
+unfoldable pub filesOf : Bounds → List Call → List Answer → List SavedFile
+filesOf bounds calls answers = filesFrom bounds start calls answers

@@ -8,6 +8,7 @@ use Rattle.family.specs.Combination.{itemsOf}
 use Rattle.store.specs.declared.record.Store.{Store}
 use Rattle.store.specs.declared.record.Placed.{Placed}
 use Rattle.store_fresh.specs.declared.Freshened.{Freshened}
+use Rattle.store.specs.Capacity.{capacityOf}
 use Rattle.store.specs.Refusals.{givenBy}
 use Rattle.store_fresh.specs.Promise.{freshNumber, FreshCall}
 use Rattle.op_promise.specs.Promise.{OperationCall, numberOf}
@@ -23,6 +24,7 @@ use Rattle.store_audit.specs.Promise.{AuditCall}
 use Rattle.op_promise.specs.declared.Operation.{Operation}
 use Rattle.lists.specs.Calls.{Call, Operate, Size, Has, Save, Load, Audit, Answer}
 use Rattle.lists.specs.Acts.{placeReturns, sizeReturns, hasReturns, saveReturns, auditReturns}
+use Rattle.lists.specs.Books.{Bounds}
 
 -- what a call comes to and leaves: the record last given back, and Fresh's words
 pub record State : Type 0 where
@@ -62,12 +64,23 @@ pub data Step (x : State) : Call → Answer → State → Type 0 where
       → AuditCall (x .store) (x .nodes) (x .lookup) (take lent (x .cache)) r part
       → Step x Audit (auditReturns (r .sound)) (withPart x lent (r .store) (x .nodes) (x .lookup) part)
 
+-- What Fresh was given: the words that it was lent, and the limit.
+pub record Opening : Type 0 where
+  pub nodes : List ℕ
+  pub lookup : List ℕ
+  pub cache : List ℕ
+  pub limit : ℕ
+
+-- what the book takes of it
+abbrev pub boundsOf : Opening → Bounds
+boundsOf o = record { capacity = capacityOf (length (o .nodes)); limit = o .limit }
+
 -- A list of calls with its answers and the state after it, built call by call: each beginning of it is such a list.
 -- "Such a list starts from what a Fresh that wasn't refused left and gave."
-pub data Runs (nodes lookup cache : List ℕ) : List Call → List Answer → State → Type 0 where
-  fresh : {r : Freshened} {nodes′ lookup′ cache′ : List ℕ}
-      → FreshCall nodes lookup cache r nodes′ lookup′ cache′ → freshNumber (r .answer) ≡ 0
-      → Runs nodes lookup cache [] [] (record { store = r .store; nodes = nodes′; lookup = lookup′; cache = cache′ })
+pub data Runs (o : Opening) : List Call → List Answer → State → Type 0 where
+  fresh : {r : Freshened} {nodes lookup cache : List ℕ}
+      → FreshCall (o .limit) (o .nodes) (o .lookup) (o .cache) r nodes lookup cache → freshNumber (r .answer) ≡ 0
+      → Runs o [] [] (record { store = r .store; nodes = nodes; lookup = lookup; cache = cache })
   next : {calls : List Call} {answers : List Answer} {x y : State} {call : Call} {answer : Answer}
-      → Runs nodes lookup cache calls answers x → Step x call answer y
-      → Runs nodes lookup cache (calls ++ (call ∷ [])) (answers ++ (answer ∷ [])) y
+      → Runs o calls answers x → Step x call answer y
+      → Runs o (calls ++ (call ∷ [])) (answers ++ (answer ∷ [])) y

@@ -6,10 +6,9 @@ use mathlib.Core.List.{List}
 use mathlib.Core.Option.{Option, none, some}
 use lib.Dec.{ltb}
 use lib.ListN.{length}
-use Rattle.family.specs.Family.{Family, size}
+use Rattle.family.specs.Family.{Family, size, top, largestItem}
 use Rattle.family.specs.Book.{at}
 use Rattle.family.specs.File.{fileOf, familyOf}
-use Rattle.store.specs.Words.{itemLimit}
 use Rattle.store.specs.Operations.{takesItem, named}
 use Rattle.store.specs.Placing.{tooLarge}
 use Rattle.store.specs.Tests.{isItem}
@@ -18,6 +17,7 @@ use Rattle.op_promise.specs.declared.Operation.{Operation}
 use Rattle.op_promise.specs.Promise.{numberOf}
 use Rattle.lists.specs.Calls.{Call, Operate, Size, Has, Save, Load, Audit}
 use Rattle.lists.specs.Acts.{count}
+use Rattle.lists.specs.Books.{Bounds}
 
 -- "a handle above count + 1"
 abbrev pub above : List Family → ℕ → Bool
@@ -27,20 +27,21 @@ above B h = ltb (count B + 1) h
 abbrev pub onItem : Operation → Bool
 onItem op = takesItem (numberOf op)
 
--- 9: "the bytes are the file of no family"; then 5: "the result's parts not yet held outnumber capacity − count"
-abbrev pub fileRefusal : ℕ → List Family → Option Family → ℕ
-fileRefusal capacity B none = 9
-fileRefusal capacity B (some F) = cond (tooLarge capacity B F) 5 0
+-- 9: "the bytes are the file of no family"; then 13: "a good file holds an item above this store's limit"; then 5: "the
+-- result's parts not yet held outnumber capacity − count"
+abbrev pub fileRefusal : Bounds → List Family → Option Family → ℕ
+fileRefusal bounds B none = 9
+fileRefusal bounds B (some F) = cond (ltb (bounds .limit) (top F)) 13 (cond (tooLarge (bounds .capacity) B F) 5 0)
 
--- The table, for each call in the order "4, 3, 7, 9, 6, 8, 5"; 0 where nothing refuses the call, and never 10: "On a
--- sound store 10 never comes". 3: "item 0 or above 512". 7: "scratch shorter than stated", a word per node held for
+-- The table, for each call in the order "4, 3, 7, 9, 6, 8, 5", with 13 "after 9 and before 5"; 0 where nothing refuses
+-- the call, and never 10: "On a sound store 10 never comes". 3: an item 0 or above "the store's own limit". 7: "scratch shorter than stated", a word per node held for
 -- Size and Save, six words per file byte for Load. 6: "size above 18,446,744,073,709,551,615". 8: "output shorter than
 -- the file".
-unfoldable pub refusalOf : ℕ → List Family → Call → ℕ
-refusalOf capacity B (Operate op p q) =
-    cond (above B p || (not (onItem op) && above B q)) 4 (cond (onItem op && not (isItem q)) 3 (cond (tooLarge capacity B (named (numberOf op) B p q)) 5 0))
-refusalOf capacity B (Size p scratch) = cond (above B p) 4 (cond (ltb scratch (count B)) 7 (cond (ltb most (size (at B p))) 6 0))
-refusalOf capacity B (Has p combination) = cond (above B p) 4 0
-refusalOf capacity B (Save p scratch output) = cond (above B p) 4 (cond (ltb scratch (count B)) 7 (cond (ltb output (length (fileOf (at B p)))) 8 0))
-refusalOf capacity B (Load file scratch) = cond (ltb scratch (6 * length file)) 7 (fileRefusal capacity B (familyOf itemLimit file))
-refusalOf capacity B Audit = 0
+unfoldable pub refusalOf : Bounds → List Family → Call → ℕ
+refusalOf bounds B (Operate op p q) =
+    cond (above B p || (not (onItem op) && above B q)) 4 (cond (onItem op && not (isItem (bounds .limit) q)) 3 (cond (tooLarge (bounds .capacity) B (named (numberOf op) B p q)) 5 0))
+refusalOf bounds B (Size p scratch) = cond (above B p) 4 (cond (ltb scratch (count B)) 7 (cond (ltb most (size (at B p))) 6 0))
+refusalOf bounds B (Has p combination) = cond (above B p) 4 0
+refusalOf bounds B (Save p scratch output) = cond (above B p) 4 (cond (ltb scratch (count B)) 7 (cond (ltb output (length (fileOf (at B p)))) 8 0))
+refusalOf bounds B (Load file scratch) = cond (ltb scratch (6 * length file)) 7 (fileRefusal bounds B (familyOf largestItem file))
+refusalOf bounds B Audit = 0

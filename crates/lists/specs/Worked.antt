@@ -8,8 +8,8 @@ use Rattle.store.specs.Capacity.{capacityOf}
 use Rattle.store.specs.Words.{wordsOf, lookupOf}
 use Rattle.op_promise.specs.declared.Operation.the-variants.{Subset1, Subset0, Change, Union, Intsec, Diff}
 use Rattle.lists.specs.Calls.{Call, Operate, Save, Handle, Writes, Answer}
-use Rattle.lists.specs.Books.{answersOf, bookOfCalls}
-use Rattle.lists.specs.Runs.{State, Runs}
+use Rattle.lists.specs.Books.{Bounds, answersOf, bookOfCalls}
+use Rattle.lists.specs.Runs.{State, Opening, Runs}
 
 -- the starred lines in their order, with enough scratch and output for the two files
 abbrev pub worked : List Call
@@ -64,18 +64,21 @@ workedWords = 1 ∷ 0 ∷ 1 ∷ 2 ∷ 0 ∷ 1 ∷ 2 ∷ 2 ∷ 1 ∷ 2 ∷ 1 ∷ 
 abbrev pub workedLookup : List ℕ
 workedLookup = 3 ∷ 2 ∷ 5 ∷ 0 ∷ 4 ∷ 0 ∷ 0 ∷ []
 
+-- "Fresh with 12 node words and 7 lookup words has capacity 4."; "document 01's cases have limit 512"
+abbrev pub workedBounds : Bounds
+workedBounds = record { capacity = 4; limit = 512 }
+
 -- The list over the definitions.
 pub record WorkedList : Type 0 where
-  -- "Fresh with 12 node words and 7 lookup words has capacity 4."
   pub capacity-is : capacityOf 12 ≡ 4
-  pub answers-are : answersOf 4 worked ≡ workedAnswers
+  pub answers-are : answersOf workedBounds worked ≡ workedAnswers
   -- "The store now holds 4."
-  pub count-is : length (bookOfCalls 4 worked) ≡ 4 + 2
-  pub words-are : wordsOf (bookOfCalls 4 worked) ≡ workedWords
+  pub count-is : length (bookOfCalls workedBounds worked) ≡ 4 + 2
+  pub words-are : wordsOf (bookOfCalls workedBounds worked) ≡ workedWords
   -- "The wrapped sum is 8,302,008, the slot 1."
   pub sum-is : _≡_ {A = ℕ} ((mixOf 1 + 65599 * (0 + 65599 * 1)) % 2 ^ 32) 8302008
   pub slot-is : startOf 1 0 1 7 ≡ 1
-  pub lookup-is : lookupOf 7 (bookOfCalls 4 worked) ≡ workedLookup
+  pub lookup-is : lookupOf 7 (bookOfCalls workedBounds worked) ≡ workedLookup
 
 -- What every store of these lengths has after these calls, whatever parts of the cache they were lent.
 pub record WorkedStore (answers : List Answer) (x : State) : Type 0 where
@@ -85,5 +88,5 @@ pub record WorkedStore (answers : List Answer) (x : State) : Type 0 where
   pub lookup-is : x .lookup ≡ workedLookup
 
 abbrev pub WorkedClaim : Type 0
-WorkedClaim = (nodes lookup cache : List ℕ) (answers : List Answer) (x : State)
-    → length nodes ≡ 12 → length lookup ≡ 7 → Runs nodes lookup cache worked answers x → WorkedStore answers x
+WorkedClaim = (o : Opening) (answers : List Answer) (x : State)
+    → length (o .nodes) ≡ 12 → length (o .lookup) ≡ 7 → o .limit ≡ 512 → Runs o worked answers x → WorkedStore answers x

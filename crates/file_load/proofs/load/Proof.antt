@@ -1,8 +1,9 @@
--- `load` tests the record and the scratch, reads the file and places its parts.
+-- `load` tests the record and the scratch, reads the file, compares its top with the limit and places its parts.
 -- Each way out is one law of loading.
+use mathlib.Core.Path.{_∙_}
 use native.Mathlib.Omega.{arith}
 use Rattle.store.proofs.Testing.{tested-clear}
-use Rattle.file_load.proofs.Loads.{parts-of, parts-nodes, load-refused, load-none, load-leaf, load-roomy, load-parts}
+use Rattle.file_load.proofs.Loads.{parts-of, parts-nodes, load-refused, load-none, load-leaf, load-above, load-roomy, load-parts}
 use borrow.Author.Needs.{needs}
 use Rattle.file_load.proofs.load.Statement.{statement}
 use Rattle.file_load.proofs.load.Tie as tie
@@ -41,6 +42,44 @@ placed-requires c κs = search needs
 enum-known-content-2 : tie.Need-enum-known-content-2
 enum-known-content-2 c = search needs
 
+add-top-of : tie.Need-add-top-of
+add-top-of c =
+    let at-content2 : tie.After-content2 = search in
+    let at-read-file : tie.After-read-file = search (at-content2) in
+    omega (arith, parts-of _ (at-content2 .content2 .given .1) (at-read-file .read-file .ensures .outcome) .low)
+
+top-of-requires : tie.Need-top-of-requires
+top-of-requires c κs =
+    let at-content2 : tie.After-content2 = search in
+    let at-read-file : tie.After-read-file = search (at-content2) in
+    let at-told : tie.After-enum-told = search (at-read-file) in
+    let at-tested : tie.After-tested = search (at-told) in
+    let at-start : tie.Start = search (at-tested) in
+    let a = at-start .args in
+    let P = tested-clear (a .nodes .now) (a .lookup .now) (at-tested .tested .ensures) (at-told .enum-told .given .1) in
+    let R = parts-of _ (at-content2 .content2 .given .1) (at-read-file .read-file .ensures .outcome) in
+    record { held = omega arith; words = omega (arith, R .few, at-read-file .read-file .ensures .long, P .passed .room) }
+
+refused-requires-2 : tie.Need-refused-requires-2
+refused-requires-2 c κs = search needs
+
+same-length : tie.Need-same-length
+same-length c = search needs
+
+returns-2 : tie.Need-returns-2
+returns-2 c =
+    let at-then : tie.Then1 = search in
+    let at-top-of : tie.After-top-of = search (at-then) in
+    let at-content2 : tie.After-content2 = search (at-top-of) in
+    let at-read-file : tie.After-read-file = search (at-content2) in
+    let at-told : tie.After-enum-told = search (at-read-file) in
+    let at-tested : tie.After-tested = search (at-told) in
+    let at-start : tie.Start = search (at-tested) in
+    let a = at-start .args in
+    let P = tested-clear (a .nodes .now) (a .lookup .now) (at-tested .tested .ensures) (at-told .enum-told .given .1) in
+    load-above (a .store) (a .nodes .now) (a .lookup .now) (a .cache .now) (a .file .now) (a .words .now) _ P (at-read-file .read-file .ensures) _ (at-content2 .content2 .given .1)
+    (omega (arith, at-top-of .top-of .ensures, at-then .if1 .taken)) (c .refused2 .ensures .0) (c .refused2 .ensures .1)
+
 place-parts-requires : tie.Need-place-parts-requires
 place-parts-requires c κs =
     let at-content2 : tie.After-content2 = search in
@@ -78,14 +117,14 @@ finish-requires c κs =
 enum-told-2 : tie.Need-enum-told-2
 enum-told-2 c = search needs
 
-refused-requires-2 : tie.Need-refused-requires-2
-refused-requires-2 c κs = search needs
+refused-requires-3 : tie.Need-refused-requires-3
+refused-requires-3 c κs = search needs
 
-same-length : tie.Need-same-length
-same-length c = search needs
+same-length-2 : tie.Need-same-length-2
+same-length-2 c = search needs
 
-returns-2 : tie.Need-returns-2
-returns-2 c =
+returns-3 : tie.Need-returns-3
+returns-3 c =
     let at-content : tie.After-content = search in
     let at-read-file : tie.After-read-file = search in
     let at-told : tie.After-enum-told = search in
@@ -94,9 +133,6 @@ returns-2 c =
     let a = at-start .args in
     let P = tested-clear (a .nodes .now) (a .lookup .now) (at-tested .tested .ensures) (at-told .enum-told .given .1) in
     load-leaf (a .store) (a .nodes .now) (a .lookup .now) (a .cache .now) (a .file .now) (a .words .now) _ P (at-read-file .read-file .ensures) _ (at-content .content .given .1) (c .placed .ensures .0) (c .placed .ensures .1)
-
-same-length-2 : tie.Need-same-length-2
-same-length-2 c = search needs
 
 same-length-3 : tie.Need-same-length-3
 same-length-3 c = search needs
@@ -107,25 +143,37 @@ same-length-4 c = search needs
 same-length-5 : tie.Need-same-length-5
 same-length-5 c = search needs
 
-returns-3 : tie.Need-returns-3
-returns-3 c =
-    let at-finish : tie.After-finish = search in
-    let at-place-parts : tie.After-place-parts = search in
-    let at-content2 : tie.After-content2 = search in
-    let at-read-file : tie.After-read-file = search (at-content2) in
-    let at-told : tie.After-enum-told = search (at-read-file) in
-    let at-tested : tie.After-tested = search (at-told) in
-    let at-start : tie.Start = search (at-tested) in
-    let a = at-start .args in
-    let P = tested-clear (a .nodes .now) (a .lookup .now) (at-tested .tested .ensures) (at-told .enum-told .given .1) in
-    load-parts (a .store) (a .nodes .now) (a .lookup .now) (a .cache .now) (a .file .now) (a .words .now) _ P (at-read-file .read-file .ensures) _ (at-content2 .content2 .given .1)
-    (at-place-parts .place-parts .ensures) (at-finish .finish .ensures)
-
 same-length-6 : tie.Need-same-length-6
-same-length-6 c = search needs
+same-length-6 c =
+    let at-place-parts : tie.After-place-parts = search in
+    let at-read-file : tie.After-read-file = search (at-place-parts) in
+    at-place-parts .place-parts .ensures .long ∙ at-read-file .read-file .ensures .long
+
+-- the start is too far from the last way out for one search
+abbrev start-of : tie.After-tested → tie.Start
+start-of c = search
 
 returns-4 : tie.Need-returns-4
 returns-4 c =
+    let at-finish : tie.After-finish = search in
+    let at-place-parts : tie.After-place-parts = search in
+    let at-else : tie.Else1 = search (at-place-parts) in
+    let at-top-of : tie.After-top-of = search (at-else) in
+    let at-content2 : tie.After-content2 = search (at-top-of) in
+    let at-read-file : tie.After-read-file = search (at-content2) in
+    let at-told : tie.After-enum-told = search (at-read-file) in
+    let at-tested : tie.After-tested = search (at-told) in
+    let at-start = start-of at-tested in
+    let a = at-start .args in
+    let P = tested-clear (a .nodes .now) (a .lookup .now) (at-tested .tested .ensures) (at-told .enum-told .given .1) in
+    load-parts (a .store) (a .nodes .now) (a .lookup .now) (a .cache .now) (a .file .now) (a .words .now) _ P (at-read-file .read-file .ensures) _ (at-content2 .content2 .given .1)
+    (at-place-parts .place-parts .ensures) (omega (arith, at-top-of .top-of .ensures, at-else .if1 .left)) (at-finish .finish .ensures)
+
+same-length-7 : tie.Need-same-length-7
+same-length-7 c = search needs
+
+returns-5 : tie.Need-returns-5
+returns-5 c =
     let at-told2 : tie.After-enum-told2 = search in
     let at-read-file : tie.After-read-file = search in
     let at-told : tie.After-enum-told = search in
@@ -133,7 +181,7 @@ returns-4 c =
     let at-start : tie.Start = search in
     let a = at-start .args in
     let P = tested-clear (a .nodes .now) (a .lookup .now) (at-tested .tested .ensures) (at-told .enum-told .given .1) in
-    load-none (a .store) (a .nodes .now) (a .lookup .now) (a .cache .now) (a .file .now) (a .words .now) _ P (at-read-file .read-file .ensures) (at-told2 .enum-told2 .given .1) (c .refused2 .ensures .0) (c .refused2 .ensures .1)
+    load-none (a .store) (a .nodes .now) (a .lookup .now) (a .cache .now) (a .file .now) (a .words .now) _ P (at-read-file .read-file .ensures) (at-told2 .enum-told2 .given .1) (c .refused3 .ensures .0) (c .refused3 .ensures .1)
 
 pub load-spec : {M : Type 1} → statement M
 load-spec =
@@ -148,16 +196,21 @@ load-spec =
     enum-known-content
     placed-requires
     enum-known-content-2
-    place-parts-requires
-    finish-requires
-    enum-told-2
+    add-top-of
+    top-of-requires
     refused-requires-2
     same-length
     returns-2
+    place-parts-requires
+    finish-requires
+    enum-told-2
+    refused-requires-3
     same-length-2
+    returns-3
     same-length-3
     same-length-4
     same-length-5
-    returns-3
     same-length-6
-    returns-4)
+    returns-4
+    same-length-7
+    returns-5)

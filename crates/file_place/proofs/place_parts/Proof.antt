@@ -43,13 +43,13 @@ same-length : tie.Need-same-length Inv-loop μ-loop
 same-length c =
     let at-place-part : tie.After-place-part Inv-loop μ-loop = search in
     let at-loop : tie.At-loop Inv-loop μ-loop = search in
-    at-place-part .place-part .ensures .kept .long ∙ at-loop .loop .inv .kept .long
+    at-place-part .place-part .ensures .node-is .kept .long ∙ at-loop .loop .inv .kept .long
 
 same-length-2 : tie.Need-same-length-2 Inv-loop μ-loop
 same-length-2 c =
     let at-place-part : tie.After-place-part Inv-loop μ-loop = search in
     let at-loop : tie.At-loop Inv-loop μ-loop = search in
-    at-place-part .place-part .ensures .kept .long-lookup ∙ at-loop .loop .inv .kept .long-lookup
+    at-place-part .place-part .ensures .node-is .kept .long-lookup ∙ at-loop .loop .inv .kept .long-lookup
 
 same-length-3 : tie.Need-same-length-3 Inv-loop μ-loop
 same-length-3 c =
