@@ -42,7 +42,21 @@ fn load(
     with_record(state, next_record(placed, store))
 }
 
-// Loads the file of the list before: in one scratch word too few, with its last byte missing, and whole.
+// Loads so many bytes in one scratch word too few, and without the last byte.
+fn refused(
+    bytes: usize,
+    state: State,
+    nodes: &mut [u32],
+    lookup: &mut [u32],
+    cache: &mut [u32],
+    file: &[u8],
+) -> State {
+    let short = less(needed(bytes));
+    let first = load(bytes, short, state, nodes, lookup, cache, file);
+    load(less(bytes), 12400, first, nodes, lookup, cache, file)
+}
+
+// Loads the file of the list before, first in two ways that are refused.
 pub fn loaded(
     state: State,
     nodes: &mut [u32],
@@ -51,10 +65,8 @@ pub fn loaded(
     file: &[u8],
 ) -> State {
     let bytes = at_most(state.length, file.len());
-    let short = less(needed(bytes));
-    let first = load(bytes, short, state, nodes, lookup, cache, file);
-    let second = load(less(bytes), 12400, first, nodes, lookup, cache, file);
-    load(bytes, 12400, second, nodes, lookup, cache, file)
+    let same = refused(bytes, state, nodes, lookup, cache, file);
+    load(bytes, 12400, same, nodes, lookup, cache, file)
 }
 
 // The handle of the newest family.

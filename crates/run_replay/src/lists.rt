@@ -105,6 +105,23 @@ fn opening(
     loaded
 }
 
+// The opening and the drawn calls of a list.
+fn drawn_calls(
+    setting: Setting,
+    state: State,
+    nodes: &mut [u32],
+    lookup: &mut [u32],
+    cache: &mut [u32],
+    file: &mut [u8],
+) -> State {
+    let opened = opening(setting.items, state, nodes, lookup, cache, file);
+    let manner = Manner {
+        items: setting.items,
+        whole: 16 < setting.items,
+    };
+    turns(setting.calls, manner, opened, nodes, lookup, cache, file)
+}
+
 // The calls of a list, if it has any; the last make the file for the next list.
 fn calls(
     setting: Setting,
@@ -117,12 +134,7 @@ fn calls(
     if setting.calls == 0 {
         return state;
     }
-    let opened = opening(setting.items, state, nodes, lookup, cache, file);
-    let manner = Manner {
-        items: setting.items,
-        whole: 16 < setting.items,
-    };
-    let last = turns(setting.calls, manner, opened, nodes, lookup, cache, file);
+    let last = drawn_calls(setting, state, nodes, lookup, cache, file);
     carried::made(last, nodes, lookup, cache, file)
 }
 
