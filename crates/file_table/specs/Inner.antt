@@ -29,7 +29,7 @@ pub record TableRoom (words : List ℕ) (b k : ℕ) : Type 0 where
   pub below : k < b
   pub low : k < 4294967294
 
--- what `enter` is asked with: the room, and an item of the limit
+-- what `enter` is asked with: the room, and an item up to 512
 pub record EnterAsks (words : List ℕ) (b k item : ℕ) : Type 0 where
   pub table : TableRoom words b k
   pub item-some : 1 ≤ item

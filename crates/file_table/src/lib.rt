@@ -8,7 +8,7 @@ use file_record::field::Part;
 use store_sides::top_of;
 use table::probe::probe;
 
-// Whether a part can come after k others: an item of the limit, children that stand before it and have smaller
+// Whether a part can come after k others: an item up to 512, children that stand before it and have smaller
 // tops, one child not 0.
 fn is_next(words: &[u32], k: u32, part: Part) -> bool
     requires { ⌜ 3 * k ≤ length (now words) ⌝ }

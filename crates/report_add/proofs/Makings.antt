@@ -8,7 +8,7 @@ use native.Mathlib.Omega.{arith}
 use lib.ListN.{length}
 use borrow.Author.Tests.{not-true, not-false}
 use Rattle.words.proofs.Cases.{by-test}
-use Rattle.family.specs.Family.{Family}
+use Rattle.family.specs.Family.{Family, largestItem}
 use Rattle.family.specs.Operation.{change, union}
 use Rattle.family.specs.Book.{at, number, Grown}
 use Rattle.family.specs.Combination.{holds, bitAt, itemsTo, itemsOf}
@@ -83,7 +83,7 @@ module _ (m : Placed) (nodes lookup cache : List ℕ) (c : List ℕ) (v : ℕ) w
       go : (capacity : ℕ) (a : Added) → After capacity m nodes lookup cache a → After capacity r nodes′ lookup′ cache′ (changedBy capacity c v a)
       go capacity a A =
           let G = gives A h eh in
-          let Q = change-after (A .sound) h (G .inside) v (i .low) (i .high) P in
+          let Q = change-after (A .sound) (A .limit-is) h (G .inside) v (i .low) (i .high) P in
           rw (sym e ∙ not-false _ d, next-going capacity (change v) a (G .going), ← A .capacity-is, ← A .book-is, ← G .means) Q
 
 -- the loop over the items: before each turn, the combination of the smaller items is made
@@ -93,7 +93,7 @@ pub record Making (m₀ : Placed) (nodes₀ lookup₀ cache₀ w nodes lookup ca
   pub long : length nodes ≡ length nodes₀
   pub long-lookup : length lookup ≡ length lookup₀
   pub long-cache : length cache ≡ length cache₀
-  pub after : Sound (m₀ .store) nodes₀ lookup₀ cache₀ → After (m₀ .store .capacity) m nodes lookup cache (lineMade (m₀ .store .capacity) (bookOf nodes₀ (m₀ .store .count)) (itemsTo (item - 1) w))
+  pub after : Sound (m₀ .store) nodes₀ lookup₀ cache₀ → m₀ .store .limit ≡ largestItem → After (m₀ .store .capacity) m nodes lookup cache (lineMade (m₀ .store .capacity) (bookOf nodes₀ (m₀ .store .count)) (itemsTo (item - 1) w))
 
 pub making-start : (m : Placed) (nodes lookup cache w : List ℕ) (h item : ℕ) → m .answer ≡ Handle h → h ≡ 1 → item ≡ 1 → Making m nodes lookup cache w nodes lookup cache m item
 making-start m nodes lookup cache w h item e one ei =
@@ -104,9 +104,10 @@ making-start m nodes lookup cache w h item e one ei =
       long = refl;
       long-lookup = refl;
       long-cache = refl;
-      after = λ S. let B = sound-holds S .book in rw z record {
+      after = λ S i. let B = sound-holds S .book in rw z record {
         sound = S;
         capacity-is = refl;
+        limit-is = i;
         book-is = refl;
         answer-is = ap givenBy e ∙ ap (λ k. record { refusal = 0; handle = k }) (one ∙ sym (number-base (bookOf nodes (m .store .count)) B));
         held = λ f. held-base (bookOf nodes (m .store .count)) B;
@@ -132,14 +133,14 @@ module _ {m₀ : Placed} {nodes₀ lookup₀ cache₀ w nodes lookup cache : Lis
         long = a ∙ I .long;
         long-lookup = b ∙ I .long-lookup;
         long-cache = d ∙ I .long-cache;
-        after = λ S. rw (up, made-step (m₀ .store .capacity) (bookOf nodes₀ (m₀ .store .count)) w (item - 1) (omega (arith, I .low)), one)
-            (C .after (m₀ .store .capacity) (lineMade (m₀ .store .capacity) (bookOf nodes₀ (m₀ .store .count)) (itemsTo (item - 1) w)) (I .after S));
+        after = λ S i. rw (up, made-step (m₀ .store .capacity) (bookOf nodes₀ (m₀ .store .count)) w (item - 1) (omega (arith, I .low)), one)
+            (C .after (m₀ .store .capacity) (lineMade (m₀ .store .capacity) (bookOf nodes₀ (m₀ .store .count)) (itemsTo (item - 1) w)) (I .after S i));
       }
 
   pub making-end : (s : Store) → m₀ .store ≡ s → 512 < item → MakeIt s nodes₀ lookup₀ cache₀ (itemsOf w) m nodes lookup cache
   making-end s e l =
       rw (← e) record {
-        after = λ S. subst (λ x. After (m₀ .store .capacity) m nodes lookup cache (lineMade (m₀ .store .capacity) (bookOf nodes₀ (m₀ .store .count)) x)) (items-all w (item - 1) (omega (arith, I .high))) (I .after S);
+        after = λ S i. subst (λ x. After (m₀ .store .capacity) m nodes lookup cache (lineMade (m₀ .store .capacity) (bookOf nodes₀ (m₀ .store .count)) x)) (items-all w (item - 1) (omega (arith, I .high))) (I .after S i);
       }
 
 -- placing keeps what a book holds
@@ -161,21 +162,21 @@ united : {capacity : ℕ} {m : Placed} {nodes lookup cache : List ℕ} {a : Adde
 unfolding rule
 united {capacity} {a = a} A p h F l e eh P =
     let G = gives A h eh in
-    let Q = combine-after (A .sound) p l 4 (omega arith) refl h (G .inside) P in
+    let Q = combine-after (A .sound) (A .limit-is) p l 4 (omega arith) refl h (G .inside) P in
     rw (next-going capacity (union F) a (G .going), ← A .capacity-is, ← A .book-is, ← G .means, ← e) Q
 
 -- the ends of adding
 module _ {s : Store} {nodes lookup cache c : List ℕ} {m : Placed} {nodes₁ lookup₁ cache₁ : List ℕ} (M : MakeIt s nodes lookup cache c m nodes₁ lookup₁ cache₁) (p : ℕ) where
   pub add-refused : (x : Refusal) → m .answer ≡ Refused x → AddCall s nodes lookup cache p c m nodes₁ lookup₁ cache₁
   add-refused x e =
-      record { on-sound = λ S l. let A = M .after S in rw (next-full (s .capacity) (union (at (bookOf nodes (s .count)) p)) (lineMade (s .capacity) (bookOf nodes (s .count)) c) (refused-full A x e)) A }
+      record { on-sound = λ S i l. let A = M .after S i in rw (next-full (s .capacity) (union (at (bookOf nodes (s .count)) p)) (lineMade (s .capacity) (bookOf nodes (s .count)) c) (refused-full A x e)) A }
 
   pub add-united : {h : ℕ} {r : Placed} {nodes′ lookup′ cache′ : List ℕ} → m .answer ≡ Handle h → OperationCall 4 p h (m .store) nodes₁ lookup₁ cache₁ r nodes′ lookup′ cache′
       → AddCall s nodes lookup cache p c r nodes′ lookup′ cache′
   add-united {h} eh P =
       record {
-        on-sound = λ S l.
-            let A = M .after S in
+        on-sound = λ S i l.
+            let A = M .after S i in
             let g = made-grown (s .capacity) (bookOf nodes (s .count)) c in
             let q = handle-inside S p l in
             united A p h (at (bookOf nodes (s .count)) p) (omega (arith, grown-length g, ap length (A .book-is), sound-holds (A .sound) .size)) (ap (λ B. at B p) (A .book-is) ∙ grown-at g p q) eh P;

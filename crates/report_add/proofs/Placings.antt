@@ -8,7 +8,7 @@ use native.Mathlib.Omega.{arith}
 use lib.ListN.{length}
 use borrow.Author.Tests.{lt-ltb, le-ltb, le-leb}
 use Rattle.words.proofs.Cases.{by-test, clash}
-use Rattle.family.specs.Family.{Family, Within}
+use Rattle.family.specs.Family.{Family, Within, largestItem}
 use Rattle.family.specs.Operation.{change, combine}
 use Rattle.family.specs.Book.{at, number, place, Book}
 use Rattle.family.proofs.Books.{held-at}
@@ -17,7 +17,7 @@ use Rattle.family.proofs.Restrict.{within-change}
 use Rattle.family.proofs.Combine.{within-combine}
 use Rattle.store.specs.declared.record.Store.{Store}
 use Rattle.store.specs.declared.record.Placed.{Placed}
-use Rattle.store.specs.Words.{itemLimit, bookOf, nodesWith, lookupOf}
+use Rattle.store.specs.Words.{bookOf, nodesWith, lookupOf}
 use Rattle.store.specs.Operations.{restrict, rule, named}
 use Rattle.store.specs.Sound.{Sound}
 use Rattle.store.specs.Placing.{tooLarge, placeAnswer, placeBook}
@@ -38,7 +38,7 @@ module _ (F : Family) (s : Store) (nodes lookup : List ℕ) where
   way-placed : tooLarge (s .capacity) (bookOf nodes (s .count)) F ≡ false
       → placing 0 F s nodes lookup ≡ record {
         given = record { refusal = 0; handle = number (place (bookOf nodes (s .count)) F) F };
-        store = record { capacity = s .capacity; count = length (place (bookOf nodes (s .count)) F) - 2 };
+        store = record { capacity = s .capacity; count = length (place (bookOf nodes (s .count)) F) - 2; limit = s .limit };
         nodes = nodesWith (s .capacity) (place (bookOf nodes (s .count)) F) nodes;
         lookup = lookupOf (length lookup) (place (bookOf nodes (s .count)) F);
       }
@@ -55,31 +55,32 @@ module _ (F : Family) (s : Store) (nodes lookup : List ℕ) where
   placed-new t = rw t
 
 -- handles that are held and an item pass the tests
-item-taken : (count p v : ℕ) → p ≤ count + 1 → 0 < v → v ≤ 512 → operationRefusal 3 count p v ≡ 0
+item-taken : (limit count p v : ℕ) → p ≤ count + 1 → 0 < v → v ≤ limit → operationRefusal 3 limit count p v ≡ 0
 unfolding operationRefusal testsOf isItem
-item-taken count p v lp n l = rw (le-ltb (count + 1) p lp, le-ltb (count + 1) 0 (omega arith), lt-ltb 0 v n, le-leb v 512 l)
+item-taken limit count p v lp n l = rw (le-ltb (count + 1) p lp, le-ltb (count + 1) 0 (omega arith), lt-ltb 0 v n, le-leb v limit l)
 
-handles-taken : (op count p q : ℕ) → 4 ≤ op → p ≤ count + 1 → q ≤ count + 1 → operationRefusal op count p q ≡ 0
+handles-taken : (op limit count p q : ℕ) → 4 ≤ op → p ≤ count + 1 → q ≤ count + 1 → operationRefusal op limit count p q ≡ 0
 unfolding operationRefusal testsOf
-handles-taken op count p q n lp lq = rw (le-ltb op 4 n, le-ltb (count + 1) p lp, le-ltb (count + 1) q lq)
+handles-taken op limit count p q n lp lq = rw (le-ltb op 4 n, le-ltb (count + 1) p lp, le-ltb (count + 1) q lq)
 
 module _ {s : Store} {nodes lookup cache : List ℕ} (S : Sound s nodes lookup cache) where
-  book : Book itemLimit (bookOf nodes (s .count))
+  book : Book (s .limit) (bookOf nodes (s .count))
   book = sound-holds S .book
 
   pub handle-inside : (p : ℕ) → p ≤ s .count + 1 → p < length (bookOf nodes (s .count))
   handle-inside p l = omega (arith, sound-holds S .size)
 
-  pub handle-within : (p : ℕ) → p ≤ s .count + 1 → Within itemLimit (at (bookOf nodes (s .count)) p)
+  pub handle-within : (p : ℕ) → p ≤ s .count + 1 → Within (s .limit) (at (bookOf nodes (s .count)) p)
   handle-within p l = book .within (at (bookOf nodes (s .count)) p) (held-at (bookOf nodes (s .count)) book p (handle-inside p l))
 
-  module _ {F : Family} {r : Placed} {nodes′ lookup′ cache′ : List ℕ} (w : Within itemLimit F) (P : PlaceCall 0 F s nodes lookup cache r nodes′ lookup′ cache′) where
+  module _ {F : Family} {r : Placed} {nodes′ lookup′ cache′ : List ℕ} (i : s .limit ≡ largestItem) (w : Within (s .limit) F) (P : PlaceCall 0 F s nodes lookup cache r nodes′ lookup′ cache′) where
     full-after : tooLarge (s .capacity) (bookOf nodes (s .count)) F ≡ true → After (s .capacity) r nodes′ lookup′ cache′ (record { full = true; book = bookOf nodes (s .count); family = F })
     full-after t =
         let L = P .on-sound S .leaves-is ∙ way-full F s nodes lookup t in
         record {
           sound = P .on-sound S .sound;
           capacity-is = P .capacity;
+          limit-is = P .limit ∙ i;
           book-is = ap (λ l. bookOf (l .nodes) (l .store .count)) L;
           answer-is = ap (λ l. l .given) L;
           held = λ e. clash refl e;
@@ -92,6 +93,7 @@ module _ {s : Store} {nodes lookup cache : List ℕ} (S : Sound s nodes lookup c
         record {
           sound = P .on-sound S .sound;
           capacity-is = P .capacity;
+          limit-is = P .limit ∙ i;
           book-is = ap (λ l. bookOf (l .nodes) (l .store .count)) L ∙ book-of-words (place (bookOf nodes (s .count)) F) (k .0) (s .capacity) nodes;
           answer-is = ap (λ l. l .given) L;
           held = λ e. k .1;
@@ -103,17 +105,19 @@ module _ {s : Store} {nodes lookup cache : List ℕ} (S : Sound s nodes lookup c
         (λ t. rw (placed-full F s nodes lookup t) (full-after t))
         (λ t. rw (placed-new F s nodes lookup t) (new-after t))
 
-  module _ {r : Placed} {nodes′ lookup′ cache′ : List ℕ} (p : ℕ) (lp : p ≤ s .count + 1) where
+  module _ {r : Placed} {nodes′ lookup′ cache′ : List ℕ} (i : s .limit ≡ largestItem) (p : ℕ) (lp : p ≤ s .count + 1) where
     -- Change
-    pub change-after : (v : ℕ) → 0 < v → v ≤ 512 → OperationCall 3 p v s nodes lookup cache r nodes′ lookup′ cache′
+    pub change-after : (v : ℕ) → 0 < v → v ≤ largestItem → OperationCall 3 p v s nodes lookup cache r nodes′ lookup′ cache′
         → After (s .capacity) r nodes′ lookup′ cache′ (called (s .capacity) (bookOf nodes (s .count)) (change v (at (bookOf nodes (s .count)) p)))
     unfolding named restrict
-    change-after v n l P = placed-after (within-change v _ n l (handle-within p lp)) (rw (item-taken (s .count) p v lp n l) at P)
+    change-after v n l P =
+        let h : v ≤ s .limit = omega arith in
+        placed-after i (within-change v _ n h (handle-within p lp)) (rw (item-taken (s .limit) (s .count) p v lp n h) at P)
 
     -- Union, Intsec and Diff
     pub combine-after : (op : ℕ) → 4 ≤ op → (rule op false false ≡ false) → (q : ℕ) → q ≤ s .count + 1 → OperationCall op p q s nodes lookup cache r nodes′ lookup′ cache′
         → After (s .capacity) r nodes′ lookup′ cache′ (called (s .capacity) (bookOf nodes (s .count)) (combine (rule op) (at (bookOf nodes (s .count)) p) (at (bookOf nodes (s .count)) q)))
     unfolding named restrict
     combine-after op n f q lq P =
-        placed-after (within-combine (rule op) f _ _ (handle-within p lp) (handle-within q lq))
-        (rw (handles-taken op (s .count) p q n lp lq, le-ltb op 4 n) at P)
+        placed-after i (within-combine (rule op) f _ _ (handle-within p lp) (handle-within q lq))
+        (rw (handles-taken op (s .limit) (s .count) p q n lp lq, le-ltb op 4 n) at P)

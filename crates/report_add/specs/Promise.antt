@@ -3,7 +3,7 @@ use Prim.Native.Nat.{ℕ, _+_, _≤_}
 use mathlib.Core.Path.{_≡_}
 use mathlib.Core.Bool.{Bool, true, false, cond}
 use mathlib.Core.List.{List, [], _∷_}
-use Rattle.family.specs.Family.{Family, base}
+use Rattle.family.specs.Family.{Family, base, largestItem}
 use Rattle.family.specs.Operation.{change, union}
 use Rattle.family.specs.Book.{at, number, place, Held}
 use Rattle.store.specs.declared.record.Store.{Store}
@@ -41,16 +41,18 @@ added capacity B P c = nextCall capacity (union P) (lineMade capacity B c)
 abbrev pub lastAnswer : Added → Given
 lastAnswer a = cond (a .full) (record { refusal = 5; handle = 0 }) (record { refusal = 0; handle = number (a .book) (a .family) })
 
--- A store after calls that place, with their last answer: it is sound, its words are those of the book (which a sound
--- store's book decides), and an answer that is no refusal is the family's handle.
+-- A store after calls that place, with their last answer: it is sound and has the limit of all items, its words are
+-- those of the book (which a sound store's book decides), and an answer that is no refusal is the family's handle.
 pub record After (capacity : ℕ) (r : Placed) (nodes lookup cache : List ℕ) (a : Added) : Type 0 where
   pub sound : Sound (r .store) nodes lookup cache
   pub capacity-is : r .store .capacity ≡ capacity
+  pub limit-is : r .store .limit ≡ largestItem
   pub book-is : bookOf nodes (r .store .count) ≡ a .book
   pub answer-is : givenBy (r .answer) ≡ lastAnswer a
   pub held : a .full ≡ false → Held (a .book) (a .family)
 
--- The promise of adding a combination to the family of a handle, for a sound store that holds the handle.
+-- The promise of adding a combination to the family of a handle, for a sound store that holds the handle and has the
+-- limit of all items, since a line's items go up to it.
 pub record AddCall (s : Store) (nodes lookup cache : List ℕ) (p : ℕ) (c : List ℕ) (r : Placed) (nodes′ lookup′ cache′ : List ℕ) : Type 0 where
-  pub on-sound : Sound s nodes lookup cache → p ≤ s .count + 1
+  pub on-sound : Sound s nodes lookup cache → s .limit ≡ largestItem → p ≤ s .count + 1
       → After (s .capacity) r nodes′ lookup′ cache′ (added (s .capacity) (bookOf nodes (s .count)) (at (bookOf nodes (s .count)) p) c)

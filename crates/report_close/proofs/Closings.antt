@@ -11,7 +11,7 @@ use types.Run.{OneOf, miss}
 use denote.Enum.Declared.{tagOf}
 use borrow.Author.Tests.{lt-ltb, le-ltb}
 use Rattle.words.proofs.Cases.{by-test, by-lt}
-use Rattle.family.specs.Family.{Family, size}
+use Rattle.family.specs.Family.{Family, size, largestItem}
 use Rattle.family.specs.Operation.{intsec, diff}
 use Rattle.family.specs.Book.{at}
 use Rattle.store.specs.declared.record.Store.{Store}
@@ -123,13 +123,13 @@ diff-after : {capacity : ℕ} {m : Placed} {nodes lookup cache : List ℕ} {a : 
     → Stays (m .store .count) (bookOf nodes (m .store .count)) p P → Stays (m .store .count) (bookOf nodes (m .store .count)) q R
     → {r : Placed} {nodes′ lookup′ cache′ : List ℕ} → OperationCall 6 q p (m .store) nodes lookup cache r nodes′ lookup′ cache′ → After capacity r nodes′ lookup′ cache′ (called capacity (a .book) (diff R P))
 unfolding rule
-diff-after A {p} {q} G H O = rw (← A .capacity-is, ← A .book-is, ← G .means, ← H .means) (combine-after (A .sound) q (H .held) 6 (omega arith) refl p (G .held) O)
+diff-after A {p} {q} G H O = rw (← A .capacity-is, ← A .book-is, ← G .means, ← H .means) (combine-after (A .sound) (A .limit-is) q (H .held) 6 (omega arith) refl p (G .held) O)
 
-module _ {s : Store} {nodes lookup cache : List ℕ} (S : Sound s nodes lookup cache) {p q : ℕ} {P R : Family} (G : Stays (s .count) (bookOf nodes (s .count)) p P) (H : Stays (s .count) (bookOf nodes (s .count)) q R)
+module _ {s : Store} {nodes lookup cache : List ℕ} (S : Sound s nodes lookup cache) (i : s .limit ≡ largestItem) {p q : ℕ} {P R : Family} (G : Stays (s .count) (bookOf nodes (s .count)) p P) (H : Stays (s .count) (bookOf nodes (s .count)) q R)
     {m : Placed} {nodes₁ lookup₁ cache₁ : List ℕ} (O : OperationCall 5 p q s nodes lookup cache m nodes₁ lookup₁ cache₁) where
   first-after : After (s .capacity) m nodes₁ lookup₁ cache₁ (called (s .capacity) (bookOf nodes (s .count)) (intsec P R))
   unfolding rule
-  first-after = rw (← G .means, ← H .means) (combine-after S p (G .held) 5 (omega arith) refl q (H .held) O)
+  first-after = rw (← G .means, ← H .means) (combine-after S i p (G .held) 5 (omega arith) refl q (H .held) O)
 
   first-stays : (h : ℕ) (F : Family) → Stays (s .count) (bookOf nodes (s .count)) h F → Stays (m .store .count) (bookOf nodes₁ (m .store .count)) h F
   first-stays h F T = stays S first-after (placed-grown (s .capacity) (bookOf nodes (s .count)) (intsec P R)) h F (T .held) (T .means)
@@ -164,16 +164,16 @@ module _ {s : Store} {nodes lookup cache : List ℕ} (S : Sound s nodes lookup c
 module _ {s : Store} {nodes lookup cache : List ℕ} (p q : ℕ) {m : Placed} {nodes₁ lookup₁ cache₁ : List ℕ} (O : OperationCall 5 p q s nodes lookup cache m nodes₁ lookup₁ cache₁) {words n : ℕ} {out′ : List ℕ} where
   pub sums-first : {out : List ℕ} (x : Refusal) → m .answer ≡ NoHandle x → Wrote out 0 reportFull n out′ → SumsIt s nodes lookup cache p q words n out′
   sums-first x e W =
-      record { inside = W .inside; written = λ S lp lq w. W .is ∙ sym (end-first S (record { held = lp; means = refl }) (record { held = lq; means = refl }) O x e) }
+      record { inside = W .inside; written = λ S i lp lq w. W .is ∙ sym (end-first S i (record { held = lp; means = refl }) (record { held = lq; means = refl }) O x e) }
 
   module _ {h : ℕ} (eh : m .answer ≡ Handle h) {r : Placed} {nodes₂ lookup₂ cache₂ : List ℕ} (O₂ : OperationCall 6 q p (m .store) nodes₁ lookup₁ cache₁ r nodes₂ lookup₂ cache₂) where
     pub sums-second : {out : List ℕ} (x : Refusal) → r .answer ≡ NoHandle x → Wrote out 0 reportFull n out′ → SumsIt s nodes lookup cache p q words n out′
     sums-second x e W =
-        record { inside = W .inside; written = λ S lp lq w. W .is ∙ sym (end-second S (record { held = lp; means = refl }) (record { held = lq; means = refl }) O eh O₂ x e) }
+        record { inside = W .inside; written = λ S i lp lq w. W .is ∙ sym (end-second S i (record { held = lp; means = refl }) (record { held = lq; means = refl }) O eh O₂ x e) }
 
     pub sums-written : {k : ℕ} → r .answer ≡ Handle k → SizesIt (r .store) nodes₂ lookup₂ (record { passed = p; returned = q; both = h; only = k }) words n out′ → SumsIt s nodes lookup cache p q words n out′
     sums-written ek Z =
-        record { inside = Z .inside; written = λ S lp lq w. end-sums S (record { held = lp; means = refl }) (record { held = lq; means = refl }) O eh O₂ ek Z w }
+        record { inside = Z .inside; written = λ S i lp lq w. end-sums S i (record { held = lp; means = refl }) (record { held = lq; means = refl }) O eh O₂ ek Z w }
 
 -- the number of a line, one more than the lines taken
 next-line : {capacity : ℕ} {t : Tally} {nodes lookup cache : List ℕ} {g : Log} → Keeps capacity t nodes lookup cache g → (n : ℕ) → n ≡ capped (suc (t .lines)) → n ≡ capped (suc (g .lines))
@@ -220,7 +220,7 @@ module _ {t : Tally} {nodes lookup cache sizes : List ℕ} {x : Ending} (E : End
       record {
         inside = C .inside;
         written = λ capacity g K w.
-            C .written (K .sound) (K .passed-held) (K .returned-held) (omega (arith, K .capacity-is))
+            C .written (K .sound) (K .limit-is) (K .passed-held) (K .returned-held) (omega (arith, K .capacity-is))
             ∙ (λ i. closing (K .capacity-is i) (record { book = K .book-is i; passed = K .passed-is i; returned = K .returned-is i }))
             ∙ sym (E .is capacity nodes lookup cache g K ∙ ap (λ y. endText capacity g y) e);
       }

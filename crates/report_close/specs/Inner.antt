@@ -3,7 +3,7 @@ use Prim.Native.Nat.{ℕ, suc, _+_, _≤_}
 use mathlib.Core.Path.{_≡_}
 use mathlib.Core.List.{List, []}
 use lib.ListN.{length, take}
-use Rattle.family.specs.Family.{size}
+use Rattle.family.specs.Family.{size, largestItem}
 use Rattle.family.specs.Book.{at}
 use Rattle.store.specs.declared.record.Store.{Store}
 use Rattle.store.specs.Words.{bookOf}
@@ -35,10 +35,10 @@ pub record SizesIt (s : Store) (nodes lookup : List ℕ) (h : FourHandles) (word
       → take r out′ ≡ sumsText (capped (size (at (bookOf nodes (s .count)) (h .passed)))) (capped (size (at (bookOf nodes (s .count)) (h .returned))))
       (capped (size (at (bookOf nodes (s .count)) (h .both)))) (capped (size (at (bookOf nodes (s .count)) (h .only))))
 
--- the closing sums of two handles
+-- the closing sums of two handles, in a store with the limit of all items
 pub record SumsIt (s : Store) (nodes lookup cache : List ℕ) (passed returned words r : ℕ) (out′ : List ℕ) : Type 0 where
   pub inside : r ≤ length out′
-  pub written : Sound s nodes lookup cache → passed ≤ s .count + 1 → returned ≤ s .count + 1 → s .capacity ≤ words
+  pub written : Sound s nodes lookup cache → s .limit ≡ largestItem → passed ≤ s .count + 1 → returned ≤ s .count + 1 → s .capacity ≤ words
       → take r out′ ≡ closing (s .capacity) (record { book = bookOf nodes (s .count); passed = at (bookOf nodes (s .count)) passed; returned = at (bookOf nodes (s .count)) returned })
 
 -- what is printed of a log, by how it ends with its last byte

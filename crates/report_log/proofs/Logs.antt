@@ -48,6 +48,7 @@ read-keeps {nodes = nodes} K O f =
     record {
       sound = rw (O .store-is) (K .sound);
       capacity-is = ap (λ x. x .capacity) (O .store-is) ∙ K .capacity-is;
+      limit-is = ap (λ x. x .limit) (O .store-is) ∙ K .limit-is;
       book-is = ap (λ x. bookOf nodes (x .count)) (O .store-is) ∙ K .book-is;
       passed-held = rw (O .store-is, O .passed-is) (K .passed-held);
       passed-is = rw (O .store-is, O .passed-is) (K .passed-is);
@@ -78,8 +79,8 @@ stays S A g q F l e =
 module _ {capacity : ℕ} {t : Tally} {nodes lookup cache : List ℕ} {g : Log} (K : Keeps capacity t nodes lookup cache g) {m : Placed} {nodes′ lookup′ cache′ : List ℕ} where
   -- the promise of adding, on the log's own book and families
   for-side : (d : Side) {c : List ℕ} → AddCall (t .store) nodes lookup cache (sideHandle d t) c m nodes′ lookup′ cache′ → After capacity m nodes′ lookup′ cache′ (added capacity (g .lot .book) (ofSide d (g .lot)) c)
-  for-side Passed C = rw (K .capacity-is, K .passed-is, K .book-is) at (C .on-sound (K .sound) (K .passed-held))
-  for-side Returned C = rw (K .capacity-is, K .returned-is, K .book-is) at (C .on-sound (K .sound) (K .returned-held))
+  for-side Passed C = rw (K .capacity-is, K .passed-is, K .book-is) at (C .on-sound (K .sound) (K .limit-is) (K .passed-held))
+  for-side Returned C = rw (K .capacity-is, K .returned-is, K .book-is) at (C .on-sound (K .sound) (K .limit-is) (K .returned-held))
 
   module _ {a : Added} (A : After capacity m nodes′ lookup′ cache′ a) (w : Grown (g .lot .book) (a .book)) where
     same : (q : ℕ) (F : Family) → q ≤ t .store .count + 1 → at (bookOf nodes (t .store .count)) q ≡ F → Stays (m .store .count) (bookOf nodes′ (m .store .count)) q F
@@ -93,6 +94,7 @@ module _ {capacity : ℕ} {t : Tally} {nodes lookup cache : List ℕ} {g : Log} 
         record {
           sound = rw (T .store-is) (A .sound);
           capacity-is = ap (λ x. x .capacity) (T .store-is) ∙ A .capacity-is;
+          limit-is = ap (λ x. x .limit) (T .store-is) ∙ A .limit-is;
           book-is = ap (λ x. bookOf nodes′ (x .count)) (T .store-is) ∙ A .book-is;
           passed-held = rw (T .store-is, T .passed-is) (p .held);
           passed-is = rw (T .store-is, T .passed-is) (p .means);

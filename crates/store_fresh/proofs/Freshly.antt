@@ -9,10 +9,13 @@ use borrow.Author.Tests.{lt-ltb, le-ltb, le-leb, lt-leb}
 use native.Mathlib.Omega.{arith}
 use Rattle.words.specs.Words.{zeroed}
 use Rattle.store.specs.declared.record.Store.{Store}
+use Rattle.store.specs.declared.record.Refusal.{Refusal}
 use Rattle.store.specs.declared.record.Refusal.the-variants.{Tiny, ShortLookup, Item}
 use Rattle.store_fresh.specs.declared.FreshAnswer.the-variants.{Done, Refused}
 use Rattle.store.specs.Capacity.{capacityOf, isLimit}
-use Rattle.store_fresh.specs.Promise.{freshOf, FreshCall, freshDone}
+use Rattle.store_fresh.specs.declared.Freshened.{Freshened}
+use Rattle.store.specs.Refusals.{refusalNumber}
+use Rattle.store_fresh.specs.Promise.{freshNumber, freshLeaves, noStore, freshRefused, freshOf, FreshCall, freshDone}
 use Rattle.store.proofs.Fitting.{store-is}
 use Rattle.words.proofs.Cases.{by-lt, by-test}
 
@@ -36,23 +39,26 @@ module _ (limit : ℕ) (nodes lookup cache : List ℕ) where
       (λ i. absurd (omega (arith, rw (t, lt-leb (length lookup) (capacityOf (length nodes)) g, i) at e))))
       (λ g d. absurd (omega (arith, rw (t, le-leb (length lookup) (capacityOf (length nodes)) g) at e))))
 
-module _ (limit : ℕ) (nodes lookup cache : List ℕ) (s : Store) where
-  -- refused: the record is 0, 0, 0
-  module _ (p : s .capacity ≡ 0) (q : s .count ≡ 0) (i : s .limit ≡ 0) where
-    pub fresh-tiny : length nodes < 3 → FreshCall limit nodes lookup cache (record { store = s; answer = Refused Tiny }) nodes lookup cache
+module _ (limit : ℕ) (nodes lookup cache : List ℕ) where
+  -- refused: no store, and every word as it came
+  module _ (r : Freshened) (p : r .store ≡ noStore) where
+    refused-is : {x : Refusal} → r .answer ≡ Refused x → freshLeaves r nodes lookup cache ≡ freshRefused (refusalNumber x) nodes lookup cache
+    refused-is q = λ i. record { refusal = freshNumber (q i); store = p i; nodes = nodes; lookup = lookup; cache = cache }
+
+    pub fresh-tiny : r .answer ≡ Refused Tiny → length nodes < 3 → FreshCall limit nodes lookup cache r nodes lookup cache
     unfolding freshOf
-    fresh-tiny h = record { leaves-is = rw (lt-ltb (length nodes) 3 h, store-is p q i) }
+    fresh-tiny q h = record { leaves-is = rw (lt-ltb (length nodes) 3 h) (refused-is q) }
 
     module _ (h : 3 ≤ length nodes) where
-      pub fresh-short : length lookup ≤ capacityOf (length nodes) → FreshCall limit nodes lookup cache (record { store = s; answer = Refused ShortLookup }) nodes lookup cache
+      pub fresh-short : r .answer ≡ Refused ShortLookup → length lookup ≤ capacityOf (length nodes) → FreshCall limit nodes lookup cache r nodes lookup cache
       unfolding freshOf
-      fresh-short g = record { leaves-is = rw (le-ltb (length nodes) 3 h, le-leb (length lookup) (capacityOf (length nodes)) g, store-is p q i) }
+      fresh-short q g = record { leaves-is = rw (le-ltb (length nodes) 3 h, le-leb (length lookup) (capacityOf (length nodes)) g) (refused-is q) }
 
-      pub fresh-no-limit : capacityOf (length nodes) < length lookup → isLimit limit ≡ false → FreshCall limit nodes lookup cache (record { store = s; answer = Refused Item }) nodes lookup cache
+      pub fresh-no-limit : r .answer ≡ Refused Item → capacityOf (length nodes) < length lookup → isLimit limit ≡ false → FreshCall limit nodes lookup cache r nodes lookup cache
       unfolding freshOf
-      fresh-no-limit g l = record { leaves-is = rw (le-ltb (length nodes) 3 h, lt-leb (length lookup) (capacityOf (length nodes)) g, l, store-is p q i) }
+      fresh-no-limit q g l = record { leaves-is = rw (le-ltb (length nodes) 3 h, lt-leb (length lookup) (capacityOf (length nodes)) g, l) (refused-is q) }
 
-  pub fresh-done : Passed limit nodes lookup → (nodes′ lookup′ cache′ : List ℕ) → s .capacity ≡ capacityOf (length nodes) → s .count ≡ 0 → s .limit ≡ limit
+  pub fresh-done : Passed limit nodes lookup → (s : Store) (nodes′ lookup′ cache′ : List ℕ) → s .capacity ≡ capacityOf (length nodes) → s .count ≡ 0 → s .limit ≡ limit
       → nodes′ ≡ zeroed 0 (3 * capacityOf (length nodes)) nodes → lookup′ ≡ zeroed 0 (length lookup) lookup → cache′ ≡ zeroed 0 (length cache / 4 * 4) cache
       → FreshCall limit nodes lookup cache (record { store = s; answer = Done }) nodes′ lookup′ cache′
-  fresh-done P nodes′ lookup′ cache′ p q i en el ec = record { leaves-is = rw (fresh-is limit nodes lookup cache P, store-is p q i, en, el, ec) }
+  fresh-done P s nodes′ lookup′ cache′ p q i en el ec = record { leaves-is = rw (fresh-is limit nodes lookup cache P, store-is p q i, en, el, ec) }

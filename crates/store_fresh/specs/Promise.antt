@@ -29,9 +29,13 @@ pub record FreshLeft : Type 0 where
 abbrev pub freshLeaves : Freshened → List ℕ → List ℕ → List ℕ → FreshLeft
 freshLeaves r nodes lookup cache = record { refusal = freshNumber (r .answer); store = r .store; nodes = nodes; lookup = lookup; cache = cache }
 
--- "a refused Fresh gives capacity 0 and count 0", "a refused Fresh gives limit 0", and touches nothing
+-- "a refused Fresh gives capacity 0 and count 0", "a refused Fresh gives limit 0"
+abbrev pub noStore : Store
+noStore = record { capacity = 0; count = 0; limit = 0 }
+
+-- and touches nothing
 abbrev pub freshRefused : ℕ → List ℕ → List ℕ → List ℕ → FreshLeft
-freshRefused n nodes lookup cache = record { refusal = n; store = record { capacity = 0; count = 0; limit = 0 }; nodes = nodes; lookup = lookup; cache = cache }
+freshRefused n nodes lookup cache = record { refusal = n; store = noStore; nodes = nodes; lookup = lookup; cache = cache }
 
 -- "Fresh zeroes the node words of the capacity, the lookup and the whole cache groups, and touches nothing else";
 -- "Fresh takes an item limit .. and the record carries it"

@@ -30,7 +30,7 @@ same-length-3 c = search needs
 returns : tie.Need-returns
 returns c =
     let at-fresh : tie.After-fresh = search in
-    opened (at-fresh .fresh .ensures) refl ((c .before .before) .empty .ensures) ((c .before) .empty2 .ensures) refl refl (c .tally-of .ensures)
+    opened (at-fresh .fresh .ensures) refl refl ((c .before .before) .empty .ensures) ((c .before) .empty2 .ensures) refl refl (c .tally-of .ensures)
 
 pub open-log-spec : {M : Type 1} → statement M
 open-log-spec =
