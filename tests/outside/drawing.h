@@ -47,7 +47,7 @@ static u32 drawn_handle(u32 x) {
     return pick % (count() + 2);
 }
 
-// One of the first or the last so many items up to the limit; seldom the limit, the number above it, or no item at all.
+// One of the first or the last so many items up to the limit; seldom a number at an edge.
 static u32 drawn_item(u32 x, u32 items) {
     u32 way = x % 32, pick = x / 32 % items;
     switch (way) {

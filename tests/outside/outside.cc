@@ -101,8 +101,8 @@ static void make_carried(size_t cache) {
     save_calls(count() + 1, lend(63), 1100, buffer.size());
 }
 
-// The calls of a list; the last make the file for the next list. One with more than 16 items always lends its
-// whole cache.
+// The calls of a list; the last make the file for the next list. One with more than 16 items always lends its whole
+// cache.
 static void calls_of_list(size_t cache, u32 items, u32 calls) {
     load_carried(cache);
     if (items == 70) subsets(cache);

@@ -77,7 +77,7 @@ pub fn handle(x: u32, count: u32) -> u32 {
     below(pick, std::num::wrapping_add_u32(count, 2))
 }
 
-// The limit, the number above it, and numbers that are no item or seldom one.
+// A number at an edge: 0, the limit, 512, the number above either, or the largest word.
 fn edge(way: u32, limit: u32) -> u32 {
     match way {
         0 => 0,
@@ -89,7 +89,7 @@ fn edge(way: u32, limit: u32) -> u32 {
     }
 }
 
-// One of the first or the last so many items up to the limit; seldom a number at the edge.
+// One of the first or the last so many items up to the limit; seldom a number at an edge.
 pub fn item(x: u32, items: u32, limit: u32) -> u32 {
     let way = x % 32;
     if way < 6 {

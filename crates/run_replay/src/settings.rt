@@ -24,7 +24,8 @@ fn of(nodes: usize, lookup: usize, cache: usize, limit: u32, items: u32, calls: 
     }
 }
 
-// The setting of a list by its number.
+// The setting of a list by its number. The first six are refused by Fresh; the limits of the others fall, so that the
+// file of most has an item above the next one's limit.
 pub fn numbered(list: u32) -> Setting {
     match list {
         0 => of(2, 5, 8, 0, 3, 12),

@@ -1,4 +1,4 @@
-// Runs the worked store of document 01 on the real calls, then stores of different limits, and writes one line for each.
+// Runs the worked store of document 01 and stores of two limits on the real calls, and writes one line for each.
 mod files;
 mod large;
 mod limits;

@@ -35,16 +35,6 @@ fn item_65() -> Combination {
     Combination { words: words }
 }
 
-// Asks whether a combination of items up to 32 is in p, and writes the line.
-pub fn has_line(store: Store, nodes: &[u32], lookup: &[u32], p: u32, shown: &[u8], bits: u32) {
-    line(store, nodes, lookup, p, shown, low_items(bits));
-}
-
-// Asks whether the item 65 alone is in p, and writes the line.
-pub fn has_65_line(store: Store, nodes: &[u32], lookup: &[u32], p: u32) {
-    line(store, nodes, lookup, p, b"{65}", item_65());
-}
-
 // Asks whether a combination is in p, and writes the line.
 fn line(
     store: Store,
@@ -61,6 +51,16 @@ fn line(
     text(shown);
     text(b")");
     asked_text(asked);
+}
+
+// Asks whether a combination of items up to 32 is in p, and writes the line.
+pub fn has_line(store: Store, nodes: &[u32], lookup: &[u32], p: u32, shown: &[u8], bits: u32) {
+    line(store, nodes, lookup, p, shown, low_items(bits));
+}
+
+// Asks whether the item 65 alone is in p, and writes the line.
+pub fn has_65_line(store: Store, nodes: &[u32], lookup: &[u32], p: u32) {
+    line(store, nodes, lookup, p, b"{65}", item_65());
 }
 
 // Measures p and ends the line.
