@@ -7,10 +7,11 @@ static std::vector<u32> all_nodes, all_lookup; // all words, of which each list 
 static size_t node_words, slots;
 static std::vector<Family> book;
 static std::map<Family, u32> number;
-static u32 capacity;
+static u32 capacity, limit;
 
 static u32 count() { return (u32)book.size() - 2; }
 static bool held(u32 handle) { return handle < book.size(); }
+static bool is_limit(u32 x) { return 1 <= x && x <= 512; }
 
 // A node's start slot; sums and products wrap at 2^32.
 static u32 start_slot(u32 item, u32 zero, u32 one, u32 length) {
@@ -50,16 +51,16 @@ static u32 parts_not_held(Family f) {
 }
 
 // Whether words and record are those of a sound store, rule by rule; the cache counts as zeroed.
-static bool sound(const std::vector<u32> &nodes, const std::vector<u32> &lookup, u32 room, u32 n) {
+static bool sound(const std::vector<u32> &nodes, const std::vector<u32> &lookup, u32 room, u32 n, u32 most) {
     size_t real = nodes.size() / 3;
     if (1000000 < real) real = 1000000;
-    if (room != real || lookup.size() <= room || room < n) return false;
+    if (!is_limit(most) || room != real || lookup.size() <= room || room < n) return false;
     for (size_t k = 3 * (size_t)n; k < 3 * (size_t)room; k++)
         if (nodes[k] != 0) return false;
     std::map<std::string, int> met;
     for (u32 k = 2; k < n + 2; k++) {
         const u32 *w = &nodes[3 * (k - 2)];
-        if (w[0] < 1 || 512 < w[0] || w[2] == 0 || k <= w[1] || k <= w[2]) return false;
+        if (w[0] < 1 || most < w[0] || w[2] == 0 || k <= w[1] || k <= w[2]) return false;
         u32 zero_top = w[1] < 2 ? 0 : nodes[3 * (w[1] - 2)], one_top = w[2] < 2 ? 0 : nodes[3 * (w[2] - 2)];
         if (w[0] <= zero_top || w[0] <= one_top) return false;
         if (met[std::string((const char *)w, 12)]++) return false;

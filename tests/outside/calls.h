@@ -5,6 +5,18 @@
 
 static const char *NAMES[] = {"", "Subset1", "Subset0", "Change", "Union", "Intsec", "Diff"};
 
+// Whether the record does not fit the words, whatever its limit.
+static bool misfit(const Lent &lent) {
+    return lent.room != node_words / 3 || lent.slots <= lent.room || lent.room < lent.n;
+}
+
+// Whether 10 is certain.
+static bool damaged(const Lent &lent) {
+    if (misfit(lent)) return true;
+    if (!is_limit(lent.limit)) tally["10 by the limit alone"]++;
+    return !is_limit(lent.limit);
+}
+
 // A refusal of a call that is lent the cache: after 5 the whole groups are 0, else all of it stays.
 static void refused_placing(int n) {
     refused(n);
@@ -33,14 +45,14 @@ static u32 operation(u32 op, u32 p, u32 q, const Lent &lent, size_t cache) {
     num(cache);
     text(":");
     u32 handle = 0, n = lent.n;
-    if (lent.damaged) refused_placing(10);
+    if (damaged(lent)) refused_placing(10);
     else if (!held(p) || (4 <= op && !held(q))) refused_placing(4);
-    else if (op < 4 && (q < 1 || 512 < q)) refused_placing(3);
+    else if (op < 4 && (q < 1 || limit < q)) refused_placing(3);
     else {
         handle = placed(operated(op, book[p], op < 4 ? EMPTY : book[q], q));
         n = count();
     }
-    record(n, lent.room);
+    record(n, lent.room, lent.limit);
     sum_of_words();
     text("\n");
     return handle;
@@ -56,7 +68,7 @@ static void size_call(u32 p, const Lent &lent, size_t words) {
     num(words);
     text(":");
     std::vector<u64> lent_sizes(1100, 12297829382473034410ull);
-    if (lent.damaged) refused(10);
+    if (damaged(lent)) refused(10);
     else if (!held(p)) refused(4);
     else if (words < count()) refused(7);
     else {
@@ -67,7 +79,7 @@ static void size_call(u32 p, const Lent &lent, size_t words) {
         if (MOST < size_of(book[p])) refused(6);
         else num((u64)size_of(book[p]));
     }
-    record(lent.n, lent.room);
+    record(lent.n, lent.room, lent.limit);
     u32 s = 1;
     for (size_t k = 0; k < lent_sizes.size(); k++) s = sum_word(sum_word(s, (u32)lent_sizes[k]), (u32)(lent_sizes[k] >> 32));
     sum(s);
@@ -87,9 +99,11 @@ static Combination drawn_member(u32 p, u32 draw) {
     return c;
 }
 
-// A combination: empty, a single item, a member of p, or a member with an item put in or taken out.
+// A combination: empty, a single item, a member of p, or a member with an item put in or taken out, or with one above
+// the limit put in.
 static Combination drawn_combination(const Drawn &drawn, u32 items, u32 p) {
-    u32 way = drawn.d / 64 % 4, item = drawn_item(drawn.b, items);
+    u32 way = drawn.d / 64 % 5, item = drawn_item(drawn.b, items);
+    if (way == 4) item = limit + 1 + (limit == 512 ? 0 : drawn.b % (512 - limit));
     Combination c;
     if (way == 0) return c;
     if (2 <= way) c = drawn_member(p, drawn.c);
@@ -108,13 +122,14 @@ static void has_call(u32 p, const Combination &c, const Lent &lent) {
     text(" lent");
     num(lent.slots);
     text(":");
-    if (lent.damaged) refused(10);
+    if (damaged(lent)) refused(10);
     else if (!held(p)) refused(4);
     else {
         yes_no(is_member(book[p], c));
         tally[is_member(book[p], c) ? "Has yes" : "Has no"]++;
+        if (limit < c.largest()) tally["Has above the limit"]++;
     }
-    record(lent.n, lent.room);
+    record(lent.n, lent.room, lent.limit);
     text("\n");
 }
 
@@ -132,7 +147,7 @@ static size_t save_call(u32 p, const Lent &lent, size_t words, size_t room) {
     num(room);
     text(":");
     size_t length = 0;
-    if (lent.damaged) refused(10);
+    if (damaged(lent)) refused(10);
     else if (!held(p)) refused(4);
     else if (words < count()) refused(7);
     else {
@@ -145,7 +160,7 @@ static size_t save_call(u32 p, const Lent &lent, size_t words, size_t room) {
         }
     }
     text(" kept yes");
-    record(lent.n, lent.room);
+    record(lent.n, lent.room, lent.limit);
     u32 s = 1;
     for (size_t k = 0; k < buffer.size(); k++) s = sum_word(s, buffer[k]);
     sum(s);
@@ -176,16 +191,24 @@ static void load_call(size_t n, const Lent &lent, size_t cache, size_t words) {
     num(words);
     text(":");
     Bytes file(buffer.begin(), buffer.begin() + n);
-    Family f;
+    Family f = EMPTY;
     u32 held_after = lent.n;
-    if (lent.damaged) refused_placing(10);
-    else if (words < 6 * n) refused_placing(7);
-    else if (!family_of(file, f)) refused_placing(9);
-    else {
+    bool good = family_of(file, f), above = good && limit < top(f);
+    if (damaged(lent)) refused_placing(10);
+    else if (words < 6 * n) {
+        refused_placing(7);
+        if (above) tally["Load 7 before 13"]++;
+    } else if (!good) {
+        refused_placing(9);
+        if (limit < largest_read) tally["Load 9 before 13"]++;
+    } else if (above) {
+        refused_placing(13);
+        if (capacity - count() < parts_not_held(f)) tally["Load 13 before 5"]++;
+    } else {
         tally[placed(f) || f == EMPTY ? "Load placed" : "Load full"]++;
         held_after = count();
     }
-    record(held_after, lent.room);
+    record(held_after, lent.room, lent.limit);
     sum_of_words();
     text(" kept yes\n");
 }
@@ -202,12 +225,20 @@ static size_t drawn_length(u32 x) {
     return buffer.size() < n ? buffer.size() : n;
 }
 
-// Audit of the store as it is, or with one word changed.
+// The largest item held.
+static u32 largest_held() {
+    u32 most = 0;
+    for (u32 k = 0; k < book.size(); k++) most = std::max(most, top(book[k]));
+    return most;
+}
+
+// Audit of the store as it is, with one word changed, or with the largest item held or one less as its limit.
 static void audit_call(const Drawn &drawn, const Lent &lent, size_t cache) {
     called("Audit");
     std::vector<u32> nodes(all_nodes.begin(), all_nodes.begin() + node_words);
     std::vector<u32> lookup(all_lookup.begin(), all_lookup.begin() + slots);
     u32 way = drawn.d / 64 % 4, value = drawn.b % 8;
+    u32 most = way == 2 ? largest_held() - drawn.b % 2 : lent.limit;
     text("Audit");
     if (way < 2) {
         std::vector<u32> &words = way == 0 ? nodes : lookup;
@@ -217,14 +248,18 @@ static void audit_call(const Drawn &drawn, const Lent &lent, size_t cache) {
         num(at);
         num(value);
     }
+    if (way == 2) {
+        text(" with limit");
+        num(most);
+    }
     lookup.resize(lent.slots);
     text(" lent");
     num(lent.slots);
     num(cache);
     text(":");
-    bool is_sound = sound(nodes, lookup, lent.room, lent.n);
+    bool is_sound = sound(nodes, lookup, lent.room, lent.n, most);
     tally[is_sound ? "Audit yes" : "Audit no"]++;
     yes_no(is_sound);
-    record(lent.n, lent.room);
+    record(lent.n, lent.room, most);
     text(" cleared yes\n");
 }

@@ -17,7 +17,8 @@ static u32 craft_item(u32 x, u32 before) {
     if (way == 0) return 512 + x / 32 % 2;
     if (way == 1) return before;
     if (way < 4) return 1 + x / 32 % 4;
-    if (way < 8) return before + 1 + x / 32 % 3;
+    if (way < 8) return limit + x / 32 % 2;
+    if (way < 12) return before + 1 + x / 32 % 3;
     return before + 1;
 }
 

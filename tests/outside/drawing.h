@@ -47,33 +47,37 @@ static u32 drawn_handle(u32 x) {
     return pick % (count() + 2);
 }
 
-// An item; seldom 512, or a number that is no item.
+// One of the first or the last so many items up to the limit; seldom a number at an edge.
 static u32 drawn_item(u32 x, u32 items) {
-    switch (x % 32) {
+    u32 way = x % 32, pick = x / 32 % items;
+    switch (way) {
     case 0: return 0;
-    case 1: return 513;
-    case 2: return 512;
-    case 3: return 4294967295u;
-    default: return 1 + x / 32 % items;
+    case 1: return limit;
+    case 2: return limit + 1;
+    case 3: return 512;
+    case 4: return 513;
+    case 5: return 4294967295u;
+    default: return way < 16 ? limit - pick : 1 + pick;
     }
 }
 
-// The record handed in, the lookup lent, and whether the two call for 10 on the words of this list.
+// The record handed in, and the lookup lent.
 struct Lent {
-    u32 room, n;
+    u32 room, n, limit;
     size_t slots;
-    bool damaged;
 };
 
 static Lent lend(u32 d) {
-    Lent lent = {capacity, count(), slots, false};
+    Lent lent = {capacity, count(), limit, slots};
     switch (d % 64) {
     case 0: lent.room = capacity + 1; break;
     case 1: lent.room = capacity - 1; break;
     case 2: lent.n = capacity + 1; break;
     case 3: lent.slots = capacity; break;
+    case 4: lent.limit = 0; break;
+    case 5: lent.limit = 513; break;
+    case 6: lent.limit = 4294967295u; break;
     }
-    lent.damaged = lent.room != node_words / 3 || lent.slots <= lent.room || lent.room < lent.n;
     return lent;
 }
 

@@ -79,6 +79,7 @@ struct Combination {
     bool in[513];
     Combination() { std::memset(in, 0, sizeof in); }
     void toggle(u32 item) { if (1 <= item && item <= 512) in[item] = !in[item]; }
+    u32 largest() const { u32 item = 512; while (0 < item && !in[item]) item--; return item; }
 };
 
 // Whether the combination is a member.

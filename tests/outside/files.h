@@ -1,5 +1,6 @@
 // The file of a family, and the family of a file.
 #pragma once
+#include <algorithm>
 #include "families.h"
 
 typedef std::vector<uint8_t> Bytes;
@@ -44,6 +45,8 @@ static bool read_low_first(const Bytes &file, size_t &at, int bytes, u32 &x) {
     return true;
 }
 
+static u32 largest_read; // the largest item, up to 512, in the records read last
+
 // The family that the records build up, if any; whether the bytes are its file is for the caller.
 static bool built_of(const Bytes &file, Family &f) {
     size_t at = 1;
@@ -59,6 +62,7 @@ static bool built_of(const Bytes &file, Family &f) {
         if ((bits & 2) && !read_low_first(file, at, 4, zero)) return false;
         if ((bits & 4) && !read_low_first(file, at, 4, one)) return false;
         item = next;
+        if (item <= 512) largest_read = std::max(largest_read, item);
         if (item < 1 || 512 < item || local.size() <= zero || local.size() <= one) return false;
         if (item <= top(local[zero]) || item <= top(local[one])) return false;
         Family with = keep(pbori_Cudd_zddChange(manager, local[one], index_of(item)));
@@ -70,6 +74,7 @@ static bool built_of(const Bytes &file, Family &f) {
 
 // Whether the bytes are the file of a family, and of which: what the records build must have just these bytes as its file.
 static bool family_of(const Bytes &file, Family &f) {
+    largest_read = 0;
     if (file.empty()) return false;
     if (file[0] == 0) f = EMPTY;
     else if (file[0] == 2) f = BASE;

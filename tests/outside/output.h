@@ -11,7 +11,14 @@ static void num(u64 n) { out += " " + std::to_string(n); }
 static void hex(u32 n, int digits) { char s[16]; std::snprintf(s, sizeof s, "%0*x", digits, n); out += s; }
 static void yes_no(bool b) { text(b ? " yes" : " no"); }
 static void bytes(const Bytes &file, size_t n) { for (size_t k = 0; k < n; k++) { text(" "); hex(file[k], 2); } }
-static void record(u32 n, u32 room) { text(" held"); num(n); text(" of"); num(room); }
+static void record(u32 n, u32 room, u32 limit) {
+    text(" held");
+    num(n);
+    text(" of");
+    num(room);
+    text(" limit");
+    num(limit);
+}
 
 static void called(const char *name) { tally[std::string("call ") + name]++; }
 static void refused(int n) {

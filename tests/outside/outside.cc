@@ -53,10 +53,11 @@ static void subsets(size_t cache) {
 }
 
 // Fresh: a book with {} and {{}} alone.
-static void fresh(size_t words, size_t lookup, size_t cache) {
+static void fresh(size_t words, size_t lookup, size_t cache, u32 most) {
     node_words = words;
     slots = lookup;
     capacity = 0;
+    limit = 0;
     book.assign(1, EMPTY);
     book.push_back(BASE);
     number.clear();
@@ -67,26 +68,52 @@ static void fresh(size_t words, size_t lookup, size_t cache) {
     num(words);
     num(lookup);
     num(cache);
+    text(" limit");
+    num(most);
     text(":");
     u32 room = (u32)std::min(words / 3, (size_t)1000000);
     if (words < 3) refused(1);
     else if (lookup <= room) refused(2);
+    else if (!is_limit(most)) refused(3);
     else {
         capacity = room;
+        limit = most;
         std::fill(all_nodes.begin(), all_nodes.begin() + 3 * room, 0);
         std::fill(all_lookup.begin(), all_lookup.begin() + lookup, 0);
         text(" done cleared yes");
     }
-    record(0, capacity);
+    record(0, capacity, limit);
     sum_of_words();
     text("\n");
 }
 
-// A list: Fresh, the drawn calls, and the words at its end. One with more than 16 items always lends its whole cache.
-static void list(size_t words, size_t lookup, size_t cache, u32 items, u32 calls) {
-    fresh(words, lookup, cache);
+// Load of the file of the list before: in one scratch word too few, with its last byte missing, and whole.
+static void load_carried(size_t cache) {
+    size_t n = std::min(file_length, buffer.size());
+    load_call(n, lend(63), cache, n == 0 ? 0 : 6 * n - 1);
+    load_call(n == 0 ? 0 : n - 1, lend(63), cache, 12400);
+    load_call(n, lend(63), cache, 12400);
+}
+
+// The newest family, with the limit among its items if there is room, is saved for the next list.
+static void make_carried(size_t cache) {
+    operation(3, count() + 1, limit, lend(63), cache);
+    save_calls(count() + 1, lend(63), 1100, buffer.size());
+}
+
+// The calls of a list; the last make the file for the next list. One with more than 16 items always lends its whole
+// cache.
+static void calls_of_list(size_t cache, u32 items, u32 calls) {
+    load_carried(cache);
     if (items == 70) subsets(cache);
     for (u32 k = 0; k < calls; k++) turn(items, 16 < items, cache);
+    make_carried(cache);
+}
+
+// A list: Fresh, its calls, if it has any, and the words at its end.
+static void list(size_t words, size_t lookup, size_t cache, u32 most, u32 items, u32 calls) {
+    fresh(words, lookup, cache, most);
+    if (0 < calls) calls_of_list(cache, items, calls);
     text("Nodes");
     for (size_t k = 0; k < node_words; k++) num(all_nodes[k]);
     text("\nLookup");
@@ -94,20 +121,32 @@ static void list(size_t words, size_t lookup, size_t cache, u32 items, u32 calls
     text("\nSpare cache words kept yes\n");
 }
 
-// Node words, lookup words, cache words, items and drawn calls of each list.
-static const u32 LISTS[][5] = {
-    {2, 5, 8, 3, 0},
-    {14, 4, 8, 3, 0},
-    {3, 2, 0, 2, 80},
-    {12, 7, 0, 3, 150},
-    {600, 211, 255, 9, 260},
-    {14, 5, 3, 2, 150},
-    {43, 15, 4, 4, 250},
-    {901, 307, 4099, 512, 260},
-    {75, 64, 0, 4, 250},
-    {151, 53, 29, 5, 300},
-    {240, 83, 64, 6, 300},
-    {3002, 2053, 4096, 70, 260},
+// A list of a drawn setting: a small store and few calls.
+static void drawn_list() {
+    static const u32 LIMITS[] = {1, 2, 31, 32, 33, 64, 511, 512};
+    Drawn drawn = draw();
+    size_t words = 3 + drawn.a % 24;
+    list(words, words / 3 + 1 + drawn.b % 8, drawn.c % 40, LIMITS[drawn.kind % 8], 1 + drawn.d % 3, 14);
+}
+
+// Node words, lookup words, cache words, limit, items and drawn calls of each list.
+static const u32 LISTS[][6] = {
+    {2, 5, 8, 0, 3, 12},
+    {2, 2, 8, 512, 3, 0},
+    {14, 4, 8, 513, 3, 0},
+    {14, 4, 8, 64, 3, 0},
+    {14, 5, 8, 0, 3, 12},
+    {14, 5, 8, 513, 3, 0},
+    {12, 7, 0, 512, 2, 150},
+    {901, 307, 4099, 512, 512, 260},
+    {240, 83, 64, 511, 3, 300},
+    {3002, 2053, 4096, 70, 70, 260},
+    {151, 53, 29, 64, 3, 300},
+    {75, 64, 0, 33, 2, 250},
+    {43, 15, 4, 32, 2, 250},
+    {600, 211, 255, 31, 5, 260},
+    {14, 5, 3, 2, 2, 150},
+    {3, 2, 0, 1, 1, 80},
 };
 
 int main(int argc, char **argv) {
@@ -117,7 +156,8 @@ int main(int argc, char **argv) {
     BASE = keep(pbori_Cudd_ReadZddOne(manager, 512)); // past the last variable: {{}} itself
     all_nodes.assign(3010, 2779096485u);
     all_lookup.assign(2060, 2779096485u);
-    for (const u32 *l : LISTS) list(l[0], l[1], l[2], l[3], l[4]);
+    for (const u32 *l : LISTS) list(l[0], l[1], l[2], l[3], l[4], l[5]);
+    for (int k = 0; k < 40; k++) drawn_list();
     if (argc == 2 && std::strcmp(argv[1], "--tally") == 0) {
         for (const std::pair<const std::string, int> &t : tally) std::printf("%s: %d\n", t.first.c_str(), t.second);
         return 0;

@@ -3,6 +3,7 @@ use crate::draw::Drawn;
 use crate::draw::at_most;
 use crate::draw::size_below;
 use crate::lend::Lent;
+use crate::lend::limited;
 use crate::output::answer;
 use crate::output::length;
 use crate::output::lent_two;
@@ -78,8 +79,51 @@ fn changed_slot(
     exchange(lookup, at, before);
 }
 
-// Audits the store as it is, or with one word changed to a small number.
-pub fn lines(drawn: Drawn, lent: Lent, nodes: &mut [u32], lookup: &mut [u32], cache: &mut [u32]) {
+// The item of a node, 0 being the first.
+fn item_at(nodes: &[u32], k: u32) -> u32 {
+    let at = 3 * k as usize;
+    if nodes.len() <= at {
+        return 0;
+    }
+    nodes[at]
+}
+
+// The larger number.
+fn larger(a: u32, b: u32) -> u32 {
+    if a < b {
+        return b;
+    }
+    a
+}
+
+// The largest item of so many nodes.
+fn largest(nodes: &[u32], count: u32) -> u32 {
+    let mut most: u32 = 0;
+    let mut k: u32 = 0;
+    while k < count {
+        most = larger(most, item_at(nodes, k));
+        k = k + 1;
+    }
+    most
+}
+
+// Audits the store with another limit in the record.
+fn changed_limit(limit: u32, lent: Lent, nodes: &[u32], lookup: &[u32], cache: &mut [u32]) {
+    text(b"Audit with limit");
+    word(limit);
+    audit_text(limited(lent, limit), nodes, lookup, cache);
+}
+
+// Audits the store as it is, with one word changed to a small number, or with the largest item held or one less as
+// its limit.
+pub fn lines(
+    drawn: Drawn,
+    count: u32,
+    lent: Lent,
+    nodes: &mut [u32],
+    lookup: &mut [u32],
+    cache: &mut [u32],
+) {
     let way = drawn.d / 64 % 4;
     let value = drawn.b % 8;
     if way == 0 {
@@ -89,6 +133,10 @@ pub fn lines(drawn: Drawn, lent: Lent, nodes: &mut [u32], lookup: &mut [u32], ca
     if way == 1 {
         let at = size_below(drawn.a, lookup.len());
         return changed_slot(at, value, lent, nodes, lookup, cache);
+    }
+    if way == 2 {
+        let limit = std::num::wrapping_sub_u32(largest(nodes, count), drawn.b % 2);
+        return changed_limit(limit, lent, nodes, lookup, cache);
     }
     text(b"Audit");
     audit_text(lent, nodes, lookup, cache);

@@ -54,9 +54,9 @@ fn put_fields(file: &mut [u8], at: usize, fields: Fields) -> usize {
     put_field(file, second, bits / 4 % 2 == 1, true, fields.one)
 }
 
-// An item: mostly the one before plus 1, or a little more; seldom the same, a small one, or one near the end of the
-// items.
-fn craft_item(x: u32, before: u32) -> u32 {
+// An item: mostly the one before plus 1, or a little more; seldom the same, a small one, or one near the limit or near
+// the end of the items.
+fn craft_item(x: u32, before: u32, limit: u32) -> u32 {
     let way = x % 32;
     if way == 0 {
         return 512 + x / 32 % 2;
@@ -67,8 +67,11 @@ fn craft_item(x: u32, before: u32) -> u32 {
     if way < 4 {
         return 1 + x / 32 % 4;
     }
-    let next = std::num::wrapping_add_u32(before, 1);
     if way < 8 {
+        return std::num::wrapping_add_u32(limit, x / 32 % 2);
+    }
+    let next = std::num::wrapping_add_u32(before, 1);
+    if way < 12 {
         return std::num::wrapping_add_u32(next, x / 32 % 3);
     }
     next
@@ -118,12 +121,12 @@ fn craft_bits(x: u32, plain: u32) -> u32 {
 }
 
 // Draws and puts the record with a local number.
-fn put_record(file: &mut [u8], crafted: Crafted, local: u32) -> Crafted {
+fn put_record(file: &mut [u8], limit: u32, crafted: Crafted, local: u32) -> Crafted {
     let a = step(crafted.draw);
     let b = step(a);
     let c = step(b);
     let d = step(c);
-    let item = craft_item(a, crafted.item);
+    let item = craft_item(a, crafted.item, limit);
     let zero = craft_zero(b, local);
     let one = craft_one(c, local);
     let first = bit(1, item, std::num::wrapping_add_u32(crafted.item, 1));
@@ -144,7 +147,7 @@ fn put_record(file: &mut [u8], crafted: Crafted, local: u32) -> Crafted {
 }
 
 // Puts so many records behind the first five bytes; gives the length and the draw.
-fn put_records(file: &mut [u8], parts: u32, draw: u32) -> Crafted {
+fn put_records(file: &mut [u8], limit: u32, parts: u32, draw: u32) -> Crafted {
     let mut crafted = Crafted {
         at: 5,
         item: 0,
@@ -153,7 +156,7 @@ fn put_records(file: &mut [u8], parts: u32, draw: u32) -> Crafted {
     let mut local: u32 = 2;
     let end = std::num::wrapping_add_u32(parts, 2);
     while local < end {
-        crafted = put_record(file, crafted, local);
+        crafted = put_record(file, limit, crafted, local);
         local = local + 1;
     }
     crafted
@@ -191,11 +194,11 @@ fn put_head(file: &mut [u8], drawn: Drawn, parts: u32) {
     put_field(file, 1, true, true, named_parts(way, parts));
 }
 
-// Puts a drawn file at the front of the buffer; seldom a byte of the buffer follows it.
-pub fn craft(file: &mut [u8], drawn: Drawn) -> Crafting {
+// Puts a drawn file for a store of this limit at the front of the buffer; seldom a byte of the buffer follows it.
+pub fn craft(file: &mut [u8], drawn: Drawn, limit: u32) -> Crafting {
     let parts = 1 + drawn.a % 6;
     put_head(file, drawn, parts);
-    let crafted = put_records(file, parts, drawn.d);
+    let crafted = put_records(file, limit, parts, drawn.d);
     if drawn.b % 32 == 3 {
         return Crafting {
             length: past(crafted.at, 1),

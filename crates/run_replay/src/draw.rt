@@ -77,20 +77,27 @@ pub fn handle(x: u32, count: u32) -> u32 {
     below(pick, std::num::wrapping_add_u32(count, 2))
 }
 
-// An item from 1 to `items`; seldom 512, or a number that is no item.
-pub fn item(x: u32, items: u32) -> u32 {
+// A number at an edge: 0, the limit, 512, the number above either, or the largest word.
+fn edge(way: u32, limit: u32) -> u32 {
+    match way {
+        0 => 0,
+        1 => limit,
+        2 => std::num::wrapping_add_u32(limit, 1),
+        3 => 512,
+        4 => 513,
+        _ => 4294967295,
+    }
+}
+
+// One of the first or the last so many items up to the limit; seldom a number at an edge.
+pub fn item(x: u32, items: u32, limit: u32) -> u32 {
     let way = x % 32;
-    if way == 0 {
-        return 0;
+    if way < 6 {
+        return edge(way, limit);
     }
-    if way == 1 {
-        return 513;
+    let pick = below(x / 32, items);
+    if way < 16 {
+        return std::num::wrapping_sub_u32(limit, pick);
     }
-    if way == 2 {
-        return 512;
-    }
-    if way == 3 {
-        return 4294967295;
-    }
-    std::num::wrapping_add_u32(1, below(x / 32, items))
+    std::num::wrapping_add_u32(1, pick)
 }

@@ -10,29 +10,33 @@ pub struct Lent {
     pub cache: usize,
 }
 
-// The record: seldom one that does not fit the words.
+// The record of these numbers.
+fn of(capacity: u32, count: u32, limit: u32) -> Store {
+    Store {
+        capacity: capacity,
+        count: count,
+        limit: limit,
+    }
+}
+
+// The record with another limit.
+fn with_limit(store: Store, limit: u32) -> Store {
+    of(store.capacity, store.count, limit)
+}
+
+// The record: seldom one that does not fit the words, or whose limit is none.
 fn handed(d: u32, store: Store) -> Store {
-    let way = d % 64;
-    let capacity = store.capacity;
-    if way == 0 {
-        return Store {
-            capacity: std::num::wrapping_add_u32(capacity, 1),
-            count: store.count,
-        };
+    let above = std::num::wrapping_add_u32(store.capacity, 1);
+    let under = std::num::wrapping_sub_u32(store.capacity, 1);
+    match d % 64 {
+        0 => of(above, store.count, store.limit),
+        1 => of(under, store.count, store.limit),
+        2 => of(store.capacity, above, store.limit),
+        4 => with_limit(store, 0),
+        5 => with_limit(store, 513),
+        6 => with_limit(store, 4294967295),
+        _ => store,
     }
-    if way == 1 {
-        return Store {
-            capacity: std::num::wrapping_sub_u32(capacity, 1),
-            count: store.count,
-        };
-    }
-    if way == 2 {
-        return Store {
-            capacity: capacity,
-            count: std::num::wrapping_add_u32(capacity, 1),
-        };
-    }
-    store
 }
 
 // The lookup: seldom only as much of it as the capacity.
@@ -64,6 +68,25 @@ pub fn lend(x: u32, d: u32, whole: bool, store: Store, lookup: usize, cache: usi
         record: handed(d, store),
         slots: slots(d, store.capacity, lookup),
         cache: part(x, whole, cache),
+    }
+}
+
+// Lends everything.
+pub fn everything(store: Store, slots: usize, cache: usize) -> Lent {
+    Lent {
+        record: store,
+        slots: slots,
+        cache: cache,
+    }
+}
+
+// The same lent with another limit in the record.
+pub fn limited(lent: Lent, limit: u32) -> Lent {
+    let store = lent.record;
+    Lent {
+        record: with_limit(store, limit),
+        slots: lent.slots,
+        cache: lent.cache,
     }
 }
 

@@ -1,5 +1,7 @@
 // The lists: Fresh, then so many drawn calls.
+use crate::carried;
 use crate::draw::at_most;
+use crate::draw::draw;
 use crate::output::answer;
 use crate::output::length;
 use crate::output::record;
@@ -8,6 +10,9 @@ use crate::output::sum_line;
 use crate::output::text;
 use crate::output::word;
 use crate::placing::words;
+use crate::settings::Setting;
+use crate::settings::drawn_setting;
+use crate::settings::numbered;
 use crate::subsets;
 use crate::sums::MARK;
 use crate::sums::cleared;
@@ -15,50 +20,12 @@ use crate::sums::spare;
 use crate::turn::Manner;
 use crate::turn::State;
 use crate::turn::turn;
+use crate::turn::with_file;
 use crate::turn::with_record;
 use store::record::Store;
 use store_fresh::FreshAnswer;
 use store_fresh::Freshened;
 use store_fresh::fresh;
-
-// What is lent to a list, how many items it has, and how many calls. One with more than 16 items always lends its
-// whole cache.
-struct Setting {
-    nodes: usize,
-    lookup: usize,
-    cache: usize,
-    items: u32,
-    calls: u32,
-}
-
-// The setting of these numbers.
-fn of(nodes: usize, lookup: usize, cache: usize, items: u32, calls: u32) -> Setting {
-    Setting {
-        nodes: nodes,
-        lookup: lookup,
-        cache: cache,
-        items: items,
-        calls: calls,
-    }
-}
-
-// The setting of a list by its number.
-fn numbered(list: u32) -> Setting {
-    match list {
-        0 => of(2, 5, 8, 3, 0),
-        1 => of(14, 4, 8, 3, 0),
-        2 => of(3, 2, 0, 2, 80),
-        3 => of(12, 7, 0, 3, 150),
-        4 => of(600, 211, 255, 9, 260),
-        5 => of(14, 5, 3, 2, 150),
-        6 => of(43, 15, 4, 4, 250),
-        7 => of(901, 307, 4099, 512, 260),
-        8 => of(75, 64, 0, 4, 250),
-        9 => of(151, 53, 29, 5, 300),
-        10 => of(240, 83, 64, 6, 300),
-        _ => of(3002, 2053, 4096, 70, 260),
-    }
-}
 
 // Writes some words.
 fn all_words(words: &[u32]) {
@@ -82,19 +49,21 @@ fn fresh_given(freshened: Freshened, cache: &[u32]) {
     record(freshened.store);
 }
 
-// Writes how many words Fresh is lent.
-fn fresh_text(nodes: usize, lookup: usize, cache: usize) {
+// Writes how many words Fresh is lent, and the limit.
+fn fresh_text(nodes: usize, lookup: usize, cache: usize, limit: u32) {
     text(b"Fresh");
     length(nodes);
     length(lookup);
     length(cache);
+    text(b" limit");
+    word(limit);
     text(b":");
 }
 
 // Fresh, and its line.
-fn fresh_line(nodes: &mut [u32], lookup: &mut [u32], cache: &mut [u32]) -> Freshened {
-    let freshened = fresh(nodes, lookup, cache);
-    fresh_text(nodes.len(), lookup.len(), cache.len());
+fn fresh_line(limit: u32, nodes: &mut [u32], lookup: &mut [u32], cache: &mut [u32]) -> Freshened {
+    let freshened = fresh(nodes, lookup, cache, limit);
+    fresh_text(nodes.len(), lookup.len(), cache.len(), limit);
     fresh_given(freshened, cache);
     sum_line(words(nodes, lookup));
     freshened
@@ -119,21 +88,41 @@ fn turns(
     state
 }
 
-// What comes before the drawn calls: in the list with 70 items, all subsets of 64.
+// What comes before the drawn calls: Load of the file of the list before; in the list with 70 items, all subsets of 64.
 fn opening(
     items: u32,
-    store: Store,
+    state: State,
     nodes: &mut [u32],
     lookup: &mut [u32],
     cache: &mut [u32],
-) -> Store {
+    file: &[u8],
+) -> State {
+    let loaded = carried::loaded(state, nodes, lookup, cache, file);
     if items == 70 {
-        return subsets::lines(store, nodes, lookup, cache);
+        let store = subsets::lines(loaded.store, nodes, lookup, cache);
+        return with_record(loaded, store);
     }
-    store
+    loaded
 }
 
-// The calls of a list.
+// The opening and the drawn calls of a list.
+fn drawn_calls(
+    setting: Setting,
+    state: State,
+    nodes: &mut [u32],
+    lookup: &mut [u32],
+    cache: &mut [u32],
+    file: &mut [u8],
+) -> State {
+    let opened = opening(setting.items, state, nodes, lookup, cache, file);
+    let manner = Manner {
+        items: setting.items,
+        whole: 16 < setting.items,
+    };
+    turns(setting.calls, manner, opened, nodes, lookup, cache, file)
+}
+
+// The calls of a list, if it has any; the last make the file for the next list.
 fn calls(
     setting: Setting,
     state: State,
@@ -142,20 +131,11 @@ fn calls(
     cache: &mut [u32],
     file: &mut [u8],
 ) -> State {
-    let opened = opening(setting.items, state.store, nodes, lookup, cache);
-    let manner = Manner {
-        items: setting.items,
-        whole: 16 < setting.items,
-    };
-    turns(
-        setting.calls,
-        manner,
-        with_record(state, opened),
-        nodes,
-        lookup,
-        cache,
-        file,
-    )
+    if setting.calls == 0 {
+        return state;
+    }
+    let last = drawn_calls(setting, state, nodes, lookup, cache, file);
+    carried::made(last, nodes, lookup, cache, file)
 }
 
 // Writes all node words and the lookup, and whether the words past the whole cache groups are as before.
@@ -179,7 +159,7 @@ fn list_on(
     file: &mut [u8],
 ) -> State {
     let before = spare(cache);
-    let freshened = fresh_line(nodes, lookup, cache);
+    let freshened = fresh_line(setting.limit, nodes, lookup, cache);
     let store = freshened.store;
     let start = with_record(state, store);
     let last = calls(setting, start, nodes, lookup, cache, file);
@@ -209,16 +189,33 @@ fn list(
     )
 }
 
+// The list of this number: of a set setting, or from 16 on of a drawn one.
+fn numbered_list(
+    k: u32,
+    state: State,
+    nodes: &mut [u32],
+    lookup: &mut [u32],
+    cache: &mut [u32],
+    file: &mut [u8],
+) -> State {
+    if k < 16 {
+        return list(numbered(k), state, nodes, lookup, cache, file);
+    }
+    let drawn = draw(state.draw);
+    let start = with_file(state, drawn.d, state.length);
+    list(drawn_setting(drawn), start, nodes, lookup, cache, file)
+}
+
 // All lists, one after the other on the same words.
 fn lists(nodes: &mut [u32], lookup: &mut [u32], cache: &mut [u32], file: &mut [u8]) {
     let mut state = State {
         draw: 2463534242,
-        store: Store::new(0),
+        store: Store::new(0, 0),
         length: 0,
     };
     let mut k: u32 = 0;
-    while k < 12 {
-        state = list(numbered(k), state, nodes, lookup, cache, file);
+    while k < 56 {
+        state = numbered_list(k, state, nodes, lookup, cache, file);
         k = k + 1;
     }
 }

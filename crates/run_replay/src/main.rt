@@ -1,5 +1,6 @@
 // Replays lists of calls that a fixed 32-bit xorshift draws, and writes one line for each call with its answer.
 mod audits;
+mod carried;
 mod craft;
 mod draw;
 mod lend;
@@ -10,6 +11,7 @@ mod output;
 mod path;
 mod placing;
 mod saves;
+mod settings;
 mod sizes;
 mod subsets;
 mod sums;

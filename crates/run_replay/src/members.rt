@@ -1,6 +1,7 @@
 // The line of Has.
 use crate::draw::Drawn;
 use crate::draw::at_most;
+use crate::draw::below;
 use crate::draw::item;
 use crate::lend::Lent;
 use crate::output::length;
@@ -16,21 +17,26 @@ use query_has::Asked;
 use query_has::HasAnswer;
 use query_has::has;
 
-// A combination: empty, a single item, a member of p, or a member with an item put in or taken out.
-pub fn combination(drawn: Drawn, items: u32, nodes: &[u32], p: u32) -> Combination {
-    let way = drawn.d / 64 % 4;
-    if way == 0 {
-        return none();
-    }
-    let one = item(drawn.b, items);
-    if way == 1 {
-        return toggled(none(), one);
-    }
+// An item above the limit, up to 512; 513 where there is none.
+fn above(x: u32, limit: u32) -> u32 {
+    let room = std::num::wrapping_sub_u32(512, limit);
+    let first = std::num::wrapping_add_u32(limit, 1);
+    std::num::wrapping_add_u32(first, below(x, room))
+}
+
+// A combination: empty, a single item, a member of p, or a member with an item put in or taken out, or with one above
+// the limit put in.
+pub fn combination(drawn: Drawn, items: u32, limit: u32, nodes: &[u32], p: u32) -> Combination {
+    let way = drawn.d / 64 % 5;
+    let one = item(drawn.b, items, limit);
     let held = member(nodes, p, drawn.c);
-    if way == 2 {
-        return held;
+    match way {
+        0 => none(),
+        1 => toggled(none(), one),
+        2 => held,
+        3 => toggled(held, one),
+        _ => toggled(held, above(drawn.b, limit)),
     }
-    toggled(held, one)
 }
 
 // Writes the items of a combination.

@@ -73,6 +73,8 @@ pub fn record(store: Store) {
     word(store.count);
     text(b" of");
     word(store.capacity);
+    text(b" limit");
+    word(store.limit);
 }
 
 // Writes a refusal.

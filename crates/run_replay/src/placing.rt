@@ -105,19 +105,19 @@ pub fn line(
 }
 
 // The operation that is drawn.
-pub fn drawn_operation(op: u32, drawn: Drawn, items: u32, count: u32) -> Operation {
-    let p = handle(drawn.a, count);
+pub fn drawn_operation(op: u32, drawn: Drawn, items: u32, store: Store) -> Operation {
+    let p = handle(drawn.a, store.count);
     if op < 4 {
         return Operation {
             op: op,
             p: p,
-            q: item(drawn.b, items),
+            q: item(drawn.b, items, store.limit),
         };
     }
     Operation {
         op: op,
         p: p,
-        q: handle(drawn.b, count),
+        q: handle(drawn.b, store.count),
     }
 }
 

@@ -1,5 +1,5 @@
 // All subsets of 1 to 64 items, and families of 2^64 - 1 members and of one more.
-use crate::lend::Lent;
+use crate::lend::everything;
 use crate::placing;
 use crate::placing::Operation;
 use crate::sizes;
@@ -61,15 +61,6 @@ fn after(step: u32, built: Built, store: Store, handle: u32) -> Built {
         all: all,
         less: less,
         last: handle,
-    }
-}
-
-// What is lent: everything.
-fn everything(store: Store, slots: usize, cache: usize) -> Lent {
-    Lent {
-        record: store,
-        slots: slots,
-        cache: cache,
     }
 }
 

@@ -48,7 +48,7 @@ pub fn with_record(state: State, store: Store) -> State {
 }
 
 // The state with another draw and another file in the buffer.
-fn with_file(state: State, draw: u32, length: usize) -> State {
+pub fn with_file(state: State, draw: u32, length: usize) -> State {
     let store = state.store;
     State {
         draw: draw,
@@ -68,7 +68,7 @@ fn operation(
     cache: &mut [u32],
 ) -> State {
     let store = state.store;
-    let call = drawn_operation(op, drawn, manner.items, store.count);
+    let call = drawn_operation(op, drawn, manner.items, store);
     let lent = lend(
         drawn.c,
         drawn.d,
@@ -96,7 +96,7 @@ fn has(drawn: Drawn, manner: Manner, state: State, nodes: &[u32], lookup: &[u32]
     let store = state.store;
     let p = handle(drawn.a, store.count);
     let lent = lend(0, drawn.d, true, store, lookup.len(), 0);
-    let combination = members::combination(drawn, manner.items, nodes, p);
+    let combination = members::combination(drawn, manner.items, store.limit, nodes, p);
     members::line(p, combination, lent, nodes, lookup);
     state
 }
@@ -159,21 +159,22 @@ fn audit(
     lookup: &mut [u32],
     cache: &mut [u32],
 ) -> State {
+    let store = state.store;
     let lent = lend(
         drawn.c,
         drawn.d,
         manner.whole,
-        state.store,
+        store,
         lookup.len(),
         cache.len(),
     );
-    audits::lines(drawn, lent, nodes, lookup, cache);
+    audits::lines(drawn, store.count, lent, nodes, lookup, cache);
     state
 }
 
 // A drawn file into the buffer.
 fn crafted(drawn: Drawn, state: State, file: &mut [u8]) -> State {
-    let made = craft(file, drawn);
+    let made = craft(file, drawn, state.store.limit);
     text(b"Craft");
     saves::bytes(file, made.length);
     text(b"\n");

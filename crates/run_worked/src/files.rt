@@ -27,15 +27,20 @@ fn saved_text(saved: Saved, out: &[u8]) {
     }
 }
 
-// Saves p and writes the line.
-pub fn save_line(store: Store, nodes: &[u32], lookup: &[u32], p: u32) {
+// Saves p into lent bytes and writes the line.
+pub fn save_into(store: Store, nodes: &[u32], lookup: &[u32], p: u32, out: &mut [u8]) {
     let mut links = [0u32; 4];
-    let mut out = [0u8; 16];
-    let saved = save(store, nodes, lookup, p, &mut links, &mut out);
+    let saved = save(store, nodes, lookup, p, &mut links, out);
     text(b"Save(");
     word(p);
     text(b")");
-    saved_text(saved, &out);
+    saved_text(saved, out);
+}
+
+// Saves p and writes the line.
+pub fn save_line(store: Store, nodes: &[u32], lookup: &[u32], p: u32) {
+    let mut out = [0u8; 16];
+    save_into(store, nodes, lookup, p, &mut out);
 }
 
 // Where the files end: those that Save wrote, one with a needless item, one of no parts, and no bytes.
@@ -76,7 +81,7 @@ fn file_text(file: &[u8]) {
 }
 
 // Loads a file and writes the line.
-fn load_line(
+pub fn load_line(
     store: Store,
     nodes: &mut [u32],
     lookup: &mut [u32],

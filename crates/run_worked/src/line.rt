@@ -13,7 +13,7 @@ use store::record::Refusal;
 use store::record::Store;
 
 // The operations in the order of document 01: the worked store's, and from 11 on the first and the last item and the
-// numbers beside them.
+// numbers beside them. From 15 on, the largest item of the pocket tester and the one above it.
 fn numbered(k: u32) -> Operation {
     match k {
         0 => of(3, 1, 1),
@@ -30,7 +30,9 @@ fn numbered(k: u32) -> Operation {
         11 => of(3, 1, 1),
         12 => of(3, 1, 512),
         13 => of(3, 1, 0),
-        _ => of(3, 1, 513),
+        14 => of(3, 1, 513),
+        15 => of(3, 1, 64),
+        _ => of(3, 1, 65),
     }
 }
 

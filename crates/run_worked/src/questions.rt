@@ -28,15 +28,39 @@ fn asked_text(asked: Asked) {
     }
 }
 
-// Asks whether a combination of items up to 32 is in p, and writes the line.
-pub fn has_line(store: Store, nodes: &[u32], lookup: &[u32], p: u32, shown: &[u8], bits: u32) {
-    let asked = has(store, nodes, lookup, p, low_items(bits));
+// The combination of the item 65 alone.
+fn item_65() -> Combination {
+    let mut words = [0u32; 16];
+    words[2] = 1;
+    Combination { words: words }
+}
+
+// Asks whether a combination is in p, and writes the line.
+fn line(
+    store: Store,
+    nodes: &[u32],
+    lookup: &[u32],
+    p: u32,
+    shown: &[u8],
+    combination: Combination,
+) {
+    let asked = has(store, nodes, lookup, p, combination);
     text(b"Has(");
     word(p);
     text(b", ");
     text(shown);
     text(b")");
     asked_text(asked);
+}
+
+// Asks whether a combination of items up to 32 is in p, and writes the line.
+pub fn has_line(store: Store, nodes: &[u32], lookup: &[u32], p: u32, shown: &[u8], bits: u32) {
+    line(store, nodes, lookup, p, shown, low_items(bits));
+}
+
+// Asks whether the item 65 alone is in p, and writes the line.
+pub fn has_65_line(store: Store, nodes: &[u32], lookup: &[u32], p: u32) {
+    line(store, nodes, lookup, p, b"{65}", item_65());
 }
 
 // Measures p and ends the line.

@@ -1,5 +1,5 @@
 -- `lists` is safe and ends: the measure is the number of lists that are left.
--- Each turn keeps the lengths of the lent words, and the number of the list stays below 13.
+-- Each turn keeps the lengths of the lent words, and the number of the list stays below 57.
 use mathlib.Core.Path.{_≡_}
 use Prim.Native.Nat.{_-_, _≤_}
 use lib.ListN.{length}
@@ -8,10 +8,10 @@ use Rattle.run_replay.proofs.lists.lists.Statement.{statement}
 use Rattle.run_replay.proofs.lists.lists.Tie as tie
 
 abbrev Inv-loop : tie.InvT-loop
-Inv-loop nodes₀ lookup₀ cache₀ file₀ state₀ k₀ nodes lookup cache file state k = (length nodes ≡ length nodes₀) × (length lookup ≡ length lookup₀) × (length cache ≡ length cache₀) × (length file ≡ length file₀) × (k ≤ 12)
+Inv-loop nodes₀ lookup₀ cache₀ file₀ state₀ k₀ nodes lookup cache file state k = (length nodes ≡ length nodes₀) × (length lookup ≡ length lookup₀) × (length cache ≡ length cache₀) × (length file ≡ length file₀) × (k ≤ 56)
 
 abbrev μ-loop : tie.MeasureT-loop
-μ-loop nodes₀ lookup₀ cache₀ file₀ state₀ k₀ nodes lookup cache file state k = 12 - k
+μ-loop nodes₀ lookup₀ cache₀ file₀ state₀ k₀ nodes lookup cache file state k = 56 - k
 
 new-requires : tie.Need-new-requires Inv-loop μ-loop
 new-requires c κs = search needs
@@ -19,11 +19,8 @@ new-requires c κs = search needs
 loop-holds : tie.Need-loop-holds Inv-loop μ-loop
 loop-holds c = search needs
 
-numbered-requires : tie.Need-numbered-requires Inv-loop μ-loop
-numbered-requires c κs = search needs
-
-list-requires : tie.Need-list-requires Inv-loop μ-loop
-list-requires c κs = search needs
+numbered-list-requires : tie.Need-numbered-list-requires Inv-loop μ-loop
+numbered-list-requires c κs = search needs
 
 add-k : tie.Need-add-k Inv-loop μ-loop
 add-k c = search needs
@@ -57,8 +54,7 @@ lists-spec =
     μ-loop
     new-requires
     loop-holds
-    numbered-requires
-    list-requires
+    numbered-list-requires
     add-k
     loop-less
     loop-again

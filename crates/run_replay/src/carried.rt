@@ -1,0 +1,113 @@
+// A file that goes from one list's store to the next one's.
+use crate::draw::at_most;
+use crate::lend::everything;
+use crate::loads;
+use crate::loads::Reading;
+use crate::loads::needed;
+use crate::placing;
+use crate::placing::Operation;
+use crate::placing::next_record;
+use crate::saves;
+use crate::saves::Room;
+use crate::turn::State;
+use crate::turn::with_file;
+use crate::turn::with_record;
+use store::record::Store;
+
+// One less; 0 for 0.
+fn less(n: usize) -> usize {
+    if n == 0 {
+        return 0;
+    }
+    n - 1
+}
+
+// Loads so many bytes in so much scratch.
+fn load(
+    bytes: usize,
+    words: usize,
+    state: State,
+    nodes: &mut [u32],
+    lookup: &mut [u32],
+    cache: &mut [u32],
+    file: &[u8],
+) -> State {
+    let store = state.store;
+    let lent = everything(store, lookup.len(), cache.len());
+    let reading = Reading {
+        bytes: bytes,
+        words: words,
+    };
+    let placed = loads::line(reading, lent, nodes, lookup, cache, file);
+    with_record(state, next_record(placed, store))
+}
+
+// Loads so many bytes in one scratch word too few, and without the last byte.
+fn refused(
+    bytes: usize,
+    state: State,
+    nodes: &mut [u32],
+    lookup: &mut [u32],
+    cache: &mut [u32],
+    file: &[u8],
+) -> State {
+    let short = less(needed(bytes));
+    let first = load(bytes, short, state, nodes, lookup, cache, file);
+    load(less(bytes), 12400, first, nodes, lookup, cache, file)
+}
+
+// Loads the file of the list before, first in two ways that are refused.
+pub fn loaded(
+    state: State,
+    nodes: &mut [u32],
+    lookup: &mut [u32],
+    cache: &mut [u32],
+    file: &[u8],
+) -> State {
+    let bytes = at_most(state.length, file.len());
+    let same = refused(bytes, state, nodes, lookup, cache, file);
+    load(bytes, 12400, same, nodes, lookup, cache, file)
+}
+
+// The handle of the newest family.
+fn newest(store: Store) -> u32 {
+    std::num::wrapping_add_u32(store.count, 1)
+}
+
+// Changes the newest family by the limit: the newest one then holds that item, if there is room.
+fn changed(state: State, nodes: &mut [u32], lookup: &mut [u32], cache: &mut [u32]) -> State {
+    let store = state.store;
+    let lent = everything(store, lookup.len(), cache.len());
+    let call = Operation {
+        op: 3,
+        p: newest(store),
+        q: store.limit,
+    };
+    let placed = placing::line(call, lent, nodes, lookup, cache);
+    with_record(state, next_record(placed, store))
+}
+
+// Saves the newest family.
+fn saved(state: State, nodes: &[u32], lookup: &[u32], file: &mut [u8]) -> State {
+    let store = state.store;
+    let p = newest(store);
+    let lent = everything(store, lookup.len(), 0);
+    let room = Room {
+        words: 1100,
+        bytes: file.len(),
+    };
+    let last = saves::lines(p, room, lent, nodes, lookup, file, state.length);
+    with_file(state, state.draw, last)
+}
+
+// Makes the file for the next list.
+pub fn made(
+    state: State,
+    nodes: &mut [u32],
+    lookup: &mut [u32],
+    cache: &mut [u32],
+    file: &mut [u8],
+) -> State {
+    let last = changed(state, nodes, lookup, cache);
+    saved(last, nodes, lookup, file)
+}
