@@ -6,7 +6,9 @@ use mathlib.Core.List.{List, [], _∷_, _++_}
 use lib.ListN.{length, set}
 use Rattle.family.specs.Family.{Family, node, Within, top, mk, largestItem}
 use Rattle.family.specs.Book.{at, number, made}
-use Rattle.store.specs.declared.record.PlaceAnswer.the-variants.{Handle}
+use Rattle.store.specs.declared.record.Refusal.the-variants.{Full, Damaged}
+use Rattle.store.specs.declared.record.PlaceAnswer.{PlaceAnswer}
+use Rattle.store.specs.declared.record.PlaceAnswer.the-variants.{Handle, Refused}
 use Rattle.store.specs.declared.record.Placed.{Placed}
 use Rattle.store.specs.declared.record.Store.{Store}
 use Rattle.store.specs.Inner.{putNode, Fill, fillOf, fillIn, Reached, reachedBy, Holds, Handed, Kept, Outcome, Roomy}
@@ -38,6 +40,17 @@ heldAfter n (Found h) = n
 heldAfter n (New h) = n + 1
 heldAfter n NoRoom = n
 heldAfter n Bad = n
+
+-- what making a node comes to, as an answer
+abbrev pub answerBy : Made → PlaceAnswer
+answerBy (Found h) = Handle h
+answerBy (New h) = Handle h
+answerBy NoRoom = Refused Full
+answerBy Bad = Refused Damaged
+
+-- the same with the nodes then held
+abbrev pub reachedWith : ℕ → ℕ → Made → Reached
+reachedWith capacity n m = record { store = fillOf capacity (heldAfter n m); answer = answerBy m }
 
 -- making the node F in a book: found there, new at its end, or no room for it
 pub data MadeOf (limit : ℕ) (B : List Family) (F : Family) (capacity n : ℕ) (nodes lookup : List ℕ) : Made → Type 0 where

@@ -1,15 +1,12 @@
 -- `node_of` is Getnode of document 001 with the count behind a reference; each way out is one law of it.
--- What `make` ensures carries over, with its answer turned into a number.
-use Rattle.store_node.proofs.Getting.{coded-zero, coded-found, coded-new, coded-no-room, coded-bad}
+-- What `made_node` ensures carries over, with its answer turned into a number.
+use Rattle.store_node.proofs.Getting.{coded-found, coded-new, coded-no-room, coded-bad}
 use borrow.Author.Needs.{needs}
 use Rattle.store_node.proofs.getnode.node_of.Statement.{statement}
 use Rattle.store_node.proofs.getnode.node_of.Tie as tie
 
-returns : tie.Need-returns
-returns c = search coded-zero
-
-make-requires : tie.Need-make-requires
-make-requires c κs = search needs
+made-node-requires : tie.Need-made-node-requires
+made-node-requires c κs = search needs
 
 enum-known-handle : tie.Need-enum-known-handle
 enum-known-handle c = search needs
@@ -32,8 +29,8 @@ same-length c = search needs
 same-length-2 : tie.Need-same-length-2
 same-length-2 c = search needs
 
-returns-2 : tie.Need-returns-2
-returns-2 c = search coded-found
+returns : tie.Need-returns
+returns c = search coded-found
 
 same-length-3 : tie.Need-same-length-3
 same-length-3 c = search needs
@@ -41,8 +38,8 @@ same-length-3 c = search needs
 same-length-4 : tie.Need-same-length-4
 same-length-4 c = search needs
 
-returns-3 : tie.Need-returns-3
-returns-3 c = search coded-new
+returns-2 : tie.Need-returns-2
+returns-2 c = search coded-new
 
 same-length-5 : tie.Need-same-length-5
 same-length-5 c = search needs
@@ -50,8 +47,8 @@ same-length-5 c = search needs
 same-length-6 : tie.Need-same-length-6
 same-length-6 c = search needs
 
-returns-4 : tie.Need-returns-4
-returns-4 c = search coded-no-room
+returns-3 : tie.Need-returns-3
+returns-3 c = search coded-no-room
 
 same-length-7 : tie.Need-same-length-7
 same-length-7 c = search needs
@@ -59,15 +56,14 @@ same-length-7 c = search needs
 same-length-8 : tie.Need-same-length-8
 same-length-8 c = search needs
 
-returns-5 : tie.Need-returns-5
-returns-5 c = search coded-bad
+returns-4 : tie.Need-returns-4
+returns-4 c = search coded-bad
 
 pub node-of-spec : {M : Type 1} → statement M
 node-of-spec =
     tie.close
     (tie.spec
-    returns
-    make-requires
+    made-node-requires
     enum-known-handle
     enum-known-handle-2
     add-count
@@ -75,13 +71,13 @@ node-of-spec =
     enum-told-2
     same-length
     same-length-2
-    returns-2
+    returns
     same-length-3
     same-length-4
-    returns-3
+    returns-2
     same-length-5
     same-length-6
-    returns-4
+    returns-3
     same-length-7
     same-length-8
-    returns-5)
+    returns-4)
