@@ -2,11 +2,11 @@
 -- number, and on a record.
 -- Adding the node to the book is what placing the family of the item and the two sides does, once both sides are held.
 use Prim.Native.Nat.{ℕ, _+_, _≤_, _<_}
-use mathlib.Core.Path.{_≡_, refl, sym, ap, _∙_}
+use mathlib.Core.Path.{_≡_, refl, ap, _∙_}
 use mathlib.Core.List.{List, [], _∷_, _++_}
 use native.Mathlib.Omega.{arith}
 use lib.Dec.{T}
-use lib.ListN.{length, length-append}
+use lib.ListN.{length-append}
 use Rattle.family.specs.Family.{Family, empty, node, top, inhabited, mk, Within}
 use Rattle.family.specs.Book.{at, add, made}
 use Rattle.family.proofs.Books.{add-same, add-new}

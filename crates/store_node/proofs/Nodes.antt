@@ -12,7 +12,7 @@ use Rattle.family.specs.Book.{at}
 use Rattle.table.specs.Probe.{probeOf}
 use Rattle.table.specs.Entered.{entered, startAt}
 use Rattle.store_node.specs.declared.unique.Made.the-variants.{Found, New, Full, Damaged}
-use Rattle.store.specs.Inner.{Fill, fillOf, Roomy, Holds, Handed, Kept, putNode}
+use Rattle.store.specs.Inner.{Fill, Roomy, Holds, Handed, Kept, putNode}
 use Rattle.store_node.specs.Inner.{found, new, full, MadeIt}
 use Rattle.store.proofs.Extending.{holds-kept, next-is, extended}
 use Rattle.store.proofs.Put.{put-length, put-below, put-above, put-has, put-entered}
