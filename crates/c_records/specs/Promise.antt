@@ -23,7 +23,7 @@ abbrev pub freshenedOf : Freshened → CFreshened
 freshenedOf b = record { store = b .store; refusal = freshNumber (b .answer) }
 
 abbrev pub placedOf : Placed → CPlaced
-placedOf b = record { store = b .store; refusal = givenBy (b .answer) .refusal; handle = givenBy (b .answer) .handle }
+placedOf b = record { store = b .store; refusal = givenBy (b .answer) .refusal; handle = givenBy (b .answer) .handle; added = givenBy (b .answer) .added }
 
 abbrev pub measuredOf : Measured → CMeasured
 measuredOf b = record { store = b .store; refusal = sizeGivenBy (b .answer) .refusal; size = sizeGivenBy (b .answer) .size }

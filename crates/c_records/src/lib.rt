@@ -23,12 +23,13 @@ pub struct CFreshened {
     pub refusal: u32,
 }
 
-// What a call that places a family gives back; the handle is 0 where it is refused.
+// What a call that places a family gives back; the handle and the number added are 0 where it is refused.
 #[repr(C)]
 pub struct CPlaced {
     pub store: Store,
     pub refusal: u32,
     pub handle: u32,
+    pub added: u32,
 }
 
 // What Size gives back; the size is 0 where it is refused.
@@ -106,15 +107,17 @@ pub fn placed(behind: Placed) -> CPlaced
     let store = behind.store;
     let answer = behind.answer;
     match answer {
-        PlaceAnswer::Handle(handle) => CPlaced {
+        PlaceAnswer::Handle { handle, added } => CPlaced {
             store: store,
             refusal: 0,
             handle: handle,
+            added: added,
         },
         PlaceAnswer::Refused(refusal) => CPlaced {
             store: store,
             refusal: number(refusal),
             handle: 0,
+            added: 0,
         },
     }
 }

@@ -7,7 +7,7 @@ use mathlib.Core.Bool.{true, false, decide, decide-iff}
 use mathlib.Core.List.{List, [], _∷_, _++_, append-assoc, append-nil}
 use native.Mathlib.Decide.{ℕ-discrete}
 use native.Mathlib.Omega.{arith}
-use lib.ListN.{length, length-append, List·getD-append}
+use lib.ListN.{length, length-append, List·getD-append, List·getD-eq-default}
 use lib.Seq.{getD-append-seam}
 use borrow.Author.Tests.{lt-ltb, le-ltb}
 use Rattle.family.specs.Family.{Family, empty, base, node, Family-discrete, Within}
@@ -155,6 +155,13 @@ module _ {t : ℕ} (B : List Family) (k : Book t B) where
 
   pub held-at : (n : ℕ) → n < length B → Held B (at B n)
   held-at n h = omega (arith, k .unique n h)
+
+  -- every number means a family that is held: {}, where it stands past the end
+  pub at-held : (n : ℕ) → Held B (at B n)
+  at-held n = by-lt n (length B) (λ h e. held-at n h) (λ h e. rw (List·getD-eq-default B empty {n = n} h) held-empty)
+
+  pub at-within : (n : ℕ) → Within t (at B n)
+  at-within n = k .within (at B n) (at-held n)
 
   pub two-long : 2 ≤ length B
   two-long = omega (arith, ap length (k .begins .eq))

@@ -8,6 +8,7 @@ pub mod Members
 pub mod Books
 pub mod Placing
 pub mod Different
+pub mod Bound
 pub mod Records
 pub mod Orders
 pub mod Reading

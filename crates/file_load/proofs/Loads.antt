@@ -27,14 +27,16 @@ use Rattle.store.specs.declared.record.Placed.{Placed}
 use Rattle.store.specs.Capacity.{fitting}
 use Rattle.store.specs.Promise.{PlaceCall}
 use Rattle.store_undo.specs.Inner.{Finished}
-use Rattle.store.specs.Inner.{fillIn, reachedBy, Roomy, Holds}
+use Rattle.store.specs.Coded.{reachedAs}
+use Rattle.store.specs.Inner.{fillOf, fillIn, Roomy, Holds}
 use Rattle.store.specs.Words.{topAt}
 use Rattle.store.proofs.Held.{at-0, at-1, top-at}
-use Rattle.store_undo.proofs.Finishing.{finished-gave}
+use Rattle.store_undo.proofs.Finishing.{finished-held}
 use Rattle.store_undo.proofs.Done.{call-done}
 use Rattle.store.proofs.Calls.{refusal-some, call-refused}
 use Rattle.store.proofs.Growing.{kept-roomy}
-use Rattle.store.proofs.Plain.{plain-handle, plain-ran}
+use Rattle.store.proofs.Plain.{plain-coded, plain-ran}
+use Rattle.store.proofs.Codes.{coded-held}
 use Rattle.file_read.specs.declared.file.Content.{Content}
 use Rattle.file_read.specs.declared.file.Content.the-variants.{Leaf, Parts, Bad}
 use Rattle.file_load.specs.Promise.{loadRefusal, loadFamily, LoadCall}
@@ -144,14 +146,14 @@ module _ (s : Store) (nodes lookup cache file words : List ℕ) (r : Placed) whe
       load-none ex es ea =
           kept (refusal-none (s .limit) file (length words) room (none-of ex (A .outcome))) refl (call-refused s nodes lookup cache 9 _ r NoFile e refl (omega arith) es ea) (A .long) (A .rest)
 
-      pub load-leaf : (h : ℕ) → x ≡ Leaf h → r .store ≡ s → r .answer ≡ Handle h → LoadCall s nodes lookup cache file words r nodes lookup cache words₁
+      pub load-leaf : (h : ℕ) → x ≡ Leaf h → r .store ≡ s → r .answer ≡ Handle h 0 → LoadCall s nodes lookup cache file words r nodes lookup cache words₁
       load-leaf h ex es ea =
           let L = leaf-of h ex (A .outcome) in
           kept (refusal-found (s .limit) file (length words) room (at start h) (L .is) (leaf-top h (L .low))) (family-found file (at start h) (L .is))
           (call-done s nodes lookup cache (λ B. at start h) e (leaf-top h (L .low))
           (plain-ran (top (at start h)) (λ B. at start h) (fillIn s) nodes lookup cache
-          (plain-handle (top (at start h)) (λ B. at start h) (fillIn s) nodes lookup (P .roomy) (reachedBy r) h (ap fillIn es) ea (omega (arith, L .low)) (λ l B H. same-leaf B H h (L .low))))
-          (ap (λ x. x .limit) es) (finished-gave r (s .count) nodes lookup cache h ea)) (A .long) (A .rest)
+          (plain-coded (top (at start h)) (λ B. at start h) (fillIn s) nodes lookup (P .roomy) h (omega (arith, L .low)) (λ l B H. same-leaf B H h (L .low))))
+          (finished-held s h nodes lookup cache r (coded-held h (P .roomy) (P .roomy .within) (omega (arith, L .low))) es ea)) (A .long) (A .rest)
         where
           leaf-top : (h : ℕ) → h < 2 → top (at start h) ≤ s .limit
           leaf-top h l = by-eq h 0 (λ p t. rw p (omega arith)) (λ d t. let p : h ≡ 1 = omega arith in rw p (omega arith))
@@ -171,14 +173,14 @@ module _ (s : Store) (nodes lookup cache file words : List ℕ) (r : Placed) whe
         load-above h es ea =
             kept (refusal-above (s .limit) file (length words) room (at (R .book) (n + 1)) (R .is) (omega (arith, top-is))) refl (call-refused s nodes lookup cache 13 _ r AboveLimit e refl (omega arith) es ea) (A .long) (A .rest)
 
-        module _ {m : Placed} {nodes₁ lookup₁ words₂ : List ℕ} (W : PlacedOf s nodes lookup words₁ (length file) n m nodes₁ lookup₁ words₂) where
-          pub load-roomy : Roomy (fillIn (m .store)) nodes₁ lookup₁
+        module _ {held coded : ℕ} {nodes₁ lookup₁ words₂ : List ℕ} (W : PlacedOf (fillIn s) nodes lookup words₁ (length file) n (reachedAs (s .capacity) held coded) nodes₁ lookup₁ words₂) where
+          pub load-roomy : Roomy (fillOf (s .capacity) held) nodes₁ lookup₁
           load-roomy = kept-roomy (W .kept) (P .roomy)
 
-          pub load-parts : topAt words₁ (n + 1) ≤ s .limit → {nodes₂ lookup₂ cache₂ : List ℕ} → Finished m (s .count) nodes₁ lookup₁ cache r nodes₂ lookup₂ cache₂ → LoadCall s nodes lookup cache file words r nodes₂ lookup₂ cache₂ words₂
+          pub load-parts : topAt words₁ (n + 1) ≤ s .limit → {nodes₂ lookup₂ cache₂ : List ℕ} → Finished s held coded nodes₁ lookup₁ cache r nodes₂ lookup₂ cache₂ → LoadCall s nodes lookup cache file words r nodes₂ lookup₂ cache₂ words₂
           load-parts h E =
               let F = at (R .book) (n + 1) in
               let low : top F ≤ s .limit = omega (arith, top-is) in
               kept (refusal-found (s .limit) file (length words) room F (R .is) low) (family-found file F (R .is))
-              (call-done s nodes lookup cache (λ B. F) e low (plain-ran (top F) (λ B. F) (fillIn s) nodes lookup cache (W .ran (R .book) (R .table) (R .own))) (W .limit) E)
+              (call-done s nodes lookup cache (λ B. F) e low (plain-ran (top F) (λ B. F) (fillIn s) nodes lookup cache (W .ran (R .book) (R .table) (R .own))) E)
               (W .long ∙ A .long) (λ j h. W .rest j h ∙ A .rest j h)

@@ -37,14 +37,23 @@ pub fn load(
     }
     let content = read_file(file, words);
     match content {
-        Content::Leaf(handle) => store.placed(handle),
+        Content::Leaf(handle) => store.placed(handle, 0),
         Content::Parts(parts) => {
             // The last part is the family: no item of the file is above its top.
             if store.limit < top_of(words, parts, parts + 1) {
                 return store.refused(Refusal::AboveLimit);
             }
-            let placed = place_parts(store, nodes, lookup, words, file.len(), parts);
-            finish(placed, store.count, nodes, lookup, cache)
+            let mut held = store.count;
+            let coded = place_parts(
+                store.capacity,
+                &mut held,
+                nodes,
+                lookup,
+                words,
+                file.len(),
+                parts,
+            );
+            finish(store, held, coded, nodes, lookup, cache)
         }
         Content::Bad => store.refused(Refusal::NoFile),
     }

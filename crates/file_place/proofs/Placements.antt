@@ -15,15 +15,13 @@ use Rattle.family.proofs.Diagrams.{mk-node}
 use Rattle.family.proofs.Books.{add-grown, grown-self, grown-trans, grown-length, grown-at}
 use Rattle.family.proofs.Placing.{place-own}
 use Rattle.words.proofs.Cases.{by-lt, by-eq}
-use Rattle.store.specs.declared.record.Store.{Store}
-use Rattle.store.specs.declared.record.Refusal.{Refusal}
-use Rattle.store.specs.declared.record.PlaceAnswer.the-variants.{Handle, Refused}
-use Rattle.store.specs.declared.record.Placed.{Placed}
-use Rattle.store_node.specs.Inner.{NodeGot}
-use Rattle.store.specs.Inner.{fillIn, Roomy, Holds, Handed, Outcome, gave, Kept}
+use Rattle.store.specs.Coded.{fullNumber, answerOf, reachedAs}
+use Rattle.store.specs.Inner.{Fill, fillOf, Handle, Reached, Roomy, Holds, Handed, Outcome, gave, Kept}
+use Rattle.store_node.specs.Inner.{NodeIt}
 use Rattle.store.proofs.Held.{at-0, at-1, held, within}
 use Rattle.store.proofs.Growing.{kept-self, kept-trans, kept-roomy}
 use Rattle.store.proofs.Answers.{handle-is, handed-of, refused-on, not-both}
+use Rattle.store.proofs.Codes.{coded-handle, coded-held, coded-refused}
 use Rattle.store_node.proofs.Getting.{made-inhabited}
 use Rattle.file_table.specs.Inner.{Local, LocalNode, LocalNodes}
 use Rattle.file_place.specs.Inner.{handleIn, Handles, PlacedOf}
@@ -40,7 +38,7 @@ module _ (b : ℕ) (words : List ℕ) (p : ℕ) where
   handle-inner l = rw (le-ltb p 2 l)
 
 -- a node made of handles that are equal to these
-pub node-as : {s : Store} {nodes lookup nodes′ lookup′ : List ℕ} {i z o : ℕ} {r : Placed} (z′ o′ : ℕ) → z ≡ z′ → o ≡ o′ → NodeGot s nodes lookup i z o r nodes′ lookup′ → NodeGot s nodes lookup i z′ o′ r nodes′ lookup′
+pub node-as : {s : Fill} {nodes lookup nodes′ lookup′ : List ℕ} {i z o : ℕ} {r : Reached} (z′ o′ : ℕ) → z ≡ z′ → o ≡ o′ → NodeIt s nodes lookup i z o r nodes′ lookup′ → NodeIt s nodes lookup i z′ o′ r nodes′ lookup′
 node-as z′ o′ ez eo N = rw (ez, eo) at N
 
 -- a handle stored after k others
@@ -93,26 +91,24 @@ pub record Stored (limit : ℕ) (B C : List Family) (k b : ℕ) (words : List �
   pub holds : Holds limit (upto B C k) count nodes lookup
   pub means : (p : ℕ) → p < k + 2 → at (upto B C k) (handleIn b words p) ≡ at C p
 
-pub record Turns (s : Store) (nodes₀ lookup₀ words₀ : List ℕ) (b n k : ℕ) (current : Store) (nodes lookup words : List ℕ) : Type 0 where
+pub record Turns (s : Fill) (nodes₀ lookup₀ words₀ : List ℕ) (b n k count : ℕ) (nodes lookup words : List ℕ) : Type 0 where
   pub long : length words ≡ length words₀
   pub table : (j : ℕ) → j < 3 * b → getD words j 0 ≡ getD words₀ j 0
   pub rest : (j : ℕ) → 6 * b ≤ j → getD words j 0 ≡ getD words₀ j 0
   pub most : k ≤ n
-  pub kept : Kept (fillIn s) nodes₀ lookup₀ (fillIn current) nodes lookup
-  pub limit : current .limit ≡ s .limit
-  pub handles : Handles k b (current .count) words
-  pub sound : {limit : ℕ} (B C : List Family) → Tops limit C → Holds limit B (s .count) nodes₀ lookup₀ → Local C n b words₀ → Stored limit B C k b words (current .count) nodes lookup
+  pub kept : Kept s nodes₀ lookup₀ (fillOf (s .capacity) count) nodes lookup
+  pub handles : Handles k b (count) words
+  pub sound : {limit : ℕ} (B C : List Family) → Tops limit C → Holds limit B (s .count) nodes₀ lookup₀ → Local C n b words₀ → Stored limit B C k b words count nodes lookup
 
-module _ (s : Store) (nodes₀ lookup₀ words₀ : List ℕ) (b n : ℕ) where
-  pub turns-start : Roomy (fillIn s) nodes₀ lookup₀ → Turns s nodes₀ lookup₀ words₀ b n 0 s nodes₀ lookup₀ words₀
+module _ (s : Fill) (nodes₀ lookup₀ words₀ : List ℕ) (b n : ℕ) where
+  pub turns-start : Roomy s nodes₀ lookup₀ → Turns s nodes₀ lookup₀ words₀ b n 0 (s .count) nodes₀ lookup₀ words₀
   turns-start R =
       record {
         long = refl;
         table = λ j l. refl;
         rest = λ j l. refl;
         most = omega arith;
-        kept = kept-self (fillIn s) nodes₀ lookup₀ (R .within);
-        limit = refl;
+        kept = kept-self s nodes₀ lookup₀ (R .within);
         handles = record { each = λ p l. omega (arith, handle-leaf b words₀ p l) };
         sound = λ B C t H L. record { holds = rw (upto-none B C) H; means = λ p l. rw (upto-none B C, handle-leaf b words₀ p l) (leaf-at B C H L p l) };
       }
@@ -127,8 +123,8 @@ module _ (s : Store) (nodes₀ lookup₀ words₀ : List ℕ) (b n : ℕ) where
   last-tops : (C : List Family) → Local C n b words₀ → place start (at C (n + 1)) ≡ C → {limit : ℕ} → top (at C (n + 1)) ≤ limit → Tops limit C
   last-tops C L own m = own-tops (at C (n + 1)) (within L (n + 1) (omega arith) .ordered) own m
 
-  module _ (few : n ≤ b) (room : 6 * b ≤ length words₀) (N₀ : LocalNodes words₀ n) (k : ℕ) (current : Store) (nodes lookup words : List ℕ) (I : Turns s nodes₀ lookup₀ words₀ b n k current nodes lookup words) where
-    pub turns-roomy : Roomy (fillIn s) nodes₀ lookup₀ → Roomy (fillIn current) nodes lookup
+  module _ (few : n ≤ b) (room : 6 * b ≤ length words₀) (N₀ : LocalNodes words₀ n) (k count : ℕ) (nodes lookup words : List ℕ) (I : Turns s nodes₀ lookup₀ words₀ b n k count nodes lookup words) where
+    pub turns-roomy : Roomy s nodes₀ lookup₀ → Roomy (fillOf (s .capacity) count) nodes lookup
     turns-roomy R = kept-roomy (I .kept) R
 
     module _ (l : k < n) where
@@ -151,17 +147,17 @@ module _ (s : Store) (nodes₀ lookup₀ words₀ : List ℕ) (b n : ℕ) where
             one-before = omega (arith, E .one-before, one-same);
           }
 
-      module _ {r : Placed} {nodes₁ lookup₁ : List ℕ}
-          (P : NodeGot current nodes lookup (getD words (3 * k) 0) (handleIn b words (getD words (3 * k + 1) 0)) (handleIn b words (getD words (3 * k + 2) 0)) r nodes₁ lookup₁) where
-        kept-on : Kept (fillIn s) nodes₀ lookup₀ (fillIn (r .store)) nodes₁ lookup₁
-        kept-on = kept-trans (I .kept) (P .node-is .kept)
+      module _ {m coded : ℕ} {nodes₁ lookup₁ : List ℕ}
+          (P : NodeIt (fillOf (s .capacity) count) nodes lookup (getD words (3 * k) 0) (handleIn b words (getD words (3 * k + 1) 0)) (handleIn b words (getD words (3 * k + 2) 0)) (reachedAs (s .capacity) m coded) nodes₁ lookup₁) where
+        kept-on : Kept s nodes₀ lookup₀ (fillOf (s .capacity) m) nodes₁ lookup₁
+        kept-on = kept-trans (I .kept) (P .kept)
 
         -- what the turn gives, in the book so far
         module _ {limit : ℕ} (B C : List Family) (t : Tops limit C) (H : Holds limit B (s .count) nodes₀ lookup₀) (L : Local C n b words₀) where
           D : List Family
           D = upto B C k
 
-          S : Stored limit B C k b words (current .count) nodes lookup
+          S : Stored limit B C k b words count nodes lookup
           S = I .sound B C t H L
 
           zero-is : at (upto B C k) (handleIn b words (getD words (3 * k + 1) 0)) ≡ at C (getD words₀ (3 * k + 1) 0)
@@ -179,7 +175,7 @@ module _ (s : Store) (nodes₀ lookup₀ words₀ : List ℕ) (b n : ℕ) where
           item-low : getD words (3 * k) 0 ≤ limit
           item-low = omega (arith, ap top family-is, t .each (at C (k + 2)) (held L (k + 2) (omega arith)))
 
-          turn-answer : Outcome limit (add (upto B C k) (at C (k + 2))) (at C (k + 2)) (current .capacity) (r .store .count) nodes₁ lookup₁ (r .answer)
+          turn-answer : Outcome limit (add (upto B C k) (at C (k + 2))) (at C (k + 2)) (s .capacity) m nodes₁ lookup₁ (answerOf coded)
           turn-answer =
               let o = is-within .ordered in
               rw family-is
@@ -187,61 +183,63 @@ module _ (s : Store) (nodes₀ lookup₀ words₀ : List ℕ) (b n : ℕ) where
                 mk-node (getD words (3 * k) 0) (at (upto B C k) (handleIn b words (getD words (3 * k + 1) 0))) (at (upto B C k) (handleIn b words (getD words (3 * k + 2) 0))) (o .2),
                 made-inhabited (upto B C k) (getD words (3 * k) 0) (at (upto B C k) (handleIn b words (getD words (3 * k + 1) 0))) (at (upto B C k) (handleIn b words (getD words (3 * k + 2) 0))) (o .2),
               ) at
-              (P .node-is .sound (upto B C k) item-low (S .holds) (o .0) (o .1)))
+              (P .sound (upto B C k) item-low (S .holds) (o .0) (o .1)))
 
           inside-local : k + 2 < length C
           inside-local = omega (arith, L .size)
 
-        module _ (h : ℕ) (e : r .answer ≡ Handle h) {words₁ : List ℕ} (put : words₁ ≡ set words (5 * b + k) h) where
+        module _ (low : coded < fullNumber) {words₁ : List ℕ} (put : words₁ ≡ set words (5 * b + k) coded) where
+          e : answerOf coded ≡ Handle coded
+          e = coded-handle coded low
+
           size : 5 * b + k < length words
           size = omega (arith, I .long)
 
-          next : Handles (k + 1) b (r .store .count) words₁
+          next : Handles (k + 1) b m words₁
           next =
               record {
                 each = λ p m. rw put (by-eq p (k + 2)
-                    (λ q t. rw (q, handle-new b words k h size) (P .node-is .handle h e))
-                    (λ d t. rw (handle-old b words k h p (omega arith)) (omega (arith, I .handles .each p (omega arith), P .node-is .kept .grows))));
+                    (λ q t. rw (q, handle-new b words k coded size) (P .handle coded e))
+                    (λ d t. rw (handle-old b words k coded p (omega arith)) (omega (arith, I .handles .each p (omega arith), P .kept .grows))));
               }
 
-          stored : {limit : ℕ} (B C : List Family) → Tops limit C → Holds limit B (s .count) nodes₀ lookup₀ → Local C n b words₀ → Stored limit B C (k + 1) b words₁ (r .store .count) nodes₁ lookup₁
+          stored : {limit : ℕ} (B C : List Family) → Tops limit C → Holds limit B (s .count) nodes₀ lookup₀ → Local C n b words₀ → Stored limit B C (k + 1) b words₁ m nodes₁ lookup₁
           stored B C t H L =
               let G = handed-of e (turn-answer B C t H L) in
               let old = S B C t H L in
               rw put record {
                 holds = rw (upto-next B C k (inside-local B C t H L)) (G .holds);
                 means = λ p m. rw (upto-next B C k (inside-local B C t H L)) (by-eq p (k + 2)
-                    (λ q t. rw (q, handle-new b words k h size) (G .means))
-                    (λ d t. rw (handle-old b words k h p (omega arith))
+                    (λ q t. rw (q, handle-new b words k coded size) (G .means))
+                    (λ d t. rw (handle-old b words k coded p (omega arith))
                     (grown-at (add-grown (upto B C k) (at C (k + 2))) (handleIn b words p) (omega (arith, I .handles .each p (omega arith), old .holds .size)) ∙ old .means p (omega arith))));
               }
 
-          pub turns-next : Turns s nodes₀ lookup₀ words₀ b n (k + 1) (r .store) nodes₁ lookup₁ words₁
+          pub turns-next : Turns s nodes₀ lookup₀ words₀ b n (k + 1) m nodes₁ lookup₁ words₁
           turns-next =
               record {
-                long = ap length put ∙ length-set words (5 * b + k) h ∙ I .long;
-                table = λ j m. ap (λ x. getD x j 0) put ∙ getD-set-other words (5 * b + k) j h 0 (omega arith) ∙ I .table j m;
-                rest = λ j m. ap (λ x. getD x j 0) put ∙ getD-set-other words (5 * b + k) j h 0 (omega arith) ∙ I .rest j m;
+                long = ap length put ∙ length-set words (5 * b + k) coded ∙ I .long;
+                table = λ j m. ap (λ x. getD x j 0) put ∙ getD-set-other words (5 * b + k) j coded 0 (omega arith) ∙ I .table j m;
+                rest = λ j m. ap (λ x. getD x j 0) put ∙ getD-set-other words (5 * b + k) j coded 0 (omega arith) ∙ I .rest j m;
                 most = omega arith;
                 kept = kept-on;
-                limit = P .limit ∙ I .limit;
                 handles = next;
                 sound = stored;
               }
 
-        pub turns-refused : (x : Refusal) → r .answer ≡ Refused x → PlacedOf s nodes₀ lookup₀ words₀ b n r nodes₁ lookup₁ words
-        turns-refused x e =
+        pub turns-refused : fullNumber ≤ coded → PlacedOf s nodes₀ lookup₀ words₀ b n (reachedAs (s .capacity) m coded) nodes₁ lookup₁ words
+        turns-refused l =
+            let q = coded-refused coded l in
             record {
               long = I .long;
               rest = I .rest;
               kept = kept-on;
-              limit = P .limit ∙ I .limit;
               ran = λ C L own. record {
                 kept = kept-on;
-                handle = λ h d. not-both h x d e;
+                handle = λ h d. not-both h (q .0) d (q .1);
                 sound = λ B m H.
                     let t = last-tops C L own m in
-                    refused-on x e (longer C L own B t H) (rw (I .kept .same-capacity) at (turn-answer B C t H L));
+                    refused-on (q .0) (q .1) (longer C L own B t H) (turn-answer B C t H L);
               };
             }
           where
@@ -254,25 +252,25 @@ module _ (s : Store) (nodes₀ lookup₀ words₀ : List ℕ) (b n : ℕ) where
       all : k ≡ n
       all = omega (arith, I .most)
 
-      pub turns-done : (r : Placed) → r .store ≡ current → r .answer ≡ Handle (handleIn b words (n + 1)) → PlacedOf s nodes₀ lookup₀ words₀ b n r nodes lookup words
-      turns-done r es ea =
+      pub turns-done : Roomy s nodes₀ lookup₀ → (h : ℕ) → h ≡ handleIn b words (n + 1) → PlacedOf s nodes₀ lookup₀ words₀ b n (reachedAs (s .capacity) count h) nodes lookup words
+      turns-done R h eh =
+          let held = coded-held {n = count} h R (I .kept .fits) (omega (arith, last)) in
           record {
             long = I .long;
             rest = I .rest;
-            kept = rw es (I .kept);
-            limit = rw es (I .limit);
+            kept = I .kept;
             ran = λ C L own. record {
-              kept = rw es (I .kept);
-              handle = λ h e. rw es (omega (arith, handle-is (sym ea ∙ e), last));
-              sound = λ B m H. rw (ea, es) (gave {h = handleIn b words (n + 1)} (handed C L own B (last-tops C L own m) H));
+              kept = I .kept;
+              handle = λ g e. omega (arith, handle-is (sym held ∙ e), last);
+              sound = λ B m H. rw (held, eh) (gave {h = handleIn b words (n + 1)} (handed C L own B (last-tops C L own m) H));
             };
           }
         where
-          last : handleIn b words (n + 1) ≤ current .count + 1
+          last : handleIn b words (n + 1) ≤ count + 1
           last = I .handles .each (n + 1) (omega (arith, all))
 
           handed : (C : List Family) → Local C n b words₀ → place start (at C (n + 1)) ≡ C → {limit : ℕ} (B : List Family) → Tops limit C → Holds limit B (s .count) nodes₀ lookup₀
-              → Handed limit (place B (at C (n + 1))) (at C (n + 1)) (handleIn b words (n + 1)) (current .count) nodes lookup
+              → Handed limit (place B (at C (n + 1))) (at C (n + 1)) (handleIn b words (n + 1)) count nodes lookup
           handed C L own B t H =
               let S = I .sound B C t H L in
               let e : place B (at C (n + 1)) ≡ upto B C k = sym (place-own B (at C (n + 1)) (H .book)) ∙ ap (λ X. foldl add B (drop 2 X)) own ∙ sym (upto-all B C n (L .size)) ∙ ap (λ j. upto B C j) (sym all) in

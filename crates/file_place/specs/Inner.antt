@@ -7,9 +7,7 @@ use lib.Dec.{ltb}
 use lib.ListN.{length, getD}
 use Rattle.family.specs.Family.{Family, top}
 use Rattle.family.specs.Book.{start, at, place}
-use Rattle.store.specs.declared.record.Store.{Store}
-use Rattle.store.specs.declared.record.Placed.{Placed}
-use Rattle.store.specs.Inner.{fillIn, reachedBy, Roomy, Kept, RanPlain}
+use Rattle.store.specs.Inner.{Fill, Reached, Roomy, Kept, RanPlain}
 use Rattle.file_table.specs.Inner.{Local, LocalNode, LocalNodes}
 
 -- the handle in the store of a local number
@@ -22,25 +20,24 @@ pub record Handles (k b count : ℕ) (words : List ℕ) : Type 0 where
 
 -- what `place_part` is asked with: a store with room for words, the local node number k, and the handles of those
 -- before it
-pub record PartAsks (s : Store) (nodes lookup words : List ℕ) (b k : ℕ) : Type 0 where
-  pub roomy : Roomy (fillIn s) nodes lookup
+pub record PartAsks (s : Fill) (nodes lookup words : List ℕ) (b k : ℕ) : Type 0 where
+  pub roomy : Roomy s nodes lookup
   pub local : LocalNode words k
   pub handles : Handles k b (s .count) words
   pub room : 6 * b ≤ length words
   pub below : k < b
 
 -- what `place_parts` is asked with: the same for all n local nodes
-pub record PartsAsks (s : Store) (nodes lookup words : List ℕ) (b n : ℕ) : Type 0 where
-  pub roomy : Roomy (fillIn s) nodes lookup
+pub record PartsAsks (s : Fill) (nodes lookup words : List ℕ) (b n : ℕ) : Type 0 where
+  pub roomy : Roomy s nodes lookup
   pub local : LocalNodes words n
   pub room : 6 * b ≤ length words
   pub few : n ≤ b
   pub low : n < 4294967295
 
 -- all local parts placed: on any store words, and as the last family where they are its own book
-pub record PlacedOf (s : Store) (nodes lookup words : List ℕ) (b n : ℕ) (r : Placed) (nodes′ lookup′ words′ : List ℕ) : Type 0 where
+pub record PlacedOf (s : Fill) (nodes lookup words : List ℕ) (b n : ℕ) (r : Reached) (nodes′ lookup′ words′ : List ℕ) : Type 0 where
   pub long : length words′ ≡ length words
   pub rest : (j : ℕ) → 6 * b ≤ j → getD words′ j 0 ≡ getD words j 0
-  pub kept : Kept (fillIn s) nodes lookup (fillIn (r .store)) nodes′ lookup′
-  pub limit : r .store .limit ≡ s .limit
-  pub ran : (C : List Family) → Local C n b words → place start (at C (n + 1)) ≡ C → RanPlain (top (at C (n + 1))) (λ B. at C (n + 1)) (fillIn s) nodes lookup (reachedBy r) nodes′ lookup′
+  pub kept : Kept s nodes lookup (r .store) nodes′ lookup′
+  pub ran : (C : List Family) → Local C n b words → place start (at C (n + 1)) ≡ C → RanPlain (top (at C (n + 1))) (λ B. at C (n + 1)) s nodes lookup r nodes′ lookup′

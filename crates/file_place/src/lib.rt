@@ -2,12 +2,12 @@
 ghost use mathlib.Core.Path.{_≡_};
 ghost use Prim.Native.Nat.{_+_, _*_, _<_, _≤_};
 ghost use lib.ListN.{length, getD};
-ghost use Rattle.store_node.specs.Inner.{NodeGot};
+ghost use Rattle.store.specs.Coded.{reachedAs};
+ghost use Rattle.store.specs.Inner.{fillOf};
+ghost use Rattle.store_node.specs.Inner.{NodeIt};
 ghost use Rattle.file_place.specs.Inner.{handleIn, PartAsks, PartsAsks, PlacedOf};
-use store::record::PlaceAnswer;
-use store::record::Placed;
-use store::record::Store;
-use store_node::getnode::get_node;
+use store::coded::FULL;
+use store_node::getnode::node_of;
 
 // The handle in the store of a local number.
 fn handle_at(words: &[u32], bytes: usize, p: u32) -> u32
@@ -23,45 +23,44 @@ fn handle_at(words: &[u32], bytes: usize, p: u32) -> u32
 
 // Places the local part number k + 2.
 fn place_part(
-    store: Store,
+    capacity: u32,
+    count: &mut u32,
     nodes: &mut [u32],
     lookup: &mut [u32],
     words: &[u32],
     bytes: usize,
     k: u32,
-) -> Placed
-    requires { ⌜ PartAsks store (now nodes) (now lookup) (now words) bytes k ⌝ }
-    ensures { λ r. ⌜ NodeGot store (now (nodes .entry)) (now (lookup .entry)) (getD (now (words .entry)) (3 * k) 0) (handleIn bytes (now (words .entry)) (getD (now (words .entry)) (3 * k + 1) 0)) (handleIn bytes (now (words .entry)) (getD (now (words .entry)) (3 * k + 2) 0)) r (now (nodes .exit)) (now (lookup .exit)) ⌝ }
+) -> u32
+    requires { ⌜ PartAsks (fillOf capacity (now count)) (now nodes) (now lookup) (now words) bytes k ⌝ }
+    ensures { λ r. ⌜ NodeIt (fillOf capacity (now (count .entry))) (now (nodes .entry)) (now (lookup .entry)) (getD (now (words .entry)) (3 * k) 0) (handleIn bytes (now (words .entry)) (getD (now (words .entry)) (3 * k + 1) 0)) (handleIn bytes (now (words .entry)) (getD (now (words .entry)) (3 * k + 2) 0)) (reachedAs capacity (now (count .exit)) r) (now (nodes .exit)) (now (lookup .exit)) ⌝ }
 {
     let base = 3 * k as usize;
     let zero = handle_at(words, bytes, words[base + 1]);
     let one = handle_at(words, bytes, words[base + 2]);
-    get_node(store, nodes, lookup, words[base], zero, one)
+    node_of(capacity, count, nodes, lookup, words[base], zero, one)
 }
 
 // Places all parts, and gives the handle of the last.
 pub fn place_parts(
-    store: Store,
+    capacity: u32,
+    count: &mut u32,
     nodes: &mut [u32],
     lookup: &mut [u32],
     words: &mut [u32],
     bytes: usize,
     parts: u32,
-) -> Placed
-    requires { ⌜ PartsAsks store (now nodes) (now lookup) (now words) bytes parts ⌝ }
-    ensures { λ r. ⌜ PlacedOf store (now (nodes .entry)) (now (lookup .entry)) (now (words .entry)) bytes parts r (now (nodes .exit)) (now (lookup .exit)) (now (words .exit)) ⌝ }
+) -> u32
+    requires { ⌜ PartsAsks (fillOf capacity (now count)) (now nodes) (now lookup) (now words) bytes parts ⌝ }
+    ensures { λ r. ⌜ PlacedOf (fillOf capacity (now (count .entry))) (now (nodes .entry)) (now (lookup .entry)) (now (words .entry)) bytes parts (reachedAs capacity (now (count .exit)) r) (now (nodes .exit)) (now (lookup .exit)) (now (words .exit)) ⌝ }
 {
-    let mut current = store;
     let mut k: u32 = 0;
     while k < parts {
-        let placed = place_part(current, nodes, lookup, words, bytes, k);
-        let answer = placed.answer;
-        let PlaceAnswer::Handle(handle) = answer else {
-            return placed;
-        };
+        let handle = place_part(capacity, count, nodes, lookup, words, bytes, k);
+        if FULL <= handle {
+            return handle;
+        }
         words[5 * bytes + k as usize] = handle;
-        current = placed.store;
         k = k + 1;
     }
-    current.placed(handle_at(words, bytes, parts + 1))
+    handle_at(words, bytes, parts + 1)
 }

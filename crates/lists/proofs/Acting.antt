@@ -6,21 +6,17 @@ use mathlib.Core.List.{List}
 use mathlib.Core.Option.{Option, none, some}
 use native.Mathlib.Omega.{arith}
 use lib.Dec.{ltb}
-use lib.ListN.{length, List·getD-eq-default}
+use lib.ListN.{length}
 use Rattle.words.proofs.Cases.{by-lt, by-test}
 use Rattle.family.specs.Family.{Family, empty, top, Within, largestItem}
 use Rattle.family.specs.Book.{at, Held, Book}
 use Rattle.family.specs.File.{familyOf}
-use Rattle.family.proofs.Books.{held-at, held-empty}
+use Rattle.family.proofs.Books.{at-held}
 use Rattle.file_load.specs.Promise.{fileNumber, foundFamily, loadRefusal, loadFamily}
 use Rattle.op_promise.specs.Promise.{numberOf}
 use Rattle.lists.specs.Calls.{Call, Operate, Size, Has, Save, Load, Audit, Fact}
 use Rattle.lists.specs.Acts.{count, Act, Gives, Saves, Places, actOf}
 use Rattle.lists.proofs.Limits.{named-within, file-within}
-
--- every number of a book means a family that it holds
-at-held : {limit : ℕ} (B : List Family) → Book limit B → (k : ℕ) → Held B (at B k)
-at-held B book k = by-lt k (length B) (λ h e. held-at B book k h) (λ h e. rw (List·getD-eq-default B empty {n = k} h) (held-empty B book))
 
 -- a file that is not refused is the file of a family within the store's limit
 pub load-within : (limit : ℕ) (file : List ℕ) (scratch : ℕ) → loadRefusal limit file scratch ≡ 0 → Within limit (loadFamily file)

@@ -9,6 +9,7 @@ pub mod Growth
 pub mod Filing
 pub mod Reaching
 pub mod Members
+pub mod Summing
 pub mod Theorem
 pub mod Tabled
 pub mod Worked

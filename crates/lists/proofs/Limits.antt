@@ -7,13 +7,12 @@ use mathlib.Core.List.{List, [], _∷_, _++_}
 use mathlib.Core.Option.{none, some}
 use native.Mathlib.Omega.{arith}
 use lib.Dec.{eqb, ltb}
-use lib.ListN.{length, List·getD-eq-default}
 use Rattle.words.proofs.Cases.{by-eq, by-lt}
 use Rattle.family.specs.Family.{Family, empty, base, Within}
 use Rattle.family.specs.Book.{start, at, Book}
 use Rattle.family.specs.Record.{readNumber, Triple, triple, itemOf, readRecord}
 use Rattle.family.specs.File.{nodeOf, fits, readRecords, andThen, order, lastOf, readParts, alone, familyOf}
-use Rattle.family.proofs.Books.{held-at, book-start}
+use Rattle.family.proofs.Books.{at-within, book-start}
 use Rattle.family.proofs.Records.{not-some, then-inv}
 use Rattle.family.proofs.Orders.{and-then-inv, cond-inv}
 use Rattle.family.proofs.Reading.{fits-next, book-next}
@@ -23,14 +22,6 @@ use Rattle.store.specs.Tests.{itemTest}
 use Rattle.store.proofs.Testing.{item-passed, passes}
 use Rattle.op_promise.proofs.Refusing.{item-number}
 use Rattle.op_promise.specs.Promise.{operationRefusal}
-
-empty-within : (limit : ℕ) → Within limit empty
-empty-within limit = record { ordered = tt; low = omega arith }
-
--- every number of a book means a family within the limit, and so does {}, which stands past its end
-pub at-within : {limit : ℕ} (B : List Family) → Book limit B → (k : ℕ) → Within limit (at B k)
-at-within {limit} B book k =
-    by-lt k (length B) (λ h e. book .within (at B k) (held-at B book k h)) (λ h e. rw (List·getD-eq-default B empty {n = k} h) (empty-within limit))
 
 -- an operation that is not refused has an item where it takes one
 item-some : (op limit n p q : ℕ) → op < 4 → operationRefusal op limit n p q ≡ 0 → (1 ≤ q) × (q ≤ limit)

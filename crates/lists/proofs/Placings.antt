@@ -11,13 +11,13 @@ use Rattle.family.specs.Family.{Family}
 use Rattle.family.specs.Book.{number, place, Grown}
 use Rattle.family.proofs.Books.{grown-self}
 use Rattle.family.proofs.Placing.{place-grown, book-place}
-use Rattle.store.specs.declared.record.Store.{Store}
 use Rattle.store.specs.declared.record.Placed.{Placed}
-use Rattle.store.specs.Refusals.{givenBy}
-use Rattle.store.specs.Words.{bookOf, nodesWith, lookupOf}
-use Rattle.store.specs.Placing.{tooLarge, placeAnswer, placeBook}
-use Rattle.store.specs.Promise.{leaves, placing, Placed-sound, PlaceCall}
+use Rattle.store.specs.Refusals.{Given, refusedBy, givenBy}
+use Rattle.store.specs.Words.{bookOf, nodesWith}
+use Rattle.store.specs.Placing.{costOf, tooLarge, placeAnswer}
+use Rattle.store.specs.Promise.{leaves, Placed-sound, PlaceCall}
 use Rattle.store.proofs.Recovering.{book-of-words}
+use Rattle.store.proofs.Ways.{way-refused, way-full, way-placed}
 use Rattle.lists.specs.Calls.{Call}
 use Rattle.lists.specs.Acts.{placeReturns, Places, actOf, Effect, stays, grows}
 use Rattle.lists.specs.Books.{Bounds, bookAnswer, bookEffect}
@@ -27,46 +27,25 @@ use Rattle.store.proofs.Sounds.{sound-with}
 use Rattle.lists.proofs.Lending.{lent-true, joined-true}
 use Rattle.lists.proofs.Invariant.{Inv, BookStep, book}
 
--- the three ways that a placing call has
-module _ (n : ℕ) (F : Family) (s : Store) (nodes lookup : List ℕ) where
-  way-refused : (n ≡ 0 → ⊥) → placing n F s nodes lookup ≡ record { given = record { refusal = n; handle = 0 }; store = s; nodes = nodes; lookup = lookup }
-  unfolding placing placeAnswer
-  way-refused d = rw (ne-eqb n 0 d, ne-eqb n 0 d)
-
-  pub way-full : n ≡ 0 → tooLarge (s .capacity) (bookOf nodes (s .count)) F ≡ true
-      → placing n F s nodes lookup ≡ record { given = record { refusal = 5; handle = 0 }; store = s; nodes = nodes; lookup = lookup }
-  unfolding placing placeAnswer
-  way-full e t = rw (e, t)
-
-  pub way-placed : n ≡ 0 → tooLarge (s .capacity) (bookOf nodes (s .count)) F ≡ false
-      → placing n F s nodes lookup ≡ record {
-        given = record { refusal = 0; handle = number (place (bookOf nodes (s .count)) F) F };
-        store = record { capacity = s .capacity; count = length (place (bookOf nodes (s .count)) F) - 2; limit = s .limit };
-        nodes = nodesWith (s .capacity) (place (bookOf nodes (s .count)) F) nodes;
-        lookup = lookupOf (length lookup) (place (bookOf nodes (s .count)) F);
-      }
-  unfolding placing placeAnswer placeBook
-  way-placed e t = rw (e, t)
-
 -- a call that takes the family F, or is refused before that by the number n
 pub record TakesFamily (bounds : Bounds) (B : List Family) (call : Call) (n : ℕ) (F : Family) : Type 0 where
   pub act : actOf (bounds .limit) B call ≡ Places n F
 
 -- what the book answers and does
-record Book-does (bounds : Bounds) (B : List Family) (call : Call) (m h : ℕ) (effect : Effect) : Type 0 where
-  answers : bookAnswer bounds B call ≡ placeReturns (record { refusal = m; handle = h })
+record Book-does (bounds : Bounds) (B : List Family) (call : Call) (given : Given) (effect : Effect) : Type 0 where
+  answers : bookAnswer bounds B call ≡ placeReturns given
   does : bookEffect bounds B call ≡ effect
 
 module _ {bounds : Bounds} {B : List Family} {call : Call} {n : ℕ} {F : Family} (K : TakesFamily bounds B call n F) where
-  book-refused : (n ≡ 0 → ⊥) → Book-does bounds B call n 0 stays
+  book-refused : (n ≡ 0 → ⊥) → Book-does bounds B call (refusedBy n) stays
   unfolding bookAnswer bookEffect placeAnswer
   book-refused d = record { answers = rw (K .act, ne-eqb n 0 d); does = rw (K .act, ne-eqb n 0 d) }
 
-  book-full : n ≡ 0 → tooLarge (bounds .capacity) B F ≡ true → Book-does bounds B call 5 0 stays
+  book-full : n ≡ 0 → tooLarge (bounds .capacity) B F ≡ true → Book-does bounds B call (refusedBy 5) stays
   unfolding bookAnswer bookEffect placeAnswer
   book-full e t = record { answers = rw (K .act, e, t); does = rw (K .act, e, t) }
 
-  book-placed : n ≡ 0 → tooLarge (bounds .capacity) B F ≡ false → Book-does bounds B call 0 (number (place B F) F) (grows F)
+  book-placed : n ≡ 0 → tooLarge (bounds .capacity) B F ≡ false → Book-does bounds B call (record { refusal = 0; handle = number (place B F) F; added = costOf B F }) (grows F)
   unfolding bookAnswer bookEffect placeAnswer
   book-placed e t = record { answers = rw (K .act, e, t); does = rw (K .act, e, t) }
 
@@ -87,8 +66,8 @@ module _ {bounds : Bounds} {B : List Family} {call : Call} {n : ℕ} {F : Family
           slots-are = P .lengths .1 ∙ I .slots-are;
         }
 
-    left : (m : ℕ) → Book-does bounds B call m 0 stays
-        → leaves r nodes lookup ≡ record { given = record { refusal = m; handle = 0 }; store = x .store; nodes = x .nodes; lookup = x .lookup }
+    left : (m : ℕ) → Book-does bounds B call (refusedBy m) stays
+        → leaves r nodes lookup ≡ record { given = refusedBy m; store = x .store; nodes = x .nodes; lookup = x .lookup }
         → BookStep bounds slots B call (placeReturns (givenBy (r .answer))) (withPart x lent (r .store) nodes lookup part)
     left m D L =
         record {
@@ -103,7 +82,7 @@ module _ {bounds : Bounds} {B : List Family} {call : Call} {n : ℕ} {F : Family
         let L = promised .leaves-is ∙ way-placed n F (x .store) (x .nodes) (x .lookup) z (rw (I .capacity-is, I .book-is) f) in
         let w = places-within (rw (K .act) at (grounded (bounds .limit) B (book I) call)) z in
         record {
-          answer-is = ap (λ l. placeReturns (l .given)) L ∙ ap (λ X. placeReturns (record { refusal = 0; handle = number (place X F) F })) (I .book-is) ∙ sym (D .answers);
+          answer-is = ap (λ l. placeReturns (l .given)) L ∙ ap (λ X. placeReturns (record { refusal = 0; handle = number (place X F) F; added = costOf X F })) (I .book-is) ∙ sym (D .answers);
           after = rw (D .does) (next-inv (place B F) (place-grown B F)
               (ap (λ l. bookOf (l .nodes) (l .store .count)) L
               ∙ ap (λ X. bookOf (nodesWith (x .store .capacity) (place X F) (x .nodes)) (length (place X F) - 2)) (I .book-is)

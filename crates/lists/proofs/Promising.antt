@@ -12,21 +12,22 @@ use Rattle.lists.proofs.Numbers.{has-refusing, by-refusing}
 use Rattle.words.specs.Words.{zeroed}
 use Rattle.words.proofs.Cases.{by-test, clash}
 use Rattle.words.proofs.Zeroed.{zeroed-length, zeroed-drop}
-use Rattle.family.specs.Family.{Family, size, has, Within, parts}
-use Rattle.family.specs.Book.{at, number, place, distinct, absent}
+use Rattle.family.specs.Family.{Family, size, has, Within}
+use Rattle.family.specs.Book.{at, number, place}
 use Rattle.family.specs.File.{fileOf}
 use Rattle.family.proofs.Placing.{place-grown, book-place}
-use Rattle.family.proofs.Different.{place-length}
 use Rattle.store.specs.declared.record.Store.{Store}
 use Rattle.store.specs.declared.record.Refusal.the-variants.{Full}
 use Rattle.store.specs.declared.record.PlaceAnswer.the-variants.{Handle, Refused}
 use Rattle.store.specs.declared.record.Placed.{Placed}
+use Rattle.store.specs.Capacity.{counting}
 use Rattle.store.specs.Refusals.{refusalNumber}
 use Rattle.store.specs.Words.{bookOf, nodesWith, lookupOf}
 use Rattle.store.specs.Placing.{costOf, tooLarge}
 use Rattle.store.specs.Promise.{cacheRefused, PlaceCall}
 use Rattle.store.specs.Sound.{Sound}
-use Rattle.store.proofs.Calls.{sound-fits, call-refused, refusal-some}
+use Rattle.store.proofs.Calls.{sound-fits, cost-length, call-refused, refusal-some}
+use Rattle.store.proofs.Ways.{way-full, way-placed}
 use Rattle.store.proofs.Decoding.{sound-holds}
 use Rattle.store.proofs.Sounds.{zeroed-true, sound-with}
 use Rattle.store.proofs.Cached.{true-grown}
@@ -43,7 +44,6 @@ use Rattle.file_save.specs.declared.SaveAnswer.{SaveAnswer}
 use Rattle.file_save.specs.declared.SaveAnswer.the-variants.{Length, Refused as SaveRefused}
 use Rattle.file_save.specs.Promise.{saveGivenBy, saveRefusal, saveAnswer, saveOutput, SaveCall}
 use Rattle.store_audit.specs.Promise.{AuditCall}
-use Rattle.lists.proofs.Placings.{way-full, way-placed}
 use Rattle.lists.proofs.Numbers.{Refusing, nothing, refuses, size-refusing, save-refusing, size-none, size-some, size-long, save-none, save-some, save-long}
 use Rattle.lists.proofs.Laying.{looked-long, laid-long, laid-sound}
 
@@ -78,16 +78,17 @@ module _ (F : Family) {s : Store} {nodes lookup cache : List ℕ} (S : Sound s n
           capacity = refl;
           limit = refl;
           refused = λ d. refl;
+          counted = omega arith;
         };
       }
 
   -- placed: the words are those of the book with the family, and the cache stays
   module _ (w : Within (s .limit) F) (f : tooLarge (s .capacity) (bookOf nodes (s .count)) F ≡ false) where
     fits : length (place (bookOf nodes (s .count)) F) - 2 ≤ s .capacity
-    unfolding tooLarge costOf
+    unfolding tooLarge
     fits =
         let B = bookOf nodes (s .count) in
-        omega (arith, ltb-false (s .capacity - (length B - 2)) (length (distinct (absent B (parts F)))) f, place-length B F, sound-holds S .size, S .within)
+        omega (arith, ltb-false (s .capacity - (length B - 2)) (costOf B F) f, cost-length B F, sound-holds S .size, S .within)
 
     kept-placed : Places-kept 0 F s nodes lookup cache
     kept-placed =
@@ -96,7 +97,7 @@ module _ (F : Family) {s : Store} {nodes lookup cache : List ℕ} (S : Sound s n
         let K = book-place B F (sound-holds S .book) w .0 in
         let room : 3 * s .capacity ≤ length nodes = omega (arith, S .capacity-is) in
         record {
-          r = record { store = record { capacity = s .capacity; count = length C - 2; limit = s .limit }; answer = Handle (number C F) };
+          r = record { store = counting s (length C - 2); answer = Handle (number C F) (costOf B F) };
           nodes′ = nodesWith (s .capacity) C nodes;
           lookup′ = lookupOf (length lookup) C;
           cache′ = cache;
@@ -112,6 +113,7 @@ module _ (F : Family) {s : Store} {nodes lookup cache : List ℕ} (S : Sound s n
             capacity = refl;
             limit = refl;
             refused = λ d. absurd (d refl);
+            counted = omega (arith, cost-length B F, sound-holds S .size);
           };
         }
 

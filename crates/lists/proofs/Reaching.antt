@@ -11,7 +11,7 @@ use lib.Seq.{take-nil, take-all, take-append-le}
 use Rattle.words.proofs.Cases.{by-lt}
 use Rattle.family.specs.Family.{Within}
 use Rattle.family.specs.Book.{start, distinct}
-use Rattle.family.proofs.Books.{number-at, grown-self, grown-length, grown-at}
+use Rattle.family.proofs.Books.{number-at, grown-self, grown-length, grown-at, at-within}
 use Rattle.store.specs.Words.{bookOf}
 use Rattle.store.proofs.Decoding.{sound-holds}
 use Rattle.store.proofs.Held.{at-inj}
@@ -19,7 +19,6 @@ use Rattle.lists.specs.Calls.{Call, Answer}
 use Rattle.lists.specs.Books.{Bounds, answersFrom, bookFrom, answersOf, bookOfCalls, Handout, firstHandouts, handedFrom, handedOut, allParts, SavedFile, filesFrom, filesOf}
 use Rattle.lists.specs.Runs.{State, Opening, boundsOf, Step, Runs, fresh, next}
 use Rattle.lists.specs.Demand3.{meaning}
-use Rattle.lists.proofs.Limits.{at-within}
 use Rattle.lists.proofs.Invariant.{Inv, limit-low, book, size, count-fits, capacity-low, fresh-inv}
 use Rattle.lists.proofs.Steps.{step}
 use Rattle.lists.proofs.Growth.{book-append, book-snoc, answers-snoc, MadeBy, first-handed, handed-from, handed-length, book-grown}

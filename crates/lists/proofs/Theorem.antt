@@ -1,5 +1,5 @@
 -- Demand 3, for every list of calls from a fresh store: the statement is `Claim` of specs/Demand3.
--- Each part is read off what every list of calls comes to.
+-- Each part is read off what every list of calls comes to; the sum of the added numbers off the steps themselves.
 use mathlib.Core.Path.{ap}
 use Rattle.family.specs.Book.{at}
 use Rattle.lists.specs.Demand3.{Claim}
@@ -7,6 +7,7 @@ use Rattle.lists.proofs.Filing.{wider, filed-equal}
 use Rattle.lists.proofs.Invariant.{limit-low}
 use Rattle.lists.proofs.Reaching.{reached, beginnings, as-book, counts, held-is, means-within, handles-equal, keeps, lasts, files-filed}
 use Rattle.lists.proofs.Members.{by-members}
+use Rattle.lists.proofs.Summing.{sums}
 
 pub demand-3 : Claim
 demand-3 o calls answers x run =
@@ -15,6 +16,7 @@ demand-3 o calls answers x run =
       beginnings = beginnings run;
       answered = as-book R;
       counted = counts R;
+      summed = sums run;
       held = held-is R;
       meant = λ h l. ap (λ X. at X h) (held-is R);
       equal = handles-equal R;

@@ -21,7 +21,7 @@ use Rattle.lists.specs.Calls.{Call, Operate, Size, Has, Save, Load, Audi
 
 -- the answers, by what the calls return
 abbrev pub placeReturns : Given → Answer
-placeReturns g = record { refusal = g .refusal; value = Handle (g .handle) }
+placeReturns g = record { refusal = g .refusal; value = Handle (g .handle) (g .added) }
 
 abbrev pub sizeReturns : SizeGiven → Answer
 sizeReturns g = record { refusal = g .refusal; value = Tells (Number (g .size)) }

@@ -1,7 +1,7 @@
--- Calls and their answers as data: document 01, 'Calls'.
-use Prim.Native.Nat.{ℕ}
+-- Calls and their answers as data: document 01, 'Calls', and document 02, No. 7.
+use Prim.Native.Nat.{ℕ, _+_}
 use mathlib.Core.Bool.{Bool}
-use mathlib.Core.List.{List, []}
+use mathlib.Core.List.{List, [], _∷_}
 use Rattle.op_promise.specs.declared.Operation.{Operation}
 
 -- A call, with all that it takes besides the record and the store's words: "handles, items, combinations, file bytes
@@ -20,10 +20,11 @@ pub data Fact : Type 0 where
   Number : ℕ → Fact
   Says : Bool → Fact
 
--- What a call gives besides the record and the refusal's number, by its kind: a handle; a fact; the length of Save's
--- file and its bytes. "A refusal gives no handle, size or length": 0, no, and no bytes.
+-- What a call gives besides the record and the refusal's number, by its kind: a handle and "the number of nodes it
+-- added"; a fact; the length of Save's file and its bytes. "A refusal gives no handle, size or length": 0, no, and no
+-- bytes; and 0 nodes added.
 pub data Value : Type 0 where
-  Handle : ℕ → Value
+  Handle : (handle added : ℕ) → Value
   Tells : Fact → Value
   Writes : (long : ℕ) (bytes : List ℕ) → Value
 
@@ -35,6 +36,17 @@ pub record Answer : Type 0 where
 
 -- the bytes that were written
 abbrev pub written : Value → List ℕ
-written (Handle h) = []
+written (Handle h n) = []
 written (Tells fact) = []
 written (Writes long bytes) = bytes
+
+-- the nodes that were added: only a call that places adds nodes
+abbrev pub addedBy : Value → ℕ
+addedBy (Handle h n) = n
+addedBy (Tells fact) = 0
+addedBy (Writes long bytes) = 0
+
+-- their sum over the answers of a list
+abbrev pub addedSum : List Answer → ℕ
+addedSum [] = 0
+addedSum (a ∷ as) = addedBy (a .value) + addedSum as

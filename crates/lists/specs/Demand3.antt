@@ -8,7 +8,7 @@ use Rattle.family.specs.Family.{Family, Within, has, largestItem}
 use Rattle.family.specs.Combination.{Combined}
 use Rattle.family.specs.Book.{at, distinct}
 use Rattle.store.specs.Words.{bookOf}
-use Rattle.lists.specs.Calls.{Call, Answer}
+use Rattle.lists.specs.Calls.{Call, Answer, addedSum}
 use Rattle.lists.specs.Books.{answersOf, bookOfCalls, Handout, handedOut, allParts, SavedFile, filesOf}
 use Rattle.lists.specs.Runs.{State, Opening, boundsOf, Runs}
 
@@ -30,6 +30,8 @@ pub record Demand3 (o : Opening) (calls : List Call) (answers : List Answer) (x 
   -- "After the list the record's count of nodes equals the number of different parts of all families handed out so
   -- far."
   pub counted : x .store .count ≡ length (distinct (allParts (handedOut (boundsOf o) calls)))
+  -- document 02: "the added numbers since Fresh sum to the count in the record"
+  pub summed : addedSum answers ≡ x .store .count
   -- "Every handle up to count + 1 means the book's family of its number": all of them, in their order
   pub held : bookOf (x .nodes) (x .store .count) ≡ bookOfCalls (boundsOf o) calls
   pub meant : (h : ℕ) → h ≤ x .store .count + 1 → meaning x h ≡ at (bookOfCalls (boundsOf o) calls) h

@@ -29,29 +29,31 @@ worked =
     Save 4 4 15 ∷
     []
 
-abbrev pub gives : ℕ → Answer
-gives handle = record { refusal = 0; value = Handle handle }
+-- a handle, and so many nodes added for it
+abbrev pub gives : ℕ → ℕ → Answer
+gives handle added = record { refusal = 0; value = Handle handle added }
 
 abbrev pub refusedWith : ℕ → Answer
-refusedWith n = record { refusal = n; value = Handle 0 }
+refusedWith n = record { refusal = n; value = Handle 0 0 }
 
 abbrev pub givesFile : ℕ → List ℕ → Answer
 givesFile long bytes = record { refusal = 0; value = Writes long bytes }
 
--- "Change(1, 1) = 2", "Change(1, 2) = 3", .., "Change(1, 3) is refused with 5", "Change(5, 1) = 4", and the two files
+-- "Change(1, 1) = 2", "Change(1, 2) = 3", .., "Change(1, 3) is refused with 5", "Change(5, 1) = 4", and the two files;
+-- the four nodes that the store holds in the end are each added once
 abbrev pub workedAnswers : List Answer
 workedAnswers =
-    gives 2 ∷
-    gives 3 ∷
-    gives 4 ∷
-    gives 4 ∷
-    gives 3 ∷
-    gives 0 ∷
-    gives 1 ∷
-    gives 2 ∷
-    gives 5 ∷
+    gives 2 1 ∷
+    gives 3 1 ∷
+    gives 4 1 ∷
+    gives 4 0 ∷
+    gives 3 0 ∷
+    gives 0 0 ∷
+    gives 1 0 ∷
+    gives 2 0 ∷
+    gives 5 1 ∷
     refusedWith 5 ∷
-    gives 4 ∷
+    gives 4 0 ∷
     givesFile 6 (0x01 ∷ 0x01 ∷ 0x00 ∷ 0x00 ∷ 0x00 ∷ 0x00 ∷ []) ∷
     givesFile 15 (0x01 ∷ 0x02 ∷ 0x00 ∷ 0x00 ∷ 0x00 ∷ 0x00 ∷ 0x06 ∷ 0x02 ∷ 0x00 ∷ 0x00 ∷ 0x00 ∷ 0x01 ∷ 0x00 ∷ 0x00 ∷ 0x00 ∷ []) ∷
     []

@@ -1,14 +1,13 @@
 -- A terminal case of two families runs as the call that it answers, and so does a call with its operands in order.
 -- A terminal case gives a handle that is in the book already; an order that names the same family runs the same.
 use Prim.Native.Nat.{ℕ, _+_, _≤_}
-use mathlib.Core.Path.{_≡_, refl, sym, ap, _∙_}
+use mathlib.Core.Path.{_≡_, sym, ap, _∙_}
 use mathlib.Core.List.{List}
 use mathlib.Core.Logic.{_⊎_, ⊎-elim}
 use native.Mathlib.Omega.{arith}
 use Rattle.family.specs.Book.{at}
-use Rattle.store.specs.declared.record.PlaceAnswer.the-variants.{Handle}
-use Rattle.store.specs.Coded.{reachedAs}
-use Rattle.store.specs.Inner.{Fill, Reached, Ran}
+use Rattle.store.specs.Coded.{answerOf, reachedAs}
+use Rattle.store.specs.Inner.{Handle, Fill, Reached, Ran}
 use Rattle.store.proofs.Codes.{coded-held}
 use Rattle.store.proofs.Held.{at-0, within}
 use Rattle.op_cache.specs.declared.Call.{Call}
@@ -16,7 +15,7 @@ use Rattle.op_cache.specs.declared.Recalled.{Recalled}
 use Rattle.op_cache.specs.declared.Recalled.the-variants.{Hit, Miss}
 use Rattle.op_terminal.specs.Inner.{OrderedAs, Shortcut, Proper, ShortcutOf, known, unknown}
 use Rattle.op_families.specs.Inner.{ApplyAsks, FamilyStepAsks}
-use Rattle.store.proofs.Plain.{plain-handle, plain-ran}
+use Rattle.store.proofs.Plain.{plain-coded, plain-ran}
 use Rattle.op_step.proofs.Steps.{of}
 use Rattle.op_step.proofs.Outcomes.{ran-same}
 
@@ -32,18 +31,18 @@ shortcut-proper e S = out (rw e at S)
     out : {call : Call} → ShortcutOf call Miss → Proper call
     out (unknown K) = K
 
--- a terminal case, as an answer and as a number
+-- a terminal case
 module _ {call : Call} {bound : ℕ} {s : Fill} {nodes lookup : List ℕ} (A : ApplyAsks call bound s nodes lookup) (cache : List ℕ) {h : ℕ} {x : Recalled} (e : x ≡ Hit h) (S : ShortcutOf call x) where
   terminal-held : h ≤ s .count + 1
   terminal-held = ⊎-elim (λ d. omega arith) (λ d. ⊎-elim (λ c. omega (arith, A .taken .first)) (λ c. omega (arith, A .taken .second)) d) (shortcut-known e S .one-of)
 
-  pub ran-terminal : (r : Reached) → r .store ≡ s → r .answer ≡ Handle h → Ran 0 (of call) s nodes lookup cache r nodes lookup cache
-  ran-terminal r es ea =
-      plain-ran 0 (of call) s nodes lookup cache (plain-handle 0 (of call) s nodes lookup (A .taken .roomy) r h es ea terminal-held
-      (λ l B H. shortcut-known e S .means B (at-0 H) (within H (call .p) (omega (arith, A .taken .first)) .ordered) (within H (call .q) (omega (arith, A .taken .second)) .ordered)))
+  pub terminal-code : answerOf h ≡ Handle h
+  terminal-code = coded-held h (A .taken .roomy) (A .taken .roomy .within) terminal-held
 
-  pub coded-terminal : Ran 0 (of call) s nodes lookup cache (reachedAs (s .capacity) (s .count) h) nodes lookup cache
-  coded-terminal = ran-terminal (reachedAs (s .capacity) (s .count) h) refl (coded-held h (A .taken .roomy) (A .taken .roomy .within) terminal-held)
+  pub ran-terminal : Ran 0 (of call) s nodes lookup cache (reachedAs (s .capacity) (s .count) h) nodes lookup cache
+  ran-terminal =
+      plain-ran 0 (of call) s nodes lookup cache (plain-coded 0 (of call) s nodes lookup (A .taken .roomy) h terminal-held
+      (λ l B H. shortcut-known e S .means B (at-0 H) (within H (call .p) (omega (arith, A .taken .first)) .ordered) (within H (call .q) (omega (arith, A .taken .second)) .ordered)))
 
 -- a call, and the same with its operands in order
 module _ {asked call : Call} (O : OrderedAs asked call) {bound : ℕ} {s : Fill} {nodes lookup : List ℕ} (A : ApplyAsks asked bound s nodes lookup) where

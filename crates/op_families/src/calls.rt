@@ -10,7 +10,7 @@ use store::record::Placed;
 use store::record::Store;
 use store::tests::Test;
 use store::tests::tested;
-use store_undo::finish_coded;
+use store_undo::finish;
 
 // An operation on two families.
 fn of_families(
@@ -31,7 +31,7 @@ fn of_families(
     }
     let asked = Call { op: op, p: p, q: q };
     if let Recalled::Hit(handle) = shortcut(asked) {
-        return store.placed(handle);
+        return store.placed(handle, 0);
     }
     let call = ordered(asked);
     let mut held = store.count;
@@ -47,7 +47,7 @@ fn of_families(
         lookup,
         cache,
     );
-    finish_coded(store, held, coded, nodes, lookup, cache)
+    finish(store, held, coded, nodes, lookup, cache)
 }
 
 // The combinations in p or in q.

@@ -10,7 +10,7 @@ use store::tests::Test;
 use store::tests::item_test;
 use store::tests::tested;
 use store_sides::top_of;
-use store_undo::finish_coded;
+use store_undo::finish;
 
 // An operation on a family and an item.
 fn of_item(
@@ -38,7 +38,7 @@ fn of_item(
     let mut held = count;
     if level <= item {
         let coded = leaf(op, p, item, level, store.capacity, &mut held, nodes, lookup);
-        return finish_coded(store, held, coded, nodes, lookup, cache);
+        return finish(store, held, coded, nodes, lookup, cache);
     }
     let coded = expand(
         op,
@@ -51,7 +51,7 @@ fn of_item(
         lookup,
         cache,
     );
-    finish_coded(store, held, coded, nodes, lookup, cache)
+    finish(store, held, coded, nodes, lookup, cache)
 }
 
 // The members of p with the item, the item taken out.

@@ -12,12 +12,10 @@ use Rattle.family.specs.Book.{at, place, made, Grown}
 use Rattle.family.proofs.Books.{grown-at, grown-length}
 use Rattle.family.proofs.Placing.{place-grown, place-mk, made-grown, room-first, room-second}
 use Rattle.store.specs.declared.record.Refusal.{Refusal}
-use Rattle.store.specs.declared.record.PlaceAnswer.{PlaceAnswer}
-use Rattle.store.specs.declared.record.PlaceAnswer.the-variants.{Handle, Refused}
 use Rattle.store.specs.Operations.{named}
 use Rattle.store.specs.Cache.{Truth, True}
 use Rattle.store_node.specs.Inner.{NodeAsks, NodeIt}
-use Rattle.store.specs.Inner.{Fill, Reached, Holds, Handed, Outcome, Kept, Ran, Roomy}
+use Rattle.store.specs.Inner.{Reply, Handle, Refused, Fill, Reached, Holds, Handed, Outcome, Kept, Ran, Roomy}
 use Rattle.store.proofs.Held.{inside}
 use Rattle.store.proofs.Growing.{kept-trans, kept-roomy}
 use Rattle.store.proofs.Answers.{not-both, handed-of, refused-on, by-answer}
@@ -137,7 +135,7 @@ module _ (call below above : Call) (level : ℕ) {least : ℕ} (s : Fill) (nodes
             cached = λ B l H t h e. true-remembered (true-grown (whole-grown l H t) (second-cache l H t o eo)) (truth-of call l (K .taken) H (handed-of e (third l H t))) (M .gave h e);
           }
         where
-          lasts : (a : PlaceAnswer) → RememberedAnswer cache₂ call a cache₃ → length cache₃ ≡ length cache₂
+          lasts : (a : Reply) → RememberedAnswer cache₂ call a cache₃ → length cache₃ ≡ length cache₂
           lasts (Handle h) M = M .gave h refl .long
           lasts (Refused x) M = ap length (M .refused x refl)
 

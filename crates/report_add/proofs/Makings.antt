@@ -19,7 +19,7 @@ use Rattle.store.specs.declared.record.Store.{Store}
 use Rattle.store.specs.declared.record.Refusal.{Refusal}
 use Rattle.store.specs.declared.record.PlaceAnswer.the-variants.{Handle, Refused}
 use Rattle.store.specs.declared.record.Placed.{Placed}
-use Rattle.store.specs.Refusals.{givenBy}
+use Rattle.store.specs.Refusals.{refusedBy, givenBy}
 use Rattle.store.specs.Words.{bookOf}
 use Rattle.store.specs.Operations.{rule}
 use Rattle.store.specs.Sound.{Sound}
@@ -32,10 +32,10 @@ use Rattle.report_add.specs.Inner.{InRange, changedBy, ChangeIt, MakeIt}
 use Rattle.report_add.proofs.Placings.{handle-inside, change-after, combine-after}
 
 -- what an answer says of the calls
-full-answer : (a : Added) → a .full ≡ true → lastAnswer a ≡ record { refusal = 5; handle = 0 }
+full-answer : (a : Added) → a .full ≡ true → lastAnswer a ≡ refusedBy 5
 full-answer a e = rw e
 
-going-answer : (a : Added) → a .full ≡ false → lastAnswer a ≡ record { refusal = 0; handle = number (a .book) (a .family) }
+going-answer : (a : Added) → a .full ≡ false → lastAnswer a ≡ record { refusal = 0; handle = number (a .book) (a .family); added = a .cost }
 going-answer a e = rw e
 
 pub record Gives (n : ℕ) (B : List Family) (a : Added) (h : ℕ) : Type 0 where
@@ -44,7 +44,7 @@ pub record Gives (n : ℕ) (B : List Family) (a : Added) (h : ℕ) : Type 0 wher
   pub means : at B h ≡ a .family
 
 module _ {capacity : ℕ} {m : Placed} {nodes lookup cache : List ℕ} {a : Added} (A : After capacity m nodes lookup cache a) where
-  pub gives : (h : ℕ) → m .answer ≡ Handle h → Gives (m .store .count) (bookOf nodes (m .store .count)) a h
+  pub gives : (h : ℕ) {n : ℕ} → m .answer ≡ Handle h n → Gives (m .store .count) (bookOf nodes (m .store .count)) a h
   gives h e =
       by-test (a .full)
       (λ t. absurd (let z : _≡_ {A = ℕ} 0 5 = ap (λ x. givenBy x .refusal) (sym e) ∙ ap (λ g. g .refusal) (A .answer-is ∙ full-answer a t) in omega arith))
@@ -76,7 +76,7 @@ module _ (m : Placed) (nodes lookup cache : List ℕ) (c : List ℕ) (v : ℕ) w
   turn-refused x e =
       record { after = λ capacity a A. by-test (holds v c) (λ t. rw (t, next-full capacity (change v) a (refused-full A x e)) A) (λ t. rw t A) }
 
-  pub turn-changed : {t : Bool} {h : ℕ} {r : Placed} {nodes′ lookup′ cache′ : List ℕ} → t ≡ holds v c → not t ≡ false → InRange v → m .answer ≡ Handle h
+  pub turn-changed : {t : Bool} {h n : ℕ} {r : Placed} {nodes′ lookup′ cache′ : List ℕ} → t ≡ holds v c → not t ≡ false → InRange v → m .answer ≡ Handle h n
       → OperationCall 3 h v (m .store) nodes lookup cache r nodes′ lookup′ cache′ → ChangeIt m nodes lookup cache c v r nodes′ lookup′ cache′
   turn-changed {h = h} {r = r} {nodes′} {lookup′} {cache′} e d i eh P = record { after = go }
     where
@@ -95,7 +95,7 @@ pub record Making (m₀ : Placed) (nodes₀ lookup₀ cache₀ w nodes lookup ca
   pub long-cache : length cache ≡ length cache₀
   pub after : Sound (m₀ .store) nodes₀ lookup₀ cache₀ → m₀ .store .limit ≡ largestItem → After (m₀ .store .capacity) m nodes lookup cache (lineMade (m₀ .store .capacity) (bookOf nodes₀ (m₀ .store .count)) (itemsTo (item - 1) w))
 
-pub making-start : (m : Placed) (nodes lookup cache w : List ℕ) (h item : ℕ) → m .answer ≡ Handle h → h ≡ 1 → item ≡ 1 → Making m nodes lookup cache w nodes lookup cache m item
+pub making-start : (m : Placed) (nodes lookup cache w : List ℕ) (h item : ℕ) → m .answer ≡ Handle h 0 → h ≡ 1 → item ≡ 1 → Making m nodes lookup cache w nodes lookup cache m item
 making-start m nodes lookup cache w h item e one ei =
     let z : item - 1 ≡ 0 = omega arith in
     record {
@@ -109,7 +109,7 @@ making-start m nodes lookup cache w h item e one ei =
         capacity-is = refl;
         limit-is = i;
         book-is = refl;
-        answer-is = ap givenBy e ∙ ap (λ k. record { refusal = 0; handle = k }) (one ∙ sym (number-base (bookOf nodes (m .store .count)) B));
+        answer-is = ap givenBy e ∙ ap (λ k. record { refusal = 0; handle = k; added = 0 }) (one ∙ sym (number-base (bookOf nodes (m .store .count)) B));
         held = λ f. held-base (bookOf nodes (m .store .count)) B;
       };
     }
@@ -156,8 +156,8 @@ made-grown capacity B [] = grown-self B
 made-grown capacity B (x ∷ c) = next-grown capacity (change x) (lineMade capacity B c) (made-grown capacity B c)
 
 -- one Union of the family of a handle with the family placed last
-united : {capacity : ℕ} {m : Placed} {nodes lookup cache : List ℕ} {a : Added} → After capacity m nodes lookup cache a → (p h : ℕ) (F : Family) → p ≤ m .store .count + 1 → at (bookOf nodes (m .store .count)) p ≡ F
-    → m .answer ≡ Handle h → {r : Placed} {nodes′ lookup′ cache′ : List ℕ} → OperationCall 4 p h (m .store) nodes lookup cache r nodes′ lookup′ cache′
+united : {capacity : ℕ} {m : Placed} {nodes lookup cache : List ℕ} {a : Added} → After capacity m nodes lookup cache a → (p h : ℕ) {n : ℕ} (F : Family) → p ≤ m .store .count + 1 → at (bookOf nodes (m .store .count)) p ≡ F
+    → m .answer ≡ Handle h n → {r : Placed} {nodes′ lookup′ cache′ : List ℕ} → OperationCall 4 p h (m .store) nodes lookup cache r nodes′ lookup′ cache′
     → After capacity r nodes′ lookup′ cache′ (nextCall capacity (union F) a)
 unfolding rule
 united {capacity} {a = a} A p h F l e eh P =
@@ -171,7 +171,7 @@ module _ {s : Store} {nodes lookup cache c : List ℕ} {m : Placed} {nodes₁ lo
   add-refused x e =
       record { on-sound = λ S i l. let A = M .after S i in rw (next-full (s .capacity) (union (at (bookOf nodes (s .count)) p)) (lineMade (s .capacity) (bookOf nodes (s .count)) c) (refused-full A x e)) A }
 
-  pub add-united : {h : ℕ} {r : Placed} {nodes′ lookup′ cache′ : List ℕ} → m .answer ≡ Handle h → OperationCall 4 p h (m .store) nodes₁ lookup₁ cache₁ r nodes′ lookup′ cache′
+  pub add-united : {h n : ℕ} {r : Placed} {nodes′ lookup′ cache′ : List ℕ} → m .answer ≡ Handle h n → OperationCall 4 p h (m .store) nodes₁ lookup₁ cache₁ r nodes′ lookup′ cache′
       → AddCall s nodes lookup cache p c r nodes′ lookup′ cache′
   add-united {h} eh P =
       record {

@@ -10,47 +10,33 @@ use borrow.Author.Tests.{lt-ltb, le-ltb, le-leb}
 use Rattle.words.proofs.Cases.{by-test, clash}
 use Rattle.family.specs.Family.{Family, Within, largestItem}
 use Rattle.family.specs.Operation.{change, combine}
-use Rattle.family.specs.Book.{at, number, place, Book}
+use Rattle.family.specs.Book.{at, place, Book}
 use Rattle.family.proofs.Books.{held-at}
 use Rattle.family.proofs.Placing.{book-place}
 use Rattle.family.proofs.Restrict.{within-change}
 use Rattle.family.proofs.Combine.{within-combine}
 use Rattle.store.specs.declared.record.Store.{Store}
 use Rattle.store.specs.declared.record.Placed.{Placed}
-use Rattle.store.specs.Words.{bookOf, nodesWith, lookupOf}
+use Rattle.store.specs.Words.{bookOf}
 use Rattle.store.specs.Operations.{restrict, rule, named}
 use Rattle.store.specs.Sound.{Sound}
-use Rattle.store.specs.Placing.{tooLarge, placeAnswer, placeBook}
-use Rattle.store.specs.Promise.{leaves, placing, PlaceCall}
+use Rattle.store.specs.Placing.{costOf, tooLarge}
+use Rattle.store.specs.Promise.{PlaceCall}
 use Rattle.store.proofs.Decoding.{sound-holds}
 use Rattle.store.proofs.Recovering.{book-of-words}
+use Rattle.store.proofs.Ways.{way-full, way-placed}
 use Rattle.store.specs.Tests.{isItem, testsOf}
 use Rattle.op_promise.specs.Promise.{operationRefusal, OperationCall}
 use Rattle.report_add.specs.Promise.{called, After}
 
 -- the two ways that a call has which nothing refuses before it places
 module _ (F : Family) (s : Store) (nodes lookup : List ℕ) where
-  way-full : tooLarge (s .capacity) (bookOf nodes (s .count)) F ≡ true
-      → placing 0 F s nodes lookup ≡ record { given = record { refusal = 5; handle = 0 }; store = s; nodes = nodes; lookup = lookup }
-  unfolding placing placeAnswer
-  way-full t = rw t
-
-  way-placed : tooLarge (s .capacity) (bookOf nodes (s .count)) F ≡ false
-      → placing 0 F s nodes lookup ≡ record {
-        given = record { refusal = 0; handle = number (place (bookOf nodes (s .count)) F) F };
-        store = record { capacity = s .capacity; count = length (place (bookOf nodes (s .count)) F) - 2; limit = s .limit };
-        nodes = nodesWith (s .capacity) (place (bookOf nodes (s .count)) F) nodes;
-        lookup = lookupOf (length lookup) (place (bookOf nodes (s .count)) F);
-      }
-  unfolding placing placeAnswer placeBook
-  way-placed t = rw t
-
-  placed-full : tooLarge (s .capacity) (bookOf nodes (s .count)) F ≡ true → called (s .capacity) (bookOf nodes (s .count)) F ≡ record { full = true; book = bookOf nodes (s .count); family = F }
+  placed-full : tooLarge (s .capacity) (bookOf nodes (s .count)) F ≡ true → called (s .capacity) (bookOf nodes (s .count)) F ≡ record { full = true; book = bookOf nodes (s .count); family = F; cost = 0 }
   unfolding called
   placed-full t = rw t
 
   placed-new : tooLarge (s .capacity) (bookOf nodes (s .count)) F ≡ false
-      → called (s .capacity) (bookOf nodes (s .count)) F ≡ record { full = false; book = place (bookOf nodes (s .count)) F; family = F }
+      → called (s .capacity) (bookOf nodes (s .count)) F ≡ record { full = false; book = place (bookOf nodes (s .count)) F; family = F; cost = costOf (bookOf nodes (s .count)) F }
   unfolding called
   placed-new t = rw t
 
@@ -74,9 +60,9 @@ module _ {s : Store} {nodes lookup cache : List ℕ} (S : Sound s nodes lookup c
   handle-within p l = book .within (at (bookOf nodes (s .count)) p) (held-at (bookOf nodes (s .count)) book p (handle-inside p l))
 
   module _ {F : Family} {r : Placed} {nodes′ lookup′ cache′ : List ℕ} (i : s .limit ≡ largestItem) (w : Within (s .limit) F) (P : PlaceCall 0 F s nodes lookup cache r nodes′ lookup′ cache′) where
-    full-after : tooLarge (s .capacity) (bookOf nodes (s .count)) F ≡ true → After (s .capacity) r nodes′ lookup′ cache′ (record { full = true; book = bookOf nodes (s .count); family = F })
+    full-after : tooLarge (s .capacity) (bookOf nodes (s .count)) F ≡ true → After (s .capacity) r nodes′ lookup′ cache′ (record { full = true; book = bookOf nodes (s .count); family = F; cost = 0 })
     full-after t =
-        let L = P .on-sound S .leaves-is ∙ way-full F s nodes lookup t in
+        let L = P .on-sound S .leaves-is ∙ way-full 0 F s nodes lookup refl t in
         record {
           sound = P .on-sound S .sound;
           capacity-is = P .capacity;
@@ -86,9 +72,9 @@ module _ {s : Store} {nodes lookup cache : List ℕ} (S : Sound s nodes lookup c
           held = λ e. clash refl e;
         }
 
-    new-after : tooLarge (s .capacity) (bookOf nodes (s .count)) F ≡ false → After (s .capacity) r nodes′ lookup′ cache′ (record { full = false; book = place (bookOf nodes (s .count)) F; family = F })
+    new-after : tooLarge (s .capacity) (bookOf nodes (s .count)) F ≡ false → After (s .capacity) r nodes′ lookup′ cache′ (record { full = false; book = place (bookOf nodes (s .count)) F; family = F; cost = costOf (bookOf nodes (s .count)) F })
     new-after t =
-        let L = P .on-sound S .leaves-is ∙ way-placed F s nodes lookup t in
+        let L = P .on-sound S .leaves-is ∙ way-placed 0 F s nodes lookup refl t in
         let k = book-place (bookOf nodes (s .count)) F book w in
         record {
           sound = P .on-sound S .sound;

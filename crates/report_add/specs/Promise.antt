@@ -8,20 +8,25 @@ use Rattle.family.specs.Operation.{change, union}
 use Rattle.family.specs.Book.{at, number, place, Held}
 use Rattle.store.specs.declared.record.Store.{Store}
 use Rattle.store.specs.declared.record.Placed.{Placed}
-use Rattle.store.specs.Refusals.{Given, givenBy}
+use Rattle.store.specs.Refusals.{Given, refusedBy, givenBy}
 use Rattle.store.specs.Words.{bookOf}
 use Rattle.store.specs.Sound.{Sound}
-use Rattle.store.specs.Placing.{tooLarge}
+use Rattle.store.specs.Placing.{costOf, tooLarge}
 
--- What calls that place leave: whether the last was refused as full, the book, and the family placed last.
+-- What calls that place leave: whether the last was refused as full, the book, the family placed last, and the nodes
+-- that were added for it.
 pub record Added : Type 0 where
   pub full : Bool
   pub book : List Family
   pub family : Family
+  pub cost : ℕ
 
 -- one call that places F
 unfoldable pub called : ℕ → List Family → Family → Added
-called capacity B F = cond (tooLarge capacity B F) (record { full = true; book = B; family = F }) (record { full = false; book = place B F; family = F })
+called capacity B F =
+    cond (tooLarge capacity B F)
+    (record { full = true; book = B; family = F; cost = 0 })
+    (record { full = false; book = place B F; family = F; cost = costOf B F })
 
 -- the next call, unless one was refused
 abbrev pub nextCall : ℕ → (Family → Family) → Added → Added
@@ -30,16 +35,16 @@ nextCall capacity f a = cond (a .full) a (called capacity (a .book) (f (a .famil
 -- "Each line is made by Change from handle 1 in rising items": a combination is a falling list, so the items behind x
 -- are smaller and come first
 abbrev pub lineMade : ℕ → List Family → List ℕ → Added
-lineMade capacity B [] = record { full = false; book = B; family = base }
+lineMade capacity B [] = record { full = false; book = B; family = base; cost = 0 }
 lineMade capacity B (x ∷ c) = nextCall capacity (change x) (lineMade capacity B c)
 
 -- "then one Union into its family"
 abbrev pub added : ℕ → List Family → Family → List ℕ → Added
 added capacity B P c = nextCall capacity (union P) (lineMade capacity B c)
 
--- what calls answer: 5 where the store was full, else the family's handle
+-- what the last call answers: 5 where the store was full, else the family's handle and the nodes added
 abbrev pub lastAnswer : Added → Given
-lastAnswer a = cond (a .full) (record { refusal = 5; handle = 0 }) (record { refusal = 0; handle = number (a .book) (a .family) })
+lastAnswer a = cond (a .full) (refusedBy 5) (record { refusal = 0; handle = number (a .book) (a .family); added = a .cost })
 
 -- A store after calls that place, with their last answer: it is sound and has the limit of all items, its words are
 -- those of the book (which a sound store's book decides), and an answer that is no refusal is the family's handle.

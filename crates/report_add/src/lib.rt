@@ -26,7 +26,7 @@ fn change_by(
         return placed;
     }
     let answer = placed.answer;
-    let PlaceAnswer::Handle(p) = answer else {
+    let PlaceAnswer::Handle { handle: p, added: _ } = answer else {
         return placed;
     };
     change(placed.store, nodes, lookup, cache, p, item)
@@ -42,7 +42,7 @@ fn make_combination(
 ) -> Placed
     ensures { λ r. ⌜ MakeIt store (now (nodes .entry)) (now (lookup .entry)) (now (cache .entry)) (itemsOf (items .words)) r (now (nodes .exit)) (now (lookup .exit)) (now (cache .exit)) ⌝ }
 {
-    let mut placed = store.placed(base());
+    let mut placed = store.placed(base(), 0);
     let mut item: u32 = 1;
     while item <= 512 {
         placed = change_by(placed, nodes, lookup, cache, items, item);
@@ -64,7 +64,7 @@ pub fn add(
 {
     let made = make_combination(store, nodes, lookup, cache, items);
     let answer = made.answer;
-    let PlaceAnswer::Handle(p) = answer else {
+    let PlaceAnswer::Handle { handle: p, added: _ } = answer else {
         return made;
     };
     union(made.store, nodes, lookup, cache, family, p)

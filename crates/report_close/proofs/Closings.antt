@@ -137,7 +137,7 @@ module _ {s : Store} {nodes lookup cache : List ℕ} (S : Sound s nodes lookup c
   end-first : (x : Refusal) → m .answer ≡ NoHandle x → closing (s .capacity) (record { book = bookOf nodes (s .count); passed = P; returned = R }) ≡ reportFull
   end-first x e = closing-first (s .capacity) (bookOf nodes (s .count)) P R (refused-full first-after x e)
 
-  module _ {h : ℕ} (eh : m .answer ≡ Handle h) {r : Placed} {nodes₂ lookup₂ cache₂ : List ℕ} (O₂ : OperationCall 6 q p (m .store) nodes₁ lookup₁ cache₁ r nodes₂ lookup₂ cache₂) where
+  module _ {h a : ℕ} (eh : m .answer ≡ Handle h a) {r : Placed} {nodes₂ lookup₂ cache₂ : List ℕ} (O₂ : OperationCall 6 q p (m .store) nodes₁ lookup₁ cache₁ r nodes₂ lookup₂ cache₂) where
     second-after : After (s .capacity) r nodes₂ lookup₂ cache₂ (called (s .capacity) (called (s .capacity) (bookOf nodes (s .count)) (intsec P R) .book) (diff R P))
     second-after = diff-after first-after (first-stays p P G) (first-stays q R H) O₂
 
@@ -149,7 +149,7 @@ module _ {s : Store} {nodes lookup cache : List ℕ} (S : Sound s nodes lookup c
     end-second : (x : Refusal) → r .answer ≡ NoHandle x → closing (s .capacity) (record { book = bookOf nodes (s .count); passed = P; returned = R }) ≡ reportFull
     end-second x e = closing-second (s .capacity) (bookOf nodes (s .count)) P R (gives first-after h eh .going) (refused-full second-after x e)
 
-    end-sums : {k : ℕ} → r .answer ≡ Handle k → {words n : ℕ} {out′ : List ℕ} → SizesIt (r .store) nodes₂ lookup₂ (record { passed = p; returned = q; both = h; only = k }) words n out′ → s .capacity ≤ words
+    end-sums : {k b : ℕ} → r .answer ≡ Handle k b → {words n : ℕ} {out′ : List ℕ} → SizesIt (r .store) nodes₂ lookup₂ (record { passed = p; returned = q; both = h; only = k }) words n out′ → s .capacity ≤ words
         → take n out′ ≡ closing (s .capacity) (record { book = bookOf nodes (s .count); passed = P; returned = R })
     end-sums {k} ek Z w =
         let g = gives first-after h eh in
@@ -166,12 +166,12 @@ module _ {s : Store} {nodes lookup cache : List ℕ} (p q : ℕ) {m : Placed} {n
   sums-first x e W =
       record { inside = W .inside; written = λ S i lp lq w. W .is ∙ sym (end-first S i (record { held = lp; means = refl }) (record { held = lq; means = refl }) O x e) }
 
-  module _ {h : ℕ} (eh : m .answer ≡ Handle h) {r : Placed} {nodes₂ lookup₂ cache₂ : List ℕ} (O₂ : OperationCall 6 q p (m .store) nodes₁ lookup₁ cache₁ r nodes₂ lookup₂ cache₂) where
+  module _ {h a : ℕ} (eh : m .answer ≡ Handle h a) {r : Placed} {nodes₂ lookup₂ cache₂ : List ℕ} (O₂ : OperationCall 6 q p (m .store) nodes₁ lookup₁ cache₁ r nodes₂ lookup₂ cache₂) where
     pub sums-second : {out : List ℕ} (x : Refusal) → r .answer ≡ NoHandle x → Wrote out 0 reportFull n out′ → SumsIt s nodes lookup cache p q words n out′
     sums-second x e W =
         record { inside = W .inside; written = λ S i lp lq w. W .is ∙ sym (end-second S i (record { held = lp; means = refl }) (record { held = lq; means = refl }) O eh O₂ x e) }
 
-    pub sums-written : {k : ℕ} → r .answer ≡ Handle k → SizesIt (r .store) nodes₂ lookup₂ (record { passed = p; returned = q; both = h; only = k }) words n out′ → SumsIt s nodes lookup cache p q words n out′
+    pub sums-written : {k b : ℕ} → r .answer ≡ Handle k b → SizesIt (r .store) nodes₂ lookup₂ (record { passed = p; returned = q; both = h; only = k }) words n out′ → SumsIt s nodes lookup cache p q words n out′
     sums-written ek Z =
         record { inside = Z .inside; written = λ S i lp lq w. end-sums S i (record { held = lp; means = refl }) (record { held = lq; means = refl }) O eh O₂ ek Z w }
 

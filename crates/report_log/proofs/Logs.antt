@@ -117,7 +117,7 @@ module _ {capacity : ℕ} {t : Tally} {nodes lookup cache : List ℕ} {g : Log} 
     full-keeps T = line-keeps passed-stays returned-stays (K .lines-is) T
 
     -- one line more of a side: its handle is the one given, the other stays
-    more-keeps : (d : Side) {h n : ℕ} {r : Tally} → m .answer ≡ Handle h → n ≡ capped (suc (t .lines)) → TallyIs (m .store) (passedWith d t h) (returnedWith d t h) n Going r
+    more-keeps : (d : Side) {h b n : ℕ} {r : Tally} → m .answer ≡ Handle h b → n ≡ capped (suc (t .lines)) → TallyIs (m .store) (passedWith d t h) (returnedWith d t h) n Going r
         → Keeps capacity r nodes′ lookup′ cache′ (record { lot = putSide d (g .lot) (a .book) (a .family); lines = suc (g .lines); line = begin; ending = Going })
     more-keeps d {h} {n} {r} e en T = go d T
       where
@@ -155,7 +155,7 @@ module _ {t : Tally} (d : Side) {m : Placed} {r : Tally} where
         };
       }
 
-  pub end-more : {h n : ℕ} → m .answer ≡ Handle h → n ≡ capped (suc (t .lines)) → TallyIs (m .store) (passedWith d t h) (returnedWith d t h) n Going r → LineEnd t d m r
+  pub end-more : {h b n : ℕ} → m .answer ≡ Handle h b → n ≡ capped (suc (t .lines)) → TallyIs (m .store) (passedWith d t h) (returnedWith d t h) n Going r → LineEnd t d m r
   end-more {h} e en T =
       record {
         is = λ nodes lookup cache c nodes′ lookup′ cache′ C. record {

@@ -7,15 +7,15 @@ use mathlib.Core.List.{List}
 use native.Mathlib.Omega.{arith}
 use lib.ListN.{length}
 use borrow.Author.Tests.{ne-eqb, lt-ltb, le-ltb}
-use Rattle.family.specs.Family.{Family, parts}
-use Rattle.family.specs.Book.{number, place, distinct, absent}
+use Rattle.family.specs.Family.{Family}
+use Rattle.family.specs.Book.{place}
 use Rattle.family.proofs.Different.{place-length}
 use Rattle.words.proofs.Cases.{clash}
 use Rattle.store.specs.declared.record.Store.{Store}
 use Rattle.store.specs.declared.record.Refusal.{Refusal}
 use Rattle.store.specs.declared.record.Refusal.the-variants.{Full, Damaged}
 use Rattle.store.specs.declared.record.PlaceAnswer.{PlaceAnswer}
-use Rattle.store.specs.declared.record.PlaceAnswer.the-variants.{Handle, Refused}
+use Rattle.store.specs.declared.record.PlaceAnswer.the-variants.{Refused}
 use Rattle.store.specs.declared.record.Placed.{Placed}
 use Rattle.store.specs.Capacity.{fitting}
 use Rattle.store.specs.Refusals.{refusalNumber, Given, givenBy}
@@ -56,15 +56,24 @@ fits-roomy s nodes lookup e =
     let f = fits-true s (length nodes) (length lookup) e in
     record { within = f .within; words = omega (arith, f .is); small = omega (arith, f .is); longer = f .longer }
 
+-- what placing costs is what the book grows by
+pub cost-length : (B : List Family) (F : Family) → length (place B F) ≡ length B + costOf B F
+unfolding costOf
+cost-length B F = place-length B F
+
 -- the room for the parts not held is what the placed book's length says
 module _ (capacity : ℕ) (B : List Family) (F : Family) (n : ℕ) (size : length B ≡ n + 2) (within : n ≤ capacity) where
   pub large : capacity + 2 < length (place B F) → tooLarge capacity B F ≡ true
-  unfolding tooLarge costOf
-  large l = lt-ltb (capacity - (length B - 2)) (length (distinct (absent B (parts F)))) (omega (arith, place-length B F))
+  unfolding tooLarge
+  large l = lt-ltb (capacity - (length B - 2)) (costOf B F) (omega (arith, cost-length B F))
 
   pub not-large : length (place B F) ≤ capacity + 2 → tooLarge capacity B F ≡ false
-  unfolding tooLarge costOf
-  not-large l = le-ltb (capacity - (length B - 2)) (length (distinct (absent B (parts F)))) (omega (arith, place-length B F))
+  unfolding tooLarge
+  not-large l = le-ltb (capacity - (length B - 2)) (costOf B F) (omega (arith, cost-length B F))
+
+-- a refusal counts no node
+refused-counted : {s : Store} (r : Placed) (x : Refusal) → r .store ≡ s → r .answer ≡ Refused x → r .store .count ≡ s .count + givenBy (r .answer) .added
+refused-counted r x es ea = omega (arith, ap (λ s. s .count) es, ap (λ a. givenBy a .added) ea)
 
 module _ (s : Store) (nodes lookup cache : List ℕ) where
   pub call-misfit : (refusal : ℕ) (F : Family) (r : Placed) → fitting s (length nodes) (length lookup) ≡ false → r .store ≡ s → r .answer ≡ Refused Damaged
@@ -77,12 +86,13 @@ module _ (s : Store) (nodes lookup cache : List ℕ) where
         capacity = ap (λ x. x .capacity) es;
         limit = ap (λ x. x .limit) es;
         refused = λ d. es;
+        counted = refused-counted r Damaged es ea;
       }
 
   -- refused as damaged where the store is not sound, all words as they came
-  pub call-unsound : (refusal : ℕ) (F : Family) (r : Placed) → fitting s (length nodes) (length lookup) ≡ true → (Sound s nodes lookup cache → ⊥) → r .store ≡ s
+  pub call-unsound : (refusal : ℕ) (F : Family) (r : Placed) → fitting s (length nodes) (length lookup) ≡ true → (Sound s nodes lookup cache → ⊥) → (x : Refusal) → r .store ≡ s → r .answer ≡ Refused x
       → PlaceCall refusal F s nodes lookup cache r nodes lookup cache
-  call-unsound refusal F r e f es =
+  call-unsound refusal F r e f x es ea =
       record {
         misfit = λ d. clash e d;
         on-sound = λ S. absurd (f S);
@@ -90,6 +100,7 @@ module _ (s : Store) (nodes lookup cache : List ℕ) where
         capacity = ap (λ x. x .capacity) es;
         limit = ap (λ x. x .limit) es;
         refused = λ d. es;
+        counted = refused-counted r x es ea;
       }
 
   -- refused before anything is placed
@@ -111,4 +122,5 @@ module _ (s : Store) (nodes lookup cache : List ℕ) where
         capacity = ap (λ x. x .capacity) es;
         limit = ap (λ x. x .limit) es;
         refused = λ d. es;
+        counted = refused-counted r x es ea;
       }

@@ -1,18 +1,14 @@
 -- What each number says as an answer: below the two largest a handle, and each of these a refusal.
 -- The definition tests for them in this order; a handle held is far below them.
 use Prim.Native.Nat.{ℕ, _+_, _≤_, _<_}
-use mathlib.Core.Path.{_≡_, sym, _∙_}
+use mathlib.Core.Path.{_≡_}
 use mathlib.Core.List.{List}
 use native.Mathlib.Omega.{arith}
 use borrow.Author.Tests.{lt-ltb, le-ltb, ne-eqb}
 use Rattle.words.proofs.Cases.{by-eq}
-use Rattle.store.specs.declared.record.Store.{Store}
 use Rattle.store.specs.declared.record.Refusal.{Refusal}
 use Rattle.store.specs.declared.record.Refusal.the-variants.{Full, Damaged}
-use Rattle.store.specs.declared.record.PlaceAnswer.{PlaceAnswer}
-use Rattle.store.specs.declared.record.PlaceAnswer.the-variants.{Handle, Refused}
-use Rattle.store.specs.declared.record.Placed.{Placed}
-use Rattle.store.specs.Inner.{Fill, Roomy}
+use Rattle.store.specs.Inner.{Handle, Refused, Fill, Roomy}
 use Rattle.store.specs.Coded.{fullNumber, answerOf}
 
 pub coded-handle : (r : ℕ) → r < fullNumber → answerOf r ≡ Handle r
@@ -33,10 +29,3 @@ coded-damaged r l n = rw (le-ltb r fullNumber l, ne-eqb r fullNumber n)
 
 pub coded-refused : (r : ℕ) → fullNumber ≤ r → (x : Refusal) × (answerOf r ≡ Refused x)
 coded-refused r l = by-eq r fullNumber (λ e d. (Full, coded-full r e)) (λ n d. (Damaged, coded-damaged r l n))
-
--- an answer of a record, with the number that stands for it
-pub coded-placed : {s : Store} {a : PlaceAnswer} (r : ℕ) (x : Placed) → x .store ≡ s → x .answer ≡ a → answerOf r ≡ a → x ≡ record { store = s; answer = answerOf r }
-coded-placed r x es ea er = joined (x .store) (x .answer) es (ea ∙ sym er)
-  where
-    joined : (s : Store) {s′ : Store} (a : PlaceAnswer) {a′ : PlaceAnswer} → s ≡ s′ → a ≡ a′ → _≡_ {A = Placed} record { store = s; answer = a } record { store = s′; answer = a′ }
-    joined s a es ea = cc

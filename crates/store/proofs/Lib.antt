@@ -18,3 +18,4 @@ pub mod Calls
 pub mod Testing
 pub mod Tested
 pub mod Recovering
+pub mod Ways

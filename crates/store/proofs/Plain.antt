@@ -8,7 +8,6 @@ use native.Mathlib.Omega.{arith}
 use Rattle.family.specs.Family.{Family}
 use Rattle.family.specs.Book.{at, place}
 use Rattle.family.proofs.Placing.{place-grown, place-held}
-use Rattle.store.specs.declared.record.PlaceAnswer.the-variants.{Handle}
 use Rattle.store.specs.Coded.{damagedNumber, reachedAs}
 use Rattle.store.specs.Inner.{Fill, Reached, Roomy, Holds, gave, Ran, RanPlain}
 use Rattle.store.proofs.Held.{held}
@@ -23,19 +22,15 @@ place-at {B} H h l = place-held B (at B h) (H .book) (held H h l)
 
 module _ (least : ℕ) (F : List Family → Family) (s : Fill) (nodes lookup : List ℕ) where
   -- a handle in the book already
-  pub plain-handle : Roomy s nodes lookup → (r : Reached) (h : ℕ) → r .store ≡ s → r .answer ≡ Handle h → h ≤ s .count + 1
-      → ((limit : ℕ) (B : List Family) → Holds limit B (s .count) nodes lookup → at B h ≡ F B) → RanPlain least F s nodes lookup r nodes lookup
-  plain-handle R r h es ea l means =
-      record {
-        kept = rw es (kept-self s nodes lookup (R .within));
-        handle = λ k e. rw es (omega (arith, handle-is (sym ea ∙ e)));
-        sound = λ B m H. rw (ea, es, ← means _ B H, place-at H h (omega arith)) (gave {h = h} (record { holds = H; within = omega arith; means = refl }));
-      }
-
-  -- the same with the handle as a number
   pub plain-coded : Roomy s nodes lookup → (h : ℕ) → h ≤ s .count + 1 → ((limit : ℕ) (B : List Family) → Holds limit B (s .count) nodes lookup → at B h ≡ F B)
       → RanPlain least F s nodes lookup (reachedAs (s .capacity) (s .count) h) nodes lookup
-  plain-coded R h l means = plain-handle R (reachedAs (s .capacity) (s .count) h) h refl (coded-held h R (R .within) l) l means
+  plain-coded R h l means =
+      let held = coded-held h R (R .within) l in
+      record {
+        kept = kept-self s nodes lookup (R .within);
+        handle = λ k e. omega (arith, handle-is (sym held ∙ e));
+        sound = λ B m H. rw (held, ← means _ B H, place-at H h (omega arith)) (gave {h = h} (record { holds = H; within = omega arith; means = refl }));
+      }
 
   -- words that hold no book
   pub plain-broken : Roomy s nodes lookup → ((limit : ℕ) (B : List Family) → Holds limit B (s .count) nodes lookup → ⊥) → RanPlain least F s nodes lookup (reachedAs (s .capacity) (s .count) damagedNumber) nodes lookup

@@ -14,6 +14,10 @@ capacityOf words = min (words / 3) 1000000
 unfoldable pub isLimit : ℕ → Bool
 isLimit limit = ltb 0 limit && leb limit largestItem
 
+-- the record with so many nodes held
+abbrev pub counting : Store → ℕ → Store
+counting s n = record { capacity = s .capacity; count = n; limit = s .limit }
+
 -- "10 is certain where the capacity in the record isn't the one that the node words give, the lookup isn't longer, or
 -- the count exceeds the capacity"; "A record whose limit is outside 1 to 512 is a certain 10": whether none of the
 -- four holds, for the lengths of the node and lookup words

@@ -2,12 +2,8 @@
 use Prim.Native.Nat.{ℕ}
 use mathlib.Core.Bool.{cond}
 use lib.Dec.{eqb, ltb}
-use Rattle.store.specs.declared.record.Store.{Store}
 use Rattle.store.specs.declared.record.Refusal.the-variants.{Full, Damaged}
-use Rattle.store.specs.declared.record.PlaceAnswer.{PlaceAnswer}
-use Rattle.store.specs.declared.record.PlaceAnswer.the-variants.{Handle, Refused}
-use Rattle.store.specs.declared.record.Placed.{Placed}
-use Rattle.store.specs.Inner.{fillOf, Reached}
+use Rattle.store.specs.Inner.{fillOf, Reply, Handle, Refused, Reached}
 
 -- the numbers for full and damaged, the two largest of a word
 abbrev pub fullNumber : ℕ
@@ -17,13 +13,9 @@ abbrev pub damagedNumber : ℕ
 damagedNumber = 4294967295
 
 -- what a number says: full or damaged, and below them a handle
-unfoldable pub answerOf : ℕ → PlaceAnswer
+unfoldable pub answerOf : ℕ → Reply
 answerOf r = cond (ltb r fullNumber) (Handle r) (cond (eqb r fullNumber) (Refused Full) (Refused Damaged))
 
 -- what an inner call comes to: so many nodes held, and the answer that a number stands for
 abbrev pub reachedAs : ℕ → ℕ → ℕ → Reached
 reachedAs capacity n r = record { store = fillOf capacity n; answer = answerOf r }
-
--- the same with the record
-abbrev pub placedAs : Store → ℕ → ℕ → Placed
-placedAs s n r = record { store = record { capacity = s .capacity; count = n; limit = s .limit }; answer = answerOf r }

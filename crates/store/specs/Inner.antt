@@ -8,10 +8,8 @@ use Rattle.family.specs.Family.{Family, node, largestItem}
 use Rattle.family.specs.Book.{at, place, Book}
 use Rattle.table.specs.Entered.{entered, startAt}
 use Rattle.store.specs.declared.record.Store.{Store}
+use Rattle.store.specs.declared.record.Refusal.{Refusal}
 use Rattle.store.specs.declared.record.Refusal.the-variants.{Full}
-use Rattle.store.specs.declared.record.PlaceAnswer.{PlaceAnswer}
-use Rattle.store.specs.declared.record.PlaceAnswer.the-variants.{Handle, Refused}
-use Rattle.store.specs.declared.record.Placed.{Placed}
 use Rattle.store.specs.Cache.{True}
 
 -- How far a store is filled: room for so many nodes, and so many held. It is all that the inner functions are told of
@@ -27,13 +25,15 @@ fillOf capacity n = record { capacity = capacity; count = n }
 abbrev pub fillIn : Store → Fill
 fillIn s = fillOf (s .capacity) (s .count)
 
+-- what an inner call answers: what it added is the difference of two counts, told where the public call ends
+pub data Reply : Type 0 where
+  Handle : ℕ → Reply
+  Refused : Refusal → Reply
+
 -- what an inner call that places comes to
 pub record Reached : Type 0 where
   pub store : Fill
-  pub answer : PlaceAnswer
-
-abbrev pub reachedBy : Placed → Reached
-reachedBy r = record { store = fillIn (r .store); answer = r .answer }
+  pub answer : Reply
 
 -- words that fit
 pub record Roomy (s : Fill) (nodes lookup : List ℕ) : Type 0 where
@@ -63,7 +63,7 @@ pub record Handed (limit : ℕ) (B : List Family) (F : Family) (h n : ℕ) (node
   pub means : at B h ≡ F
 
 -- the answer where the book becomes C, which has F: a handle, or full where C has no room; never damaged
-pub data Outcome (limit : ℕ) (C : List Family) (F : Family) (capacity n : ℕ) (nodes lookup : List ℕ) : PlaceAnswer → Type 0 where
+pub data Outcome (limit : ℕ) (C : List Family) (F : Family) (capacity n : ℕ) (nodes lookup : List ℕ) : Reply → Type 0 where
   gave : {h : ℕ} → Handed limit C F h n nodes lookup → Outcome limit C F capacity n nodes lookup (Handle h)
   full : (D : List Family) → Holds limit D n nodes lookup → capacity + 2 < length C → Outcome limit C F capacity n nodes lookup (Refused Full)
 

@@ -1,5 +1,5 @@
 -- How a call that places a family ends, worked out from the book alone: document 01, 'Calls' and 'Numbers and trade
--- words'.
+-- words', and document 02, No. 7.
 use Prim.Native.Nat.{ℕ, _-_}
 use mathlib.Core.Bool.{Bool, cond}
 use mathlib.Core.List.{List}
@@ -7,9 +7,10 @@ use lib.Dec.{eqb, ltb}
 use lib.ListN.{length}
 use Rattle.family.specs.Family.{Family, parts}
 use Rattle.family.specs.Book.{number, place, distinct, absent}
-use Rattle.store.specs.Refusals.{Given}
+use Rattle.store.specs.Refusals.{Given, refusedBy}
 
--- "the result's parts not yet held"
+-- "the result's parts not yet held", each counted once; document 02: "the number of parts of the result that were not
+-- held before"
 unfoldable pub costOf : List Family → Family → ℕ
 costOf B F = length (distinct (absent B (parts F)))
 
@@ -21,8 +22,8 @@ tooLarge capacity B F = ltb (capacity - (length B - 2)) (costOf B F)
 unfoldable pub placeAnswer : ℕ → List Family → ℕ → Family → Given
 placeAnswer capacity B refusal F =
     cond (eqb refusal 0)
-    (cond (tooLarge capacity B F) (record { refusal = 5; handle = 0 }) (record { refusal = 0; handle = number (place B F) F }))
-    (record { refusal = refusal; handle = 0 })
+    (cond (tooLarge capacity B F) (refusedBy 5) (record { refusal = 0; handle = number (place B F) F; added = costOf B F }))
+    (refusedBy refusal)
 
 -- The book after it: "The call is refused ..; the book then stays. Otherwise a call that places .. puts each part not
 -- yet held at the book's end, in placing order"

@@ -1,5 +1,5 @@
 -- The promise of a public call that places a family: what it leaves, on every store.
-use Prim.Native.Nat.{ℕ, _-_, _*_, _/_}
+use Prim.Native.Nat.{ℕ, _+_, _-_, _*_, _/_}
 use mathlib.Core.Path.{_≡_}
 use mathlib.Core.Bool.{false, cond}
 use mathlib.Core.List.{List}
@@ -11,7 +11,7 @@ use Rattle.store.specs.declared.record.Store.{Store}
 use Rattle.store.specs.declared.record.Refusal.the-variants.{Damaged}
 use Rattle.store.specs.declared.record.PlaceAnswer.the-variants.{Refused}
 use Rattle.store.specs.declared.record.Placed.{Placed}
-use Rattle.store.specs.Capacity.{fitting}
+use Rattle.store.specs.Capacity.{fitting, counting}
 use Rattle.store.specs.Refusals.{Given, givenBy}
 use Rattle.store.specs.Words.{bookOf, nodesWith, lookupOf}
 use Rattle.store.specs.Sound.{Sound}
@@ -37,7 +37,7 @@ placing refusal F s nodes lookup =
     cond (eqb (a .refusal) 0)
     (record {
       given = a;
-      store = record { capacity = s .capacity; count = length C - 2; limit = s .limit };
+      store = counting s (length C - 2);
       nodes = nodesWith (s .capacity) C nodes;
       lookup = lookupOf (length lookup) C;
     })
@@ -67,3 +67,5 @@ pub record PlaceCall (refusal : ℕ) (F : Family) (s : Store) (nodes lookup cach
   pub capacity : r .store .capacity ≡ s .capacity
   pub limit : r .store .limit ≡ s .limit
   pub refused : (givenBy (r .answer) .refusal ≡ 0 → ⊥) → r .store ≡ s
+  -- and the count grows by the number added, which a refusal gives as 0
+  pub counted : r .store .count ≡ s .count + givenBy (r .answer) .added

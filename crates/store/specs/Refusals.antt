@@ -1,5 +1,5 @@
--- The refusals by document 01's numbers, and the values of an answer: document 01, 'Numbers and trade words'; 13 is
--- document 02's.
+-- The refusals by document 01's numbers, and the values of an answer: document 01, 'Numbers and trade words'; 13 and
+-- the number added are document 02's.
 use Prim.Native.Nat.{ℕ}
 use Rattle.store.specs.declared.record.Refusal.{Refusal}
 use Rattle.store.specs.declared.record.Refusal.the-variants.{Tiny, ShortLookup, Item, Handle as NoHandle, Full, Large, Scratch, Output, NoFile, Damaged, AboveLimit}
@@ -20,12 +20,17 @@ refusalNumber NoFile = 9
 refusalNumber Damaged = 10
 refusalNumber AboveLimit = 13
 
--- What a call that places gives besides the record: the refusal's number, 0 where there is none, and the handle, "0
--- where the answer has such a field" and is refused.
+-- What a call that places gives besides the record: the refusal's number, 0 where there is none, the handle, and "the
+-- number of nodes it added".
 pub record Given : Type 0 where
   pub refusal : ℕ
   pub handle : ℕ
+  pub added : ℕ
+
+-- refused: the handle is "0 where the answer has such a field", and so is the number added, "0 on refusal"
+abbrev pub refusedBy : ℕ → Given
+refusedBy n = record { refusal = n; handle = 0; added = 0 }
 
 abbrev pub givenBy : PlaceAnswer → Given
-givenBy (Handle h) = record { refusal = 0; handle = h }
-givenBy (Refused r) = record { refusal = refusalNumber r; handle = 0 }
+givenBy (Handle h n) = record { refusal = 0; handle = h; added = n }
+givenBy (Refused r) = refusedBy (refusalNumber r)

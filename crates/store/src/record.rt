@@ -1,9 +1,9 @@
 // The store record, the refusals and the answers of a call that places.
 ghost use mathlib.Core.Path.{_≡_};
 ghost use mathlib.Core.Bool.{true, false};
-ghost use Prim.Native.Nat.{_+_, _<_};
+ghost use Prim.Native.Nat.{_+_};
 ghost use lib.Dec.{leb};
-ghost use Rattle.store.specs.Capacity.{capacityOf, isLimit, fitting};
+ghost use Rattle.store.specs.Capacity.{capacityOf, isLimit, fitting, counting};
 
 // The refusals, numbered 1 to 10 in this order, and 13.
 pub enum Refusal {
@@ -29,9 +29,9 @@ pub struct Store {
     pub limit: u32,
 }
 
-// What a call that places a family answers.
+// What a call that places a family answers: its handle and how many nodes were added for it, or a refusal.
 pub enum PlaceAnswer {
-    Handle(u32),
+    Handle { handle: u32, added: u32 },
     Refused(Refusal),
 }
 
@@ -74,18 +74,9 @@ impl Store {
         }
     }
 
-    // The record with one node more.
-    pub fn appended(mut self) -> Self
-        requires { ⌜ self .count < 1000000 ⌝ }
-        ensures { λ r. ⌜ (r .capacity ≡ self .capacity) × (r .count ≡ self .count + 1) × (r .limit ≡ self .limit) ⌝ }
-    {
-        self.count = self.count + 1;
-        self
-    }
-
-    // The record after the nodes from `count` on were taken back.
-    pub fn rolled_back(mut self, count: u32) -> Self
-        ensures { λ r. ⌜ (r .capacity ≡ self .capacity) × (r .count ≡ count) × (r .limit ≡ self .limit) ⌝ }
+    // The record with so many nodes held.
+    pub fn with_count(mut self, count: u32) -> Self
+        ensures { λ r. ⌜ r ≡ counting self count ⌝ }
     {
         self.count = count;
         self
@@ -117,13 +108,16 @@ impl Store {
         self.count <= self.capacity
     }
 
-    // A handle given, with the record as it is.
-    pub fn placed(self, handle: u32) -> Placed
-        ensures { λ r. ⌜ (r .store ≡ self) × (r .answer ≡ PlaceAnswer.Handle handle) ⌝ }
+    // A handle given, for which so many nodes were added, with the record as it is.
+    pub fn placed(self, handle: u32, added: u32) -> Placed
+        ensures { λ r. ⌜ (r .store ≡ self) × (r .answer ≡ PlaceAnswer.Handle handle added) ⌝ }
     {
         Placed {
             store: self,
-            answer: PlaceAnswer::Handle(handle),
+            answer: PlaceAnswer::Handle {
+                handle: handle,
+                added: added,
+            },
         }
     }
 

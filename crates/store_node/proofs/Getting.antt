@@ -1,5 +1,5 @@
 -- Each way out of `made_node`: the zero side itself where the one side is {}, else what `make` gave; and the same as a
--- number, and on a record.
+-- number.
 -- Adding the node to the book is what placing the family of the item and the two sides does, once both sides are held.
 use Prim.Native.Nat.{ℕ, _+_, _≤_, _<_}
 use mathlib.Core.Path.{_≡_, refl, ap, _∙_}
@@ -11,16 +11,11 @@ use Rattle.family.specs.Family.{Family, empty, node, top, inhabited, mk, Within
 use Rattle.family.specs.Book.{at, add, made}
 use Rattle.family.proofs.Books.{add-same, add-new}
 use Rattle.family.proofs.Diagrams.{mk-node}
-use Rattle.store.specs.declared.record.Store.{Store}
-use Rattle.store.specs.declared.record.Placed.{Placed}
-use Rattle.store.specs.declared.record.PlaceAnswer.{PlaceAnswer}
-use Rattle.store.specs.declared.record.PlaceAnswer.the-variants.{Handle, Refused}
-use Rattle.store.specs.declared.record.Refusal.the-variants.{Full, Damaged}
 use Rattle.store_node.specs.declared.unique.Made.{Made}
 use Rattle.store_node.specs.declared.unique.Made.the-variants.{Found, New, Full as NoRoom, Damaged as Bad}
 use Rattle.store.specs.Coded.{fullNumber, damagedNumber, answerOf, reachedAs}
-use Rattle.store.specs.Inner.{Fill, fillOf, fillIn, reachedBy, Roomy, Holds, Outcome, gave, full}
-use Rattle.store_node.specs.Inner.{NodeAsks, heldAfter, answerBy, reachedWith, MadeOf, found, new, MadeIt, NodeIt, NodeGot}
+use Rattle.store.specs.Inner.{Fill, Reply, Handle, Roomy, Holds, Outcome, gave, full}
+use Rattle.store_node.specs.Inner.{NodeAsks, heldAfter, answerBy, reachedWith, MadeOf, found, new, MadeIt, NodeIt}
 use Rattle.store.proofs.Held.{at-0, within, positive-one, held}
 use Rattle.store.proofs.Growing.{kept-self}
 use Rattle.store.proofs.Codes.{coded-held, coded-full, coded-damaged}
@@ -53,7 +48,7 @@ module _ (s : Fill) (nodes lookup : List ℕ) (i z o : ℕ) (A : NodeAsks s node
         }
 
     -- the family and the book of an inhabited one side
-    as-node : {limit : ℕ} {B : List Family} → Holds limit B (s .count) nodes lookup → (C : List Family) {n : ℕ} {a : PlaceAnswer} → add B (node i (at B z) (at B o)) ≡ C
+    as-node : {limit : ℕ} {B : List Family} → Holds limit B (s .count) nodes lookup → (C : List Family) {n : ℕ} {a : Reply} → add B (node i (at B z) (at B o)) ≡ C
         → Outcome limit C (node i (at B z) (at B o)) (s .capacity) n nodes′ lookup′ a
         → Outcome limit (made B i (at B z) (at B o)) (mk i (at B z) (at B o)) (s .capacity) n nodes′ lookup′ a
     as-node {B = B} H C e A = rw (mk-node i (at B z) (at B o) (full-one H), made-inhabited B i (at B z) (at B o) (full-one H), e) A
@@ -67,8 +62,8 @@ module _ (s : Fill) (nodes lookup : List ℕ) (i z o : ℕ) (A : NodeAsks s node
 
     -- a handle that `make` gave is held
     given : (x : Made) → m ≡ x → (h : ℕ) → answerBy x ≡ Handle h → h ≤ heldAfter (s .count) x + 1
-    given (Found k) e h d = omega (arith, M .found-within k e, handle-is d)
-    given (New k) e h d = omega (arith, M .new-within k e, handle-is d)
+    given (Found k) e h d = omega (arith, M .found-is k e .0, handle-is d)
+    given (New k) e h d = omega (arith, M .new-is k e, handle-is d)
     given NoRoom e h d = refused-not h refl d
     given Bad e h d = damaged-not h refl d
 
@@ -104,33 +99,3 @@ module _ {s : Fill} {nodes lookup : List ℕ} {i z o : ℕ} (R : Roomy s nodes l
 
   pub coded-bad : m ≡ Bad → NodeIt s nodes lookup i z o (reachedAs (s .capacity) (s .count) damagedNumber) nodes′ lookup′
   coded-bad em = coded (s .count) damagedNumber em refl (coded-damaged damagedNumber (omega arith) (omega arith))
-
--- the answer on a record, which keeps its limit
-module _ (s : Store) {nodes lookup : List ℕ} {i z o : ℕ} (R : Roomy (fillIn s) nodes lookup) {m : Made} {nodes′ lookup′ : List ℕ}
-    (N : NodeIt (fillIn s) nodes lookup i z o (reachedWith (s .capacity) (s .count) m) nodes′ lookup′) where
-  recorded : {x : Made} → m ≡ x → (s′ : Store) → s′ .capacity ≡ s .capacity → s′ .count ≡ heldAfter (s .count) x → s′ .limit ≡ s .limit
-      → (r : Placed) → r .store ≡ s′ → r .answer ≡ answerBy x → NodeGot s nodes lookup i z o r nodes′ lookup′
-  recorded {x} em s′ ec en el r es ea =
-      let e : reachedBy r ≡ reachedWith (s .capacity) (s .count) x = λ j. record { store = (ap fillIn es ∙ (λ k. fillOf (ec k) (en k))) j; answer = ea j } in
-      record { node-is = rw e (rw em at N); limit = ap (λ y. y .limit) es ∙ el }
-
-  -- a node found, or none made: the record as it was
-  same : {x : Made} → m ≡ x → s .count ≡ heldAfter (s .count) x → (r : Placed) → r .store ≡ s → r .answer ≡ answerBy x → NodeGot s nodes lookup i z o r nodes′ lookup′
-  same em eh r es ea = recorded em s refl eh refl r es ea
-
-  pub got-found : (h : ℕ) → m ≡ Found h → (r : Placed) → r .store ≡ s → r .answer ≡ Handle h → NodeGot s nodes lookup i z o r nodes′ lookup′
-  got-found h em r es ea = same em refl r es ea
-
-  pub got-full : m ≡ NoRoom → (r : Placed) → r .store ≡ s → r .answer ≡ Refused Full → NodeGot s nodes lookup i z o r nodes′ lookup′
-  got-full em r es ea = same em refl r es ea
-
-  pub got-damaged : m ≡ Bad → (r : Placed) → r .store ≡ s → r .answer ≡ Refused Damaged → NodeGot s nodes lookup i z o r nodes′ lookup′
-  got-damaged em r es ea = same em refl r es ea
-
-  -- a new node: there was room for it, and it is counted
-  pub new-room : (h : ℕ) → m ≡ New h → s .count < 1000000
-  new-room h em = omega (arith, ap (λ x. heldAfter (s .count) x) em, N .kept .fits, R .small)
-
-  pub got-new : (h : ℕ) → m ≡ New h → (s′ : Store) → s′ .capacity ≡ s .capacity → s′ .count ≡ s .count + 1 → s′ .limit ≡ s .limit
-      → (r : Placed) → r .store ≡ s′ → r .answer ≡ Handle h → NodeGot s nodes lookup i z o r nodes′ lookup′
-  got-new h em s′ ec en el r es ea = recorded em s′ ec en el r es ea

@@ -2,7 +2,7 @@
 -- is found, new at the book's end, or has no room, and never damaged.
 -- A new node's words and slot give the words of the book with that node.
 use Prim.Native.Nat.{ℕ, suc, _+_, _*_, _-_, _≤_, _<_}
-use mathlib.Core.Path.{_≡_, refl, ap, _∙_}
+use mathlib.Core.Path.{_≡_, refl, sym, ap, _∙_}
 use mathlib.Core.List.{List, [], _∷_, _++_}
 use mathlib.Core.Logic.{⊎-elim}
 use native.Mathlib.Omega.{arith}
@@ -56,8 +56,8 @@ module _ (s : Fill) (nodes lookup : List ℕ) (i z o slot : ℕ) (R : Roomy s no
   made-damaged f =
       record {
         kept = same;
-        found-within = λ h e. absurd (let q : _≡_ {A = ℕ} 0 1 = cc in omega arith);
-        new-within = λ h e. absurd (let q : _≡_ {A = ℕ} 0 1 = cc in omega arith);
+        found-is = λ h e. absurd (let q : _≡_ {A = ℕ} 0 1 = cc in omega arith);
+        new-is = λ h e. absurd (let q : _≡_ {A = ℕ} 0 1 = cc in omega arith);
         sound = λ B H w. absurd (f _ B H);
       }
 
@@ -74,23 +74,23 @@ module _ (s : Fill) (nodes lookup : List ℕ) (i z o slot : ℕ) (R : Roomy s no
   made-full e l =
       record {
         kept = same;
-        found-within = λ h d. absurd (let q : _≡_ {A = ℕ} 0 1 = cc in omega arith);
-        new-within = λ h d. absurd (let q : _≡_ {A = ℕ} 0 1 = cc in omega arith);
+        found-is = λ h d. absurd (let q : _≡_ {A = ℕ} 0 1 = cc in omega arith);
+        new-is = λ h d. absurd (let q : _≡_ {A = ℕ} 0 1 = cc in omega arith);
         sound = λ B H w. cases B H (λ p. absurd (omega (arith, p .holds-it))) (λ a. full (a .lacks) (omega (arith, H .size)) H);
       }
 
-  found-is : {g h : ℕ} → Found g ≡ Found h → g ≡ h
-  found-is e = cc
+  same-found : {g h : ℕ} → Found g ≡ Found h → g ≡ h
+  same-found e = cc
 
-  new-is : {g h : ℕ} → New g ≡ New h → g ≡ h
-  new-is e = cc
+  same-new : {g h : ℕ} → New g ≡ New h → g ≡ h
+  same-new e = cc
 
   pub made-found : (getD lookup slot 0 ≡ 0 → ⊥) → getD lookup slot 0 ≤ s .count + 1 → MadeIt s nodes lookup i z o (Found (getD lookup slot 0)) nodes lookup
   made-found d l =
       record {
         kept = same;
-        found-within = λ h e. omega (arith, found-is e);
-        new-within = λ h e. absurd (let q : _≡_ {A = ℕ} 0 1 = cc in omega arith);
+        found-is = λ h e. (omega (arith, same-found e), refl, refl);
+        new-is = λ h e. absurd (let q : _≡_ {A = ℕ} 0 1 = cc in omega arith);
         sound = λ B H w. cases B H (λ p. rw (p .holds-it) (found {h = p .k + 2} (record { holds = H; within = omega (arith, p .below); means = p .means }))) (λ a. absurd (d (a .free)));
       }
 
@@ -108,8 +108,8 @@ module _ (s : Fill) (nodes lookup : List ℕ) (i z o slot : ℕ) (R : Roomy s no
           below = put-below nodes (s .count) i z o;
           above = λ k h. put-above nodes (s .count) i z o k (omega arith);
         };
-        found-within = λ h d. absurd (let q : _≡_ {A = ℕ} 0 1 = cc in omega arith);
-        new-within = λ h d. omega (arith, new-is d);
+        found-is = λ h d. absurd (let q : _≡_ {A = ℕ} 0 1 = cc in omega arith);
+        new-is = λ h d. sym (same-new d);
         sound = λ B H w. cases B H (λ p. absurd (omega (arith, p .holds-it)))
             (λ a. new (a .lacks) (new-handed H i z o slot (omega arith) (omega arith) w a (omega (arith, R .words))));
       }

@@ -7,11 +7,7 @@ use lib.ListN.{length, set}
 use Rattle.family.specs.Family.{Family, node, Within, top, mk, largestItem}
 use Rattle.family.specs.Book.{at, number, made}
 use Rattle.store.specs.declared.record.Refusal.the-variants.{Full, Damaged}
-use Rattle.store.specs.declared.record.PlaceAnswer.{PlaceAnswer}
-use Rattle.store.specs.declared.record.PlaceAnswer.the-variants.{Handle, Refused}
-use Rattle.store.specs.declared.record.Placed.{Placed}
-use Rattle.store.specs.declared.record.Store.{Store}
-use Rattle.store.specs.Inner.{putNode, Fill, fillOf, fillIn, Reached, reachedBy, Holds, Handed, Kept, Outcome, Roomy}
+use Rattle.store.specs.Inner.{putNode, Fill, fillOf, Reply, Handle, Refused, Reached, Holds, Handed, Kept, Outcome, Roomy}
 use Rattle.store_node.specs.declared.unique.Made.{Made}
 use Rattle.store_node.specs.declared.unique.Made.the-variants.{Found, New, Full as NoRoom, Damaged as Bad}
 
@@ -42,7 +38,7 @@ heldAfter n NoRoom = n
 heldAfter n Bad = n
 
 -- what making a node comes to, as an answer
-abbrev pub answerBy : Made → PlaceAnswer
+abbrev pub answerBy : Made → Reply
 answerBy (Found h) = Handle h
 answerBy (New h) = Handle h
 answerBy NoRoom = Refused Full
@@ -52,16 +48,19 @@ answerBy Bad = Refused Damaged
 abbrev pub reachedWith : ℕ → ℕ → Made → Reached
 reachedWith capacity n m = record { store = fillOf capacity (heldAfter n m); answer = answerBy m }
 
--- making the node F in a book: found there, new at its end, or no room for it
+-- making the node F in a book: found exactly where the book holds it; where it does not, new at its end, or no room
+-- for it
 pub data MadeOf (limit : ℕ) (B : List Family) (F : Family) (capacity n : ℕ) (nodes lookup : List ℕ) : Made → Type 0 where
   found : {h : ℕ} → Handed limit B F h n nodes lookup → MadeOf limit B F capacity n nodes lookup (Found h)
   new : {h : ℕ} → length B ≤ number B F → Handed limit (B ++ (F ∷ [])) F h n nodes lookup → MadeOf limit B F capacity n nodes lookup (New h)
   full : length B ≤ number B F → capacity + 2 ≤ length B → Holds limit B n nodes lookup → MadeOf limit B F capacity n nodes lookup NoRoom
 
+-- "Making or finding a node must tell which of the two it was": on any words, what was found is a handle held before,
+-- with every word as it came, and what is new has the number after those held
 pub record MadeIt (s : Fill) (nodes lookup : List ℕ) (i z o : ℕ) (r : Made) (nodes′ lookup′ : List ℕ) : Type 0 where
   pub kept : Kept s nodes lookup (fillOf (s .capacity) (heldAfter (s .count) r)) nodes′ lookup′
-  pub found-within : (h : ℕ) → r ≡ Found h → h ≤ s .count + 1
-  pub new-within : (h : ℕ) → r ≡ New h → h ≤ s .count + 2
+  pub found-is : (h : ℕ) → r ≡ Found h → (h ≤ s .count + 1) × (nodes′ ≡ nodes) × (lookup′ ≡ lookup)
+  pub new-is : (h : ℕ) → r ≡ New h → h ≡ s .count + 2
   pub sound : {limit : ℕ} (B : List Family) → Holds limit B (s .count) nodes lookup → Within limit (node i (at B z) (at B o))
       → MadeOf limit B (node i (at B z) (at B o)) (s .capacity) (heldAfter (s .count) r) nodes′ lookup′ r
 
@@ -71,8 +70,3 @@ pub record NodeIt (s : Fill) (nodes lookup : List ℕ) (i z o : ℕ) (r : Reache
   pub handle : (h : ℕ) → r .answer ≡ Handle h → h ≤ r .store .count + 1
   pub sound : {limit : ℕ} (B : List Family) → i ≤ limit → Holds limit B (s .count) nodes lookup → top (at B z) < i → top (at B o) < i
       → Outcome limit (made B i (at B z) (at B o)) (mk i (at B z) (at B o)) (s .capacity) (r .store .count) nodes′ lookup′ (r .answer)
-
--- the same on a record, which keeps its limit
-pub record NodeGot (s : Store) (nodes lookup : List ℕ) (i z o : ℕ) (r : Placed) (nodes′ lookup′ : List ℕ) : Type 0 where
-  pub node-is : NodeIt (fillIn s) nodes lookup i z o (reachedBy r) nodes′ lookup′
-  pub limit : r .store .limit ≡ s .limit

@@ -1,14 +1,11 @@
 // Getnode of document 001: the family of an item and two sides.
 ghost use Rattle.store.specs.Coded.{reachedAs};
-ghost use Rattle.store.specs.Inner.{fillOf, fillIn};
-ghost use Rattle.store_node.specs.Inner.{NodeAsks, reachedWith, NodeIt, NodeGot};
+ghost use Rattle.store.specs.Inner.{fillOf};
+ghost use Rattle.store_node.specs.Inner.{NodeAsks, reachedWith, NodeIt};
 use crate::unique::Made;
 use crate::unique::make;
 use store::coded::DAMAGED;
 use store::coded::FULL;
-use store::record::Placed;
-use store::record::Refusal;
-use store::record::Store;
 
 // The family of this item and these two sides: where the one side is {} it is the zero side, which is there already,
 // else the node.
@@ -52,25 +49,5 @@ pub fn node_of(
         }
         Made::Full => FULL,
         Made::Damaged => DAMAGED,
-    }
-}
-
-// The same on a record, with its answer.
-pub fn get_node(
-    store: Store,
-    nodes: &mut [u32],
-    lookup: &mut [u32],
-    item: u32,
-    zero: u32,
-    one: u32,
-) -> Placed
-    requires { ⌜ NodeAsks (fillIn store) (now nodes) (now lookup) item zero one ⌝ }
-    ensures { λ r. ⌜ NodeGot store (now (nodes .entry)) (now (lookup .entry)) item zero one r (now (nodes .exit)) (now (lookup .exit)) ⌝ }
-{
-    match made_node(store.capacity, store.count, nodes, lookup, item, zero, one) {
-        Made::Found(handle) => store.placed(handle),
-        Made::New(handle) => store.appended().placed(handle),
-        Made::Full => store.refused(Refusal::Full),
-        Made::Damaged => store.refused(Refusal::Damaged),
     }
 }

@@ -2,7 +2,7 @@
 -- where that has no room, everything as before and an empty cache.
 -- What ran holds the placed book exactly when that fits the capacity, and the words of a book are one only.
 use Prim.Native.Nat.{ℕ, zero, _+_, _*_, _-_, _/_, _≤_, _<_}
-use mathlib.Core.Path.{_≡_, sym, ap, _∙_}
+use mathlib.Core.Path.{_≡_, refl, sym, ap, _∙_}
 use mathlib.Core.Bool.{true, false}
 use mathlib.Core.List.{List}
 use native.Mathlib.Omega.{arith}
@@ -17,30 +17,29 @@ use Rattle.table.proofs.OwnSlots.{cleared-length}
 use Rattle.store.specs.declared.record.Store.{Store}
 use Rattle.store.specs.declared.record.Refusal.{Refusal}
 use Rattle.store.specs.declared.record.Refusal.the-variants.{Full}
-use Rattle.store.specs.declared.record.PlaceAnswer.{PlaceAnswer}
-use Rattle.store.specs.declared.record.PlaceAnswer.the-variants.{Handle, Refused}
+use Rattle.store.specs.declared.record.PlaceAnswer.the-variants.{Handle as Given, Refused as Denied}
 use Rattle.store.specs.declared.record.Placed.{Placed}
-use Rattle.store.specs.Capacity.{capacityOf, fitting}
-use Rattle.store.specs.Refusals.{refusalNumber, givenBy}
+use Rattle.store.specs.Capacity.{capacityOf, counting, fitting}
+use Rattle.store.specs.Refusals.{refusalNumber, refusedBy, givenBy}
 use Rattle.store.specs.Words.{bookOf, lookupOf}
 use Rattle.store.specs.Sound.{Sound}
-use Rattle.store.specs.Placing.{tooLarge, placeAnswer, placeBook}
+use Rattle.store.specs.Placing.{costOf, tooLarge, placeAnswer, placeBook}
 use Rattle.store.specs.Promise.{leaves, placing, cacheRefused, PlaceCall}
 use Rattle.store_undo.specs.Inner.{RolledBack, Finished}
-use Rattle.store.specs.Inner.{fillIn, reachedBy, Roomy, Holds, Handed, Outcome, gave, full, Kept, Ran}
-use Rattle.store.proofs.Fitting.{store-is}
+use Rattle.store.specs.Coded.{answerOf, reachedAs}
+use Rattle.store.specs.Inner.{fillOf, fillIn, Reply, Handle, Refused, Roomy, Holds, Handed, Outcome, gave, full, Kept, Ran}
 use Rattle.store.proofs.Held.{handle-of}
 use Rattle.store.proofs.Decoding.{sound-holds}
 use Rattle.store.proofs.Encoding.{looked-up, laid-out}
 use Rattle.store.proofs.Sounds.{holds-sound, zeroed-true, sound-with}
 use Rattle.store.proofs.Answers.{handed-of, by-answer}
 use Rattle.store_undo.proofs.Undoing.{undone-nodes, undone-lookup}
-use Rattle.store.proofs.Calls.{fits-roomy, not-large, left-is, large}
+use Rattle.store.proofs.Calls.{placed-is, fits-roomy, cost-length, not-large, left-is, large}
 
 module _ (s : Store) (nodes lookup cache : List ℕ) where
-  module _ (F : List Family → Family) (e : fitting s (length nodes) (length lookup) ≡ true) {least : ℕ} (low : least ≤ s .limit) {m : Placed} {nodes₁ lookup₁ cache₁ : List ℕ}
-      (R : Ran least F (fillIn s) nodes lookup cache (reachedBy m) nodes₁ lookup₁ cache₁) (el : m .store .limit ≡ s .limit) {r : Placed} {nodes₂ lookup₂ cache₂ : List ℕ} (E : Finished m (s .count) nodes₁ lookup₁ cache₁ r nodes₂ lookup₂ cache₂) where
-    K : Kept (fillIn s) nodes lookup (fillIn (m .store)) nodes₁ lookup₁
+  module _ (F : List Family → Family) (e : fitting s (length nodes) (length lookup) ≡ true) {least : ℕ} (low : least ≤ s .limit) {held coded : ℕ} {nodes₁ lookup₁ cache₁ : List ℕ}
+      (R : Ran least F (fillIn s) nodes lookup cache (reachedAs (s .capacity) held coded) nodes₁ lookup₁ cache₁) {r : Placed} {nodes₂ lookup₂ cache₂ : List ℕ} (E : Finished s held coded nodes₁ lookup₁ cache₁ r nodes₂ lookup₂ cache₂) where
+    K : Kept (fillIn s) nodes lookup (fillOf (s .capacity) held) nodes₁ lookup₁
     K = R .kept
 
     roomy : Roomy (fillIn s) nodes lookup
@@ -50,9 +49,9 @@ module _ (s : Store) (nodes lookup cache : List ℕ) where
     rest-kept : drop (length cache / 4 * 4) cache₁ ≡ drop (length cache / 4 * 4) cache
     rest-kept = rest-drop (length cache / 4 * 4) cache cache₁ (R .long-cache) (R .rest)
 
-    module _ (h : ℕ) (eh : m .answer ≡ Handle h) where
+    module _ (h : ℕ) (eh : answerOf coded ≡ Handle h) where
       module _ (S : Sound s nodes lookup cache) where
-        given : Handed (s .limit) (place (bookOf nodes (s .count)) (F (bookOf nodes (s .count)))) (F (bookOf nodes (s .count))) h (m .store .count) nodes₁ lookup₁
+        given : Handed (s .limit) (place (bookOf nodes (s .count)) (F (bookOf nodes (s .count)))) (F (bookOf nodes (s .count))) h (held) nodes₁ lookup₁
         given = handed-of eh (R .sound (bookOf nodes (s .count)) low (sound-holds S) (S .cached))
 
         fits : tooLarge (s .capacity) (bookOf nodes (s .count)) (F (bookOf nodes (s .count))) ≡ false
@@ -61,57 +60,62 @@ module _ (s : Store) (nodes lookup cache : List ℕ) where
         past : drop (3 * s .capacity) nodes₁ ≡ drop (3 * s .capacity) nodes
         past = rest-drop (3 * s .capacity) nodes nodes₁ (K .long) (λ k l. K .above k (omega (arith, K .fits)))
 
-        blank : (k : ℕ) → 3 * m .store .count ≤ k → k < 3 * s .capacity → getD nodes₁ k 0 ≡ 0
+        blank : (k : ℕ) → 3 * held ≤ k → k < 3 * s .capacity → getD nodes₁ k 0 ≡ 0
         blank k l g = K .above k l ∙ S .blank k (omega (arith, K .grows)) g
 
-        words : 3 * m .store .count ≤ length nodes₁
+        words : 3 * held ≤ length nodes₁
         words = omega (arith, K .fits, K .long, roomy .words)
 
-        left : leaves m nodes₁ lookup₁ ≡ placing 0 (F (bookOf nodes (s .count))) s nodes lookup
+        -- the nodes added are the parts that were not held
+        added-is : held - s .count ≡ costOf (bookOf nodes (s .count)) (F (bookOf nodes (s .count)))
+        added-is = omega (arith, given .holds .size, sound-holds S .size, cost-length (bookOf nodes (s .count)) (F (bookOf nodes (s .count))))
+
+        left : leaves (record { store = counting s held; answer = Given h (held - s .count) }) nodes₁ lookup₁ ≡ placing 0 (F (bookOf nodes (s .count))) s nodes lookup
         unfolding placing placeAnswer placeBook
         left =
             rw fits (left-is
-            (ap givenBy eh ∙ ap (λ k. record { refusal = 0; handle = k }) (sym (ap (λ X. number (place (bookOf nodes (s .count)) (F (bookOf nodes (s .count)))) X) (sym (given .means)) ∙ handle-of (given .holds) h (given .within))))
-            (store-is (K .same-capacity) (omega (arith, given .holds .size)) el)
+            (λ j. record { refusal = 0; handle = sym (ap (λ X. number (place (bookOf nodes (s .count)) (F (bookOf nodes (s .count)))) X) (sym (given .means)) ∙ handle-of (given .holds) h (given .within)) j; added = added-is j })
+            (ap (counting s) (omega (arith, given .holds .size)))
             (sym (laid-out (given .holds) words (s .capacity) nodes (K .fits) (omega (arith, K .long, roomy .words)) blank past))
             (sym (ap (λ k. lookupOf k (place (bookOf nodes (s .count)) (F (bookOf nodes (s .count))))) (sym (K .long-lookup)) ∙ looked-up (given .holds) words)))
 
-        sound : Sound (m .store) nodes₁ lookup₁ cache₁
+        sound : Sound (counting s held) nodes₁ lookup₁ cache₁
         sound =
-            holds-sound {B = place (bookOf nodes (s .count)) (F (bookOf nodes (s .count)))} (m .store) (omega (arith, el, S .limit-some)) (rw el (given .holds)) (K .same-capacity ∙ S .capacity-is ∙ ap capacityOf (sym (K .long))) (omega (arith, K .same-capacity, K .long-lookup, S .longer)) (omega (arith, K .fits, K .same-capacity))
-            (λ k l g. blank k l (omega (arith, K .same-capacity))) (rw el (R .cached (bookOf nodes (s .count)) low (sound-holds S) (S .cached) h eh))
+            holds-sound {B = place (bookOf nodes (s .count)) (F (bookOf nodes (s .count)))} (counting s held) (S .limit-some) (given .holds) (S .capacity-is ∙ ap capacityOf (sym (K .long))) (omega (arith, K .long-lookup, S .longer)) (K .fits)
+            blank (R .cached (bookOf nodes (s .count)) low (sound-holds S) (S .cached) h eh)
 
       gave-call : PlaceCall 0 (F (bookOf nodes (s .count))) s nodes lookup cache r nodes₂ lookup₂ cache₂
       gave-call =
           let q = E .gave h eh in
-          rw (q .0, q .1, q .2, q .3) record {
+          rw (placed-is (q .0) (q .1), q .2, q .3, q .4) record {
             misfit = λ d. clash e d;
             on-sound = λ S. record {
               leaves-is = left S;
-              refused-cache = λ n en dn. absurd (dn (sym en ∙ ap (λ a. givenBy a .refusal) eh));
+              refused-cache = λ n en dn. absurd (dn (sym en));
               sound = sound S;
               rest = rest-kept;
             };
             lengths = (K .long, K .long-lookup, R .long-cache);
-            capacity = K .same-capacity;
-            limit = el;
-            refused = λ d. absurd (d (ap (λ a. givenBy a .refusal) eh));
+            capacity = refl;
+            limit = refl;
+            refused = λ d. absurd (d refl);
+            counted = omega (arith, K .grows);
           }
 
-    module _ (x : Refusal) (ex : m .answer ≡ Refused x) where
-      U : RolledBack (m .store) nodes₁ lookup₁ (s .count) (r .store) nodes₂ lookup₂
-      U = E .undone x ex .0
+    module _ (x : Refusal) (ex : answerOf coded ≡ Refused x) where
+      as-came : r .store ≡ s
+      as-came = E .undone x ex .0
 
-      ea : r .answer ≡ Refused x
+      ea : r .answer ≡ Denied x
       ea = E .undone x ex .1
 
-      as-came : r .store ≡ s
-      as-came = store-is (U .capacity ∙ K .same-capacity) (U .count) (U .limit ∙ el)
+      U : RolledBack (counting s held) nodes₁ lookup₁ (s .count) nodes₂ lookup₂
+      U = E .undone x ex .2
 
       -- the cache: its whole groups are zero, and the rest is as it came
       zero-cache : cache₂ ≡ zeroed 0 (length cache / 4 * 4) cache
       zero-cache =
-          E .undone x ex .2
+          E .undone x ex .3
           ∙ ext-getD 0 (zeroed 0 (length cache₁ / 4 * 4) cache₁) (zeroed 0 (length cache / 4 * 4) cache)
           (zeroed-length 0 (length cache₁ / 4 * 4) cache₁ (omega arith) (omega arith) ∙ R .long-cache ∙ sym (zeroed-length 0 (length cache / 4 * 4) cache (omega arith) (omega arith)))
           (λ k l. rw (R .long-cache) (by-lt k (length cache / 4 * 4)
@@ -122,14 +126,14 @@ module _ (s : Store) (nodes lookup cache : List ℕ) where
         record Over : Type 0 where
           is : x ≡ Full
           D : List Family
-          holds : Holds (s .limit) D (m .store .count) nodes₁ lookup₁
+          holds : Holds (s .limit) D (held) nodes₁ lookup₁
           big : s .capacity + 2 < length (place (bookOf nodes (s .count)) (F (bookOf nodes (s .count))))
 
         over : Over
-        over = out (m .answer) ex (R .sound (bookOf nodes (s .count)) low (sound-holds S) (S .cached))
+        over = out (answerOf coded) ex (R .sound (bookOf nodes (s .count)) low (sound-holds S) (S .cached))
           where
-            out : (a : PlaceAnswer) → a ≡ Refused x
-                → Outcome (s .limit) (place (bookOf nodes (s .count)) (F (bookOf nodes (s .count)))) (F (bookOf nodes (s .count))) (s .capacity) (m .store .count) nodes₁ lookup₁ a → Over
+            out : (a : Reply) → a ≡ Refused x
+                → Outcome (s .limit) (place (bookOf nodes (s .count)) (F (bookOf nodes (s .count)))) (F (bookOf nodes (s .count))) (s .capacity) (held) nodes₁ lookup₁ a → Over
             out a q (gave G) = absurd (let z : _≡_ {A = ℕ} 0 1 = cc in omega arith)
             out a q (full D H l) = record { is = cc; D = D; holds = H; big = l }
 
@@ -147,7 +151,7 @@ module _ (s : Store) (nodes lookup cache : List ℕ) where
 
         full-left : leaves r nodes₂ lookup₂ ≡ placing 0 (F (bookOf nodes (s .count))) s nodes lookup
         unfolding placing placeAnswer placeBook
-        full-left = rw too-large (left-is (ap givenBy ea ∙ ap (λ k. record { refusal = k; handle = 0 }) full-number) as-came same-nodes same-lookup)
+        full-left = rw too-large (left-is (ap givenBy ea ∙ ap refusedBy full-number) as-came same-nodes same-lookup)
 
         full-sound : Sound (r .store) nodes₂ lookup₂ cache₂
         full-sound =
@@ -165,15 +169,16 @@ module _ (s : Store) (nodes lookup cache : List ℕ) where
               rest = ap (λ X. drop (length cache / 4 * 4) X) zero-cache ∙ zeroed-drop 0 (length cache / 4 * 4) cache (omega arith) (omega arith);
             };
             lengths = (
-              ap length (U .nodes-are) ∙ zeroed-length (3 * s .count) (3 * m .store .count) nodes₁ (omega (arith, K .grows)) (omega (arith, K .fits, K .long, roomy .words)) ∙ K .long,
-              ap length (U .lookup-is) ∙ cleared-length nodes₁ lookup₁ (s .count) (m .store .count - s .count) ∙ K .long-lookup,
+              ap length (U .nodes-are) ∙ zeroed-length (3 * s .count) (3 * held) nodes₁ (omega (arith, K .grows)) (omega (arith, K .fits, K .long, roomy .words)) ∙ K .long,
+              ap length (U .lookup-is) ∙ cleared-length nodes₁ lookup₁ (s .count) (held - s .count) ∙ K .long-lookup,
               ap length zero-cache ∙ zeroed-length 0 (length cache / 4 * 4) cache (omega arith) (omega arith),
             );
-            capacity = U .capacity ∙ K .same-capacity;
-            limit = U .limit ∙ el;
+            capacity = ap (λ x. x .capacity) as-came;
+            limit = ap (λ x. x .limit) as-came;
             refused = λ d. as-came;
+            counted = omega (arith, ap (λ x. x .count) as-came, ap (λ a. givenBy a .added) ea);
           }
 
     -- a call that came through to `finish`
     pub call-done : PlaceCall 0 (F (bookOf nodes (s .count))) s nodes lookup cache r nodes₂ lookup₂ cache₂
-    call-done = by-answer (m .answer) gave-call full-call
+    call-done = by-answer (answerOf coded) gave-call full-call

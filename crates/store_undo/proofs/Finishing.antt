@@ -1,27 +1,38 @@
--- The two ways out of `finish`: a handle stays as it is, a refusal is undone.
--- An answer is one or the other, never both.
-use Prim.Native.Nat.{ℕ, _*_, _/_}
-use mathlib.Core.Path.{_≡_, refl, ap, _∙_}
+-- The ways out of `finish`: a handle with the number added, or a refusal with all that was made taken back; and a call
+-- that answers with a handle held ends in the same way.
+-- A number stands for one answer only.
+use Prim.Native.Nat.{ℕ, _*_, _-_, _/_}
+use mathlib.Core.Path.{_≡_, refl, sym, ap, _∙_}
 use mathlib.Core.List.{List}
 use native.Mathlib.Omega.{arith}
 use lib.ListN.{length}
 use Rattle.words.specs.Words.{zeroed}
 use Rattle.store.specs.declared.record.Store.{Store}
 use Rattle.store.specs.declared.record.Refusal.{Refusal}
-use Rattle.store.specs.declared.record.PlaceAnswer.the-variants.{Handle, Refused}
+use Rattle.store.specs.declared.record.PlaceAnswer.the-variants.{Handle as Given, Refused as Denied}
 use Rattle.store.specs.declared.record.Placed.{Placed}
+use Rattle.store.specs.Capacity.{counting}
+use Rattle.store.specs.Inner.{Handle, Refused}
+use Rattle.store.specs.Coded.{answerOf}
+use Rattle.store.proofs.Answers.{handle-is, not-both, refused-same}
 use Rattle.store_undo.specs.Inner.{RolledBack, Finished}
-use Rattle.store.specs.Inner.{gave}
-use Rattle.store.proofs.Answers.{not-both, refused-same}
 
-pub finished-gave : (placed : Placed) (keep : ℕ) (nodes lookup cache : List ℕ) (h : ℕ) → placed .answer ≡ Handle h → Finished placed keep nodes lookup cache placed nodes lookup cache
-finished-gave placed keep nodes lookup cache h e = record { gave = λ g d. (refl, refl, refl, refl); undone = λ x d. not-both h x e d }
+module _ (s : Store) (held coded : ℕ) (nodes lookup cache : List ℕ) (r : Placed) where
+  pub finished-gave : {h n : ℕ} → answerOf coded ≡ Handle h → n ≡ held - s .count → r .store ≡ counting s held → r .answer ≡ Given h n → Finished s held coded nodes lookup cache r nodes lookup cache
+  finished-gave {h} {n} e en es ea =
+      record {
+        gave = λ g d. let same : h ≡ g = handle-is (sym e ∙ d) in (es, rw (← same, ← en) ea, refl, refl, refl);
+        undone = λ x d. not-both h x e d;
+      }
 
-pub finished-undone : (placed : Placed) (keep : ℕ) (nodes lookup cache : List ℕ) (x : Refusal) (s : Store) (r : Placed) (nodes′ lookup′ cache′ : List ℕ) → placed .answer ≡ Refused x
-    → RolledBack (placed .store) nodes lookup keep s nodes′ lookup′ → r .store ≡ s → r .answer ≡ Refused x → cache′ ≡ zeroed 0 (length cache / 4 * 4) cache
-    → Finished placed keep nodes lookup cache r nodes′ lookup′ cache′
-finished-undone placed keep nodes lookup cache x s r nodes′ lookup′ cache′ e U es ea ec =
-    record {
-      gave = λ h d. not-both h x d e;
-      undone = λ y d. (rw es U, ea ∙ ap Refused (refused-same x y e d), ec);
-    }
+  pub finished-undone : {x : Refusal} {nodes′ lookup′ cache′ : List ℕ} → answerOf coded ≡ Refused x → RolledBack (counting s held) nodes lookup (s .count) nodes′ lookup′ → cache′ ≡ zeroed 0 (length cache / 4 * 4) cache
+      → r .store ≡ s → r .answer ≡ Denied x → Finished s held coded nodes lookup cache r nodes′ lookup′ cache′
+  finished-undone {x} e U ec es ea =
+      record {
+        gave = λ h d. not-both h x d e;
+        undone = λ y d. (es, ea ∙ ap Denied (refused-same x y e d), U, ec);
+      }
+
+-- a handle that is held already, and no node added
+pub finished-held : (s : Store) (h : ℕ) (nodes lookup cache : List ℕ) (r : Placed) → answerOf h ≡ Handle h → r .store ≡ s → r .answer ≡ Given h 0 → Finished s (s .count) h nodes lookup cache r nodes lookup cache
+finished-held s h nodes lookup cache r e es ea = finished-gave s (s .count) h nodes lookup cache r e (omega arith) es ea

@@ -20,7 +20,7 @@ use Rattle.store.specs.Inner.{Fill, fillIn, Roomy, Holds, Kept}
 use Rattle.store.proofs.Held.{words-apart, words-items}
 use Rattle.store.proofs.Put.{entered-same}
 
-module _ {s : Fill} {s₁ s₂ : Store} {nodes lookup nodes₁ lookup₁ nodes₂ lookup₂ : List ℕ} (R : Roomy s nodes lookup) (K : Kept s nodes lookup (fillIn s₁) nodes₁ lookup₁) (U : RolledBack s₁ nodes₁ lookup₁ (s .count) s₂ nodes₂ lookup₂) where
+module _ {s : Fill} {s₁ : Store} {nodes lookup nodes₁ lookup₁ nodes₂ lookup₂ : List ℕ} (R : Roomy s nodes lookup) (K : Kept s nodes lookup (fillIn s₁) nodes₁ lookup₁) (U : RolledBack s₁ nodes₁ lookup₁ (s .count) nodes₂ lookup₂) where
   pub undone-nodes : ((k : ℕ) → 3 * s .count ≤ k → k < 3 * s .capacity → getD nodes k 0 ≡ 0) → nodes₂ ≡ nodes
   undone-nodes blank =
       U .nodes-are ∙ ext-getD 0 (zeroed (3 * s .count) (3 * s₁ .count) nodes₁) nodes (long ∙ K .long) (λ k l. word k)

@@ -34,11 +34,11 @@ shared-slice-read-handle-at-2 c = search needs
 handle-at-requires-2 : tie.Need-handle-at-requires-2
 handle-at-requires-2 c κs = search needs
 
-mul-get-node : tie.Need-mul-get-node
-mul-get-node c = search needs
+mul-node-of : tie.Need-mul-node-of
+mul-node-of c = search needs
 
-shared-slice-read-get-node : tie.Need-shared-slice-read-get-node
-shared-slice-read-get-node c = search needs
+shared-slice-read-node-of : tie.Need-shared-slice-read-node-of
+shared-slice-read-node-of c = search needs
 
 same-length : tie.Need-same-length
 same-length c = search needs
@@ -46,8 +46,8 @@ same-length c = search needs
 same-length-2 : tie.Need-same-length-2
 same-length-2 c = search needs
 
-get-node-requires : tie.Need-get-node-requires
-get-node-requires c κs =
+node-of-requires : tie.Need-node-of-requires
+node-of-requires c κs =
     let at-handle-at : tie.After-handle-at = search in
     let at-start : tie.Start = search in
     let p = at-start .pre in
@@ -75,9 +75,9 @@ place-part-spec =
     mul-handle-at-2
     shared-slice-read-handle-at-2
     handle-at-requires-2
-    mul-get-node
-    shared-slice-read-get-node
-    get-node-requires
+    mul-node-of
+    shared-slice-read-node-of
+    node-of-requires
     same-length
     same-length-2
     returns)

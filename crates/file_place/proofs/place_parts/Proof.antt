@@ -1,19 +1,19 @@
 -- `place_parts` places one local part after another; so many are left.
 -- Each way out is one law of the turns.
 use borrow.Author.Needs.{needs}
-use mathlib.Core.Path.{ap, _∙_}
+use mathlib.Core.Path.{_∙_}
 use Prim.Native.Nat.{_-_}
 use native.Mathlib.Omega.{arith}
-use Rattle.store.specs.declared.record.PlaceAnswer.the-variants.{Handle}
+use Rattle.store.specs.Inner.{fillOf}
 use Rattle.file_place.proofs.Placements.{Turns, turns-start, turns-roomy, turns-node, turns-next, turns-refused, turns-done}
 use Rattle.file_place.proofs.place_parts.Statement.{statement}
 use Rattle.file_place.proofs.place_parts.Tie as tie
 
 abbrev Inv-loop : tie.InvT-loop
-Inv-loop nodes₀ lookup₀ words₀ bytes parts current₀ k₀ nodes lookup words current k = Turns current₀ nodes₀ lookup₀ words₀ bytes parts k current nodes lookup words
+Inv-loop capacity count₀ nodes₀ lookup₀ words₀ bytes parts k₀ count nodes lookup words k = Turns (fillOf capacity count₀) nodes₀ lookup₀ words₀ bytes parts k count nodes lookup words
 
 abbrev μ-loop : tie.MeasureT-loop
-μ-loop nodes₀ lookup₀ words₀ bytes parts current₀ k₀ nodes lookup words current k = parts - k
+μ-loop capacity count₀ nodes₀ lookup₀ words₀ bytes parts k₀ count nodes lookup words k = parts - k
 
 loop-holds : tie.Need-loop-holds Inv-loop μ-loop
 loop-holds c = search turns-start
@@ -26,30 +26,24 @@ place-part-requires c κs =
     let l = at-loop .loop in
     let p = at-start .pre in
     record {
-      roomy = turns-roomy (a .store) (a .nodes .now) (a .lookup .now) (a .words .now) (a .bytes) (a .parts) (p .few) (p .room) (p .local) (l .k) (l .current) (l .nodes) (l .lookup) (l .words) (l .inv) (p .roomy);
-      local = turns-node (a .store) (a .nodes .now) (a .lookup .now) (a .words .now) (a .bytes) (a .parts) (p .few) (p .room) (p .local) (l .k) (l .current) (l .nodes) (l .lookup) (l .words) (l .inv) ((c .before .before .before) .loop-test .taken);
+      roomy = turns-roomy (fillOf (a .capacity) (a .count .now)) (a .nodes .now) (a .lookup .now) (a .words .now) (a .bytes) (a .parts) (p .few) (p .room) (p .local) (l .k) (l .count) (l .nodes) (l .lookup) (l .words) (l .inv) (p .roomy);
+      local = turns-node (fillOf (a .capacity) (a .count .now)) (a .nodes .now) (a .lookup .now) (a .words .now) (a .bytes) (a .parts) (p .few) (p .room) (p .local) (l .k) (l .count) (l .nodes) (l .lookup) (l .words) (l .inv) ((c .before .before .before) .loop-test .taken);
       handles = l .inv .handles;
       room = omega (arith, p .room, l .inv .long);
       below = omega (arith, p .few, (c .before .before .before) .loop-test .taken);
     }
 
-enum-known-answer : tie.Need-enum-known-answer Inv-loop μ-loop
-enum-known-answer c = search needs
-
-enum-told : tie.Need-enum-told Inv-loop μ-loop
-enum-told c = search needs
-
 same-length : tie.Need-same-length Inv-loop μ-loop
 same-length c =
     let at-place-part : tie.After-place-part Inv-loop μ-loop = search in
     let at-loop : tie.At-loop Inv-loop μ-loop = search in
-    at-place-part .place-part .ensures .node-is .kept .long ∙ at-loop .loop .inv .kept .long
+    at-place-part .place-part .ensures .kept .long ∙ at-loop .loop .inv .kept .long
 
 same-length-2 : tie.Need-same-length-2 Inv-loop μ-loop
 same-length-2 c =
     let at-place-part : tie.After-place-part Inv-loop μ-loop = search in
     let at-loop : tie.At-loop Inv-loop μ-loop = search in
-    at-place-part .place-part .ensures .node-is .kept .long-lookup ∙ at-loop .loop .inv .kept .long-lookup
+    at-place-part .place-part .ensures .kept .long-lookup ∙ at-loop .loop .inv .kept .long-lookup
 
 same-length-3 : tie.Need-same-length-3 Inv-loop μ-loop
 same-length-3 c =
@@ -112,9 +106,6 @@ handle-at-requires c κs =
     let at-start : tie.Start Inv-loop μ-loop = search in
     let p = at-start .pre in (omega (arith, p .room, (c .before .before) .loop .inv .long), omega (arith, p .few))
 
-placed-requires : tie.Need-placed-requires Inv-loop μ-loop
-placed-requires c κs = search needs
-
 same-length-4 : tie.Need-same-length-4 Inv-loop μ-loop
 same-length-4 c =
     let at-loop : tie.At-loop Inv-loop μ-loop = search in
@@ -137,8 +128,8 @@ returns-2 c =
     let a = at-start .args in
     let l = at-loop .loop in
     let p = at-start .pre in
-    turns-done (a .store) (a .nodes .now) (a .lookup .now) (a .words .now) (a .bytes) (a .parts) (p .few) (p .room) (p .local) (l .k) (l .current) (l .nodes) (l .lookup) (l .words) (l .inv) (omega (arith, (c .before .before .before) .loop-test .left))
-    _ (c .placed .ensures .0) (c .placed .ensures .1 ∙ ap Handle ((c .before) .handle-at .ensures))
+    turns-done (fillOf (a .capacity) (a .count .now)) (a .nodes .now) (a .lookup .now) (a .words .now) (a .bytes) (a .parts) (p .few) (p .room) (p .local) (l .k) (l .count) (l .nodes) (l .lookup) (l .words) (l .inv) (omega (arith, (c .before .before) .loop-test .left))
+    (p .roomy) _ (c .handle-at .ensures)
 
 pub place-parts-spec : {M : Type 1} → statement M
 place-parts-spec =
@@ -148,8 +139,6 @@ place-parts-spec =
     μ-loop
     loop-holds
     place-part-requires
-    enum-known-answer
-    enum-told
     same-length
     same-length-2
     same-length-3
@@ -164,7 +153,6 @@ place-parts-spec =
     loop-again
     add-handle-at
     handle-at-requires
-    placed-requires
     same-length-4
     same-length-5
     same-length-6

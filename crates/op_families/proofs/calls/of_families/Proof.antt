@@ -1,19 +1,19 @@
 -- `of_families` tests in document 01's order, then runs the recursion and ends as every placing call does.
 -- Each way out is one law of refusing, or of a call that ran to its end.
-use mathlib.Core.Path.{_≡_, refl, sym, ap, _∙_}
+use mathlib.Core.Path.{_≡_, sym, _∙_}
 use native.Mathlib.Omega.{arith}
 use Prim.Native.Nat.{_+_}
 use Rattle.family.specs.Family.{largestItem}
-use Rattle.store.specs.Inner.{fillIn, reachedBy}
+use Rattle.store.specs.Inner.{fillIn}
 use Rattle.store.proofs.Growing.{kept-roomy}
 use Rattle.store.proofs.Testing.{Tested, tested-clear, placing-refused}
-use Rattle.store_undo.proofs.Finishing.{finished-gave}
+use Rattle.store_undo.proofs.Finishing.{finished-held}
 use Rattle.store_sides.proofs.Splitting.{low-largest}
 use Rattle.op_cache.specs.Inner.{callOf}
 use Rattle.op_promise.specs.Promise.{operationRefusal}
 use Rattle.op_promise.proofs.Refusing.{family-number, done}
 use Rattle.op_families.specs.Inner.{ApplyAsks}
-use Rattle.op_families.proofs.Shortcuts.{ran-terminal, ordered-step, ran-ordered}
+use Rattle.op_families.proofs.Shortcuts.{terminal-code, ran-terminal, ordered-step, ran-ordered}
 use borrow.Author.Needs.{needs}
 use Rattle.op_families.proofs.calls.of_families.Statement.{statement}
 use Rattle.op_families.proofs.calls.of_families.Tie as tie
@@ -82,9 +82,9 @@ returns-2 c =
     let at-told : tie.After-enum-told = search in
     let a = (start-of at-told) .args in
     done _ _ _ _ _ _ (passed at-told .fits) _ (none at-told) (omega arith)
-    (ran-terminal (asks at-told) (a .cache .now) (at-handle .handle .given .1) (at-shortcut .shortcut .ensures) (reachedBy (c .placed .result)) (ap fillIn (c .placed .ensures .0)) (c .placed .ensures .1))
-    (ap (λ s. s .limit) (c .placed .ensures .0))
-    (finished-gave (c .placed .result) (a .store .count) (a .nodes .now) (a .lookup .now) (a .cache .now) _ (c .placed .ensures .1))
+    (ran-terminal (asks at-told) (a .cache .now) (at-handle .handle .given .1) (at-shortcut .shortcut .ensures))
+    (finished-held (a .store) _ (a .nodes .now) (a .lookup .now) (a .cache .now) (c .placed .result)
+    (terminal-code (asks at-told) (a .cache .now) (at-handle .handle .given .1) (at-shortcut .shortcut .ensures)) (c .placed .ensures .0) (c .placed .ensures .1))
 
 enum-told-2 : tie.Need-enum-told-2
 enum-told-2 c = search needs
@@ -100,8 +100,8 @@ expand-requires c κs =
     let at-told : tie.After-enum-told = search in
     ordered-step (at-ordered .ordered .ensures) (asks at-told) (at-told2 .enum-told2 .given .1) (at-shortcut .shortcut .ensures)
 
-finish-coded-requires : tie.Need-finish-coded-requires
-finish-coded-requires c κs =
+finish-requires : tie.Need-finish-requires
+finish-requires c κs =
     let at-expand : tie.After-expand = search in
     let at-told : tie.After-enum-told = search in
     let K = at-expand .expand .ensures .kept in
@@ -118,12 +118,12 @@ same-length-3 c = search needs
 
 returns-3 : tie.Need-returns-3
 returns-3 c =
-    let at-finish : tie.After-finish-coded = search in
+    let at-finish : tie.After-finish = search in
     let at-expand : tie.After-expand = search in
     let at-ordered : tie.After-ordered = search in
     let at-told : tie.After-enum-told = search in
     let a = (start-of at-told) .args in
-    done _ _ _ _ _ _ (passed at-told .fits) _ (none at-told) (omega arith) (ran-ordered (at-ordered .ordered .ensures) (asks at-told) (a .cache .now) (at-expand .expand .ensures)) refl (at-finish .finish-coded .ensures)
+    done _ _ _ _ _ _ (passed at-told .fits) _ (none at-told) (omega arith) (ran-ordered (at-ordered .ordered .ensures) (asks at-told) (a .cache .now) (at-expand .expand .ensures)) (at-finish .finish .ensures)
 
 pub of-families-spec : {M : Type 1} → statement M
 of-families-spec =
@@ -141,7 +141,7 @@ of-families-spec =
     enum-told-2
     ordered-requires
     expand-requires
-    finish-coded-requires
+    finish-requires
     same-length
     same-length-2
     same-length-3

@@ -12,7 +12,7 @@ use Rattle.op_step.proofs.Steps.{node-asks, step-first, step-second, step-done}
 use Rattle.op_step.proofs.Outcomes.{ran-broken, ran-recalled}
 use Rattle.op_families.proofs.Forks.{fork-two, fork-broken}
 use Rattle.op_families.proofs.Splits.{split-families, level-item}
-use Rattle.op_families.proofs.Shortcuts.{coded-terminal, ordered-step, ran-ordered}
+use Rattle.op_families.proofs.Shortcuts.{ran-terminal, ordered-step, ran-ordered}
 use borrow.Author.Needs.{needs}
 use borrow.Fn.Kinds.{In}
 use borrow.Fn.PlainCycle.{Measures, is, falls, and}
@@ -61,7 +61,7 @@ apply-returns t c =
     let at-handle : apply-lts.After-handle (apply-claims t) (apply-at t) apply.Post = search in
     let at-shortcut : apply-lts.After-shortcut (apply-claims t) (apply-at t) apply.Post = search in
     let at-start : apply-lts.Start (apply-claims t) (apply-at t) apply.Post = search in
-    coded-terminal (at-start .pre .1) (at-start .args .cache .now) (at-handle .handle .given .1) (at-shortcut .shortcut .ensures)
+    ran-terminal (at-start .pre .1) (at-start .args .cache .now) (at-handle .handle .given .1) (at-shortcut .shortcut .ensures)
 
 apply-expand-requires : (t : ℕ) → apply-lts.Need-expand-requires (apply-claims t) (apply-at t) apply.Post
 apply-expand-requires t c κs =

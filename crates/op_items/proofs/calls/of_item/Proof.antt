@@ -1,7 +1,7 @@
 -- `of_item` tests in document 01's order, then runs the recursion and ends as every placing call does.
 -- Each way out is one law of refusing, or of a call that ran to its end.
 use Prim.Native.Nat.{_≤_}
-use mathlib.Core.Path.{_≡_, refl, sym, ap, _∙_}
+use mathlib.Core.Path.{_≡_, sym, ap, _∙_}
 use native.Mathlib.Omega.{arith}
 use Rattle.store.specs.Tests.{testNumber, testsOf}
 use Rattle.store.specs.Inner.{fillIn}
@@ -106,7 +106,7 @@ returns-2 c =
     let at-top-of : tie.After-top-of = search in
     let at-told : tie.After-enum-told = search in
     let P = passed at-told in
-    refused-top _ _ _ _ _ _ (P .fits) _ (P .passed .first) (omega (arith, at-top-of .top-of .ensures, (c .before) .if1 .taken)) (c .refused2 .result) (c .refused2 .ensures .0)
+    refused-top _ _ _ _ _ _ (P .fits) _ (P .passed .first) (omega (arith, at-top-of .top-of .ensures, (c .before) .if1 .taken)) (c .refused2 .result) _ (c .refused2 .ensures .0) (c .refused2 .ensures .1)
 
 leaf-requires : tie.Need-leaf-requires
 leaf-requires c κs =
@@ -115,8 +115,8 @@ leaf-requires c κs =
     let A = asks at-if1 in
     record { taken = A .taken; level-is = A .level-is; not-below = at-if2 .if2 .taken }
 
-finish-coded-requires : tie.Need-finish-coded-requires
-finish-coded-requires c κs =
+finish-requires : tie.Need-finish-requires
+finish-requires c κs =
     let at-leaf : tie.After-leaf = search in
     let at-if1 : tie.Else1 = search in
     let K = at-leaf .leaf .ensures .kept in
@@ -133,12 +133,12 @@ same-length-4 c = search needs
 
 returns-3 : tie.Need-returns-3
 returns-3 c =
-    let at-finish : tie.After-finish-coded = search in
+    let at-finish : tie.After-finish = search in
     let at-leaf : tie.After-leaf = search in
     let at-if1 : tie.Else1 = search in
     let at-told = told-of at-if1 in
     let a = (start-of at-told) .args in
-    done _ _ _ _ _ _ (passed at-told .fits) _ (none at-told) (an-item at-told .1) (plain-ran _ _ (fillIn (a .store)) (a .nodes .now) (a .lookup .now) (a .cache .now) (at-leaf .leaf .ensures)) refl (at-finish .finish-coded .ensures)
+    done _ _ _ _ _ _ (passed at-told .fits) _ (none at-told) (an-item at-told .1) (plain-ran _ _ (fillIn (a .store)) (a .nodes .now) (a .lookup .now) (a .cache .now) (at-leaf .leaf .ensures)) (at-finish .finish .ensures)
 
 expand-requires : tie.Need-expand-requires
 expand-requires c κs =
@@ -146,8 +146,8 @@ expand-requires c κs =
     let at-if1 : tie.Else1 = search in
     record { asks = asks at-if1; below = omega (arith, at-if2 .if2 .left) }
 
-finish-coded-requires-2 : tie.Need-finish-coded-requires-2
-finish-coded-requires-2 c κs =
+finish-requires-2 : tie.Need-finish-requires-2
+finish-requires-2 c κs =
     let at-expand : tie.After-expand = search in
     let at-if1 : tie.Else1 = search in
     let K = at-expand .expand .ensures .kept in
@@ -164,11 +164,11 @@ same-length-7 c = search needs
 
 returns-4 : tie.Need-returns-4
 returns-4 c =
-    let at-finish : tie.After-finish-coded2 = search in
+    let at-finish : tie.After-finish2 = search in
     let at-expand : tie.After-expand = search in
     let at-if1 : tie.Else1 = search in
     let at-told = told-of at-if1 in
-    done _ _ _ _ _ _ (passed at-told .fits) _ (none at-told) (an-item at-told .1) (at-expand .expand .ensures) refl (at-finish .finish-coded2 .ensures)
+    done _ _ _ _ _ _ (passed at-told .fits) _ (none at-told) (an-item at-told .1) (at-expand .expand .ensures) (at-finish .finish2 .ensures)
 
 pub of-item-spec : {M : Type 1} → statement M
 of-item-spec =
@@ -185,13 +185,13 @@ of-item-spec =
     same-length
     returns-2
     leaf-requires
-    finish-coded-requires
+    finish-requires
     same-length-2
     same-length-3
     same-length-4
     returns-3
     expand-requires
-    finish-coded-requires-2
+    finish-requires-2
     same-length-5
     same-length-6
     same-length-7

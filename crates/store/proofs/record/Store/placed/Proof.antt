@@ -1,5 +1,5 @@
--- `placed` gives the handle, with the record as it is.
--- It puts just these two together.
+-- `placed` gives the handle and the number added, with the record as it is.
+-- It puts just these together.
 use mathlib.Core.Path.{refl}
 use Rattle.store.proofs.record.Store.placed.Statement.{statement}
 use Rattle.store.proofs.record.Store.placed.Tie as tie
