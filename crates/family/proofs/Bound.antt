@@ -115,8 +115,8 @@ module _ (f : Bool → Bool → Bool) (z : f false false ≡ false) where
 
     no-more : partCount (combine f F G) ≤ mostParts F G
     no-more =
-        rw (← own-length F, ← own-length G, ← table-length f (place start F) (place start G))
-        (omega (arith, no-longer (place start (combine f F G)) wide apart inside, own-length (combine f F G), length-append start (table f (place start F) (place start G))))
+        let made : length (table f (place start F) (place start G)) ≡ mostParts F G = rw (table-length f (place start F) (place start G), own-length F, own-length G) in
+        omega (arith, no-longer (place start (combine f F G)) wide apart inside, own-length (combine f F G), length-append start (table f (place start F) (place start G)))
 
   -- for every rule that makes nothing of nothing
   pub parts-bound : (F G : Family) → Ordered F → Ordered G → partCount (combine f F G) ≤ mostParts F G

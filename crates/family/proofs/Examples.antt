@@ -1,6 +1,6 @@
 -- Worked examples of the definitions, computed by the checker: document 01's families, their numbers, and its files.
 -- Each holds by computation alone.
-use Prim.Native.Nat.{ℕ, zero, suc, _^_}
+use Prim.Native.Nat.{ℕ, zero, suc, _*_, _^_}
 use mathlib.Core.Path.{_≡_, refl}
 use mathlib.Core.Bool.{decide}
 use mathlib.Core.List.{[], _∷_}
@@ -8,6 +8,7 @@ use mathlib.Core.Option.{none, some}
 use Rattle.family.specs.Family.{Family, empty, base, node, members, size, parts}
 use Rattle.family.specs.Operation.{subset1, subset0, change, union, intsec, diff, combine}
 use Rattle.family.specs.Book.{start, same, add, place}
+use Rattle.family.specs.Parts.{partCount}
 use Rattle.family.specs.Record.{mapOf, recordBytes, readFields, readRecord}
 use Rattle.family.specs.File.{fileOf, familyOf, fileOfBook, readParts, lastOf, fits}
 
@@ -54,6 +55,20 @@ leave-two = refl
 equal-sides : union base (change 1 base) ≡ node 1 base base
 unfolding combine
 equal-sides = refl
+
+-- its different parts are itself and {{1}}
+parts-both : partCount both ≡ 2
+unfolding partCount same decide
+parts-both = refl
+
+-- a × b bounds no union: {} has no part, {{1}} has one, and so has their union
+product-none : partCount empty * partCount one ≡ 0
+unfolding partCount
+product-none = refl
+
+union-one : partCount (union empty one) ≡ 1
+unfolding partCount combine
+union-one = refl
 
 place-both : place start both ≡ empty ∷ base ∷ one ∷ both ∷ []
 unfolding same add decide

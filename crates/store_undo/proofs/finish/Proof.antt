@@ -1,6 +1,7 @@
 -- `finish` gives a handle with the difference of the two counts, and undoes what a refused call made.
 -- What `rollback` and `zero_groups` ensure is the definition's own, and each number stands for one answer.
 use mathlib.Core.Path.{refl, _∙_}
+use native.Mathlib.Omega.{arith}
 use Rattle.store.proofs.Codes.{coded-handle, coded-full, coded-damaged}
 use Rattle.store_undo.proofs.Finishing.{finished-gave, finished-undone}
 use borrow.Author.Needs.{needs}
@@ -29,7 +30,7 @@ rollback-requires : tie.Need-rollback-requires
 rollback-requires c κs =
     let at-with-count : tie.After-with-count = search in
     let at-start : tie.Start = search in
-    rw (at-with-count .with-count .ensures) (at-start .pre)
+    rw (at-with-count .with-count .ensures) (record { roomy = at-start .pre .roomy; fewer = omega (arith, at-start .pre .fewer) })
 
 zero-groups-requires : tie.Need-zero-groups-requires
 zero-groups-requires c κs = search needs
