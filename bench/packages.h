@@ -77,7 +77,7 @@ struct Ours {
     const Library &library;
     Words &words;
     zdd_store store;
-    size_t added = 0; // nodes, by the answers of all calls since
+    size_t added = 0; // the sum of what its calls say they added
     Ours(const Library &library, Words &words) : library(library), words(words) {
         auto r = library.fresh(words.nodes.data(), words.nodes.size(), words.lookup.data(), words.lookup.size(), words.cache.data(),
                                words.cache.size(), ZDD_LARGEST_ITEM);
