@@ -30,7 +30,7 @@ fn load(rng: &mut Random, shelf: &mut Shelf, book: &mut Book, f: &Family, tally:
 fn two_families_add_few_nodes() {
     let mut rng = Random::new(71);
     let mut tally = Tally::default();
-    for k in 0..2000 {
+    for k in 0..1000 {
         let limit = limit_of(k);
         let len = 1 + rng.below(7);
         let pool = rng.pool(len, limit);
@@ -45,5 +45,5 @@ fn two_families_add_few_nodes() {
             assert!(added <= (a + 2) * (b + 2), "{call:?} of {f:?} and {g:?} added {added}");
         }
     }
-    tally.close("two families of some parts", 2000, &[("Union", &[0]), ("Intsec", &[0]), ("Diff", &[0])]);
+    tally.close("Union, Intsec and Diff within their bound", 1000, &[("Union", &[0]), ("Intsec", &[0]), ("Diff", &[0])]);
 }
