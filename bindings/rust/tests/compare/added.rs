@@ -45,5 +45,9 @@ fn two_families_add_few_nodes() {
             assert!(added <= (a + 2) * (b + 2), "{call:?} of {f:?} and {g:?} added {added}");
         }
     }
-    tally.close("Union, Intsec and Diff within their bound", 1000, &[("Union", &[0]), ("Intsec", &[0]), ("Diff", &[0])]);
+    tally.close(
+        "Union, Intsec and Diff within their bound",
+        1000,
+        &[("Union", &[0]), ("Intsec", &[0]), ("Diff", &[0])],
+    );
 }
