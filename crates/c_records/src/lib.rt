@@ -107,7 +107,7 @@ pub fn placed(behind: Placed) -> CPlaced
     let store = behind.store;
     let answer = behind.answer;
     match answer {
-        PlaceAnswer::Handle { handle, added } => CPlaced {
+        PlaceAnswer::Handle(handle, added) => CPlaced {
             store: store,
             refusal: 0,
             handle: handle,

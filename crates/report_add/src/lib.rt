@@ -26,7 +26,7 @@ fn change_by(
         return placed;
     }
     let answer = placed.answer;
-    let PlaceAnswer::Handle { handle: p, added: _ } = answer else {
+    let PlaceAnswer::Handle(p, _) = answer else {
         return placed;
     };
     change(placed.store, nodes, lookup, cache, p, item)
@@ -64,7 +64,7 @@ pub fn add(
 {
     let made = make_combination(store, nodes, lookup, cache, items);
     let answer = made.answer;
-    let PlaceAnswer::Handle { handle: p, added: _ } = answer else {
+    let PlaceAnswer::Handle(p, _) = answer else {
         return made;
     };
     union(made.store, nodes, lookup, cache, family, p)

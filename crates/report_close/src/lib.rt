@@ -72,12 +72,12 @@ fn close_sums(
 {
     let first = intsec(store, nodes, lookup, cache, passed, returned);
     let first_answer = first.answer;
-    let PlaceAnswer::Handle { handle: both, added: _ } = first_answer else {
+    let PlaceAnswer::Handle(both, _) = first_answer else {
         return put_word(out, 0, b"report full\n");
     };
     let second = diff(first.store, nodes, lookup, cache, returned, passed);
     let second_answer = second.answer;
-    let PlaceAnswer::Handle { handle: only, added: _ } = second_answer else {
+    let PlaceAnswer::Handle(only, _) = second_answer else {
         return put_word(out, 0, b"report full\n");
     };
     let handles = FourHandles {

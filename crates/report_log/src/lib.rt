@@ -29,7 +29,7 @@ fn line_end(t: Tally, side: Side, placed: Placed) -> Tally
 {
     let store = placed.store;
     let answer = placed.answer;
-    let PlaceAnswer::Handle { handle: p, added: _ } = answer else {
+    let PlaceAnswer::Handle(p, _) = answer else {
         return tally_of(store, t.passed, t.returned, t.lines, Ending::Full);
     };
     let lines = bumped(t.lines);

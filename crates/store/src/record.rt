@@ -29,9 +29,9 @@ pub struct Store {
     pub limit: u32,
 }
 
-// What a call that places a family answers: its handle and how many nodes were added for it, or a refusal.
+// What a call that places a family answers: its handle and how many nodes were added, or a refusal.
 pub enum PlaceAnswer {
-    Handle { handle: u32, added: u32 },
+    Handle(u32, u32),
     Refused(Refusal),
 }
 
@@ -114,10 +114,7 @@ impl Store {
     {
         Placed {
             store: self,
-            answer: PlaceAnswer::Handle {
-                handle: handle,
-                added: added,
-            },
+            answer: PlaceAnswer::Handle(handle, added),
         }
     }
 

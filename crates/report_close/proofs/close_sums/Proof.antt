@@ -1,6 +1,7 @@
 -- The two calls of the closing sums, and the four sizes; or `report full`.
 -- The laws of `Closings` have one case for each way out.
 use borrow.Author.Needs.{needs}
+use mathlib.Core.Path.{_∙_}
 use native.Mathlib.Omega.{arith}
 use Rattle.report_close.proofs.Closings.{sums-first, sums-second, sums-written}
 use Rattle.report_close.proofs.close_sums.Statement.{statement}
@@ -58,7 +59,11 @@ same-length-8 : tie.Need-same-length-8
 same-length-8 c = search needs
 
 same-length-9 : tie.Need-same-length-9
-same-length-9 c = search needs
+same-length-9 c =
+    let at-diff : tie.After-diff = search in
+    let at-first-answer : tie.After-first-answer = search in
+    let at-intsec : tie.After-intsec = search (at-first-answer) in
+    at-diff .diff .ensures .lengths .0 ∙ at-intsec .intsec .ensures .lengths .0
 
 same-length-10 : tie.Need-same-length-10
 same-length-10 c = search needs
