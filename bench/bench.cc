@@ -72,9 +72,10 @@ template <class Visit> static void each_workload(Visit visit) {
     std::exit(1);
 }
 
-// Stops where another library leaves other words than this one.
+// Stops where another library leaves other words than this one, or says that it added other numbers of nodes.
 static void same_words(const std::string &name, const Ours &p, const Ours &q) {
     if (p.store.count != q.store.count) differ(name, "other counts");
+    if (p.added != q.added) differ(name, "other numbers of nodes added");
     if (p.words.nodes != q.words.nodes) differ(name, "other node words");
     if (p.words.lookup != q.words.lookup) differ(name, "other lookup words");
     bool in_c = &q.library == &plain || &q.library == &tuned;

@@ -77,6 +77,7 @@ struct Ours {
     const Library &library;
     Words &words;
     zdd_store store;
+    size_t added = 0; // the sum of what its calls say they added
     Ours(const Library &library, Words &words) : library(library), words(words) {
         auto r = library.fresh(words.nodes.data(), words.nodes.size(), words.lookup.data(), words.lookup.size(), words.cache.data(),
                                words.cache.size(), ZDD_LARGEST_ITEM);
@@ -85,10 +86,11 @@ struct Ours {
     }
     // the store of another library, as it is; and the same record over other words
     Ours(const Library &library, const Ours &other) : library(library), words(other.words), store(other.store) {}
-    Ours(const Ours &other, Words &words) : library(other.library), words(words), store(other.store) {}
+    Ours(const Ours &other, Words &words) : library(other.library), words(words), store(other.store), added(other.added) {}
     F take(const char *what, zdd_placed r) {
         if (r.refusal) stop(what, r.refusal);
         store = r.store;
+        added += r.added;
         return r.handle;
     }
 #define READ store, words.nodes.data(), words.nodes.size(), words.lookup.data(), words.lookup.size()

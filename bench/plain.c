@@ -37,7 +37,7 @@ static bool fits(zdd_store s, size_t node_words, size_t lookup_words) {
 
 static bool holds(zdd_store s, uint32_t p) { return p < 2 || p - 2 < s.count; }
 
-static zdd_placed refused(zdd_store s, uint32_t refusal) { return (zdd_placed){s, refusal, 0}; }
+static zdd_placed refused(zdd_store s, uint32_t refusal) { return (zdd_placed){s, refusal, 0, 0}; }
 
 static void zero_groups(words cache) {
     if (4 <= cache.length) memset(cache.at, 0, cache.length / 4 * 4 * sizeof *cache.at);
@@ -231,9 +231,9 @@ static void roll_back(words nodes, words lookup, uint32_t kept, uint32_t count) 
     }
 }
 
-/* Ends a call: a handle stays; after a refusal everything is as before, and the cache is 0. */
+/* Ends a call: a handle stays, with the number of nodes added; after a refusal everything is as before, and the cache is 0. */
 static zdd_placed finish(zdd_store s, uint32_t held, uint32_t result, words nodes, words lookup, words cache) {
-    if (result < FULL) return (zdd_placed){{s.capacity, held, s.limit}, 0, result};
+    if (result < FULL) return (zdd_placed){{s.capacity, held, s.limit}, 0, result, held - s.count};
     roll_back(nodes, lookup, s.count, held);
     zero_groups(cache);
     return refused(s, result == FULL ? ZDD_FULL : ZDD_DAMAGED);

@@ -42,7 +42,7 @@ static bool fits(zdd_store s, size_t node_words, size_t lookup_words) {
 
 static bool holds(zdd_store s, uint32_t p) { return p < 2 || p - 2 < s.count; }
 
-static zdd_placed refused(zdd_store s, uint32_t refusal) { return (zdd_placed){s, refusal, 0}; }
+static zdd_placed refused(zdd_store s, uint32_t refusal) { return (zdd_placed){s, refusal, 0, 0}; }
 
 static void zero_groups(uint32_t *cache, size_t cache_words) { memset(cache, 0, cache_words / 4 * 4 * sizeof *cache); }
 
@@ -173,7 +173,7 @@ static void open_store(context *c, zdd_store s, uint32_t *nodes, uint32_t *looku
 
 /* The end of a call that places: after no room everything is as before, and the cache is 0. */
 static zdd_placed placed(context *c, zdd_store s, uint32_t handle, CACHE) {
-    if (handle != NO_ROOM) return (zdd_placed){{s.capacity, c->count, s.limit}, 0, handle};
+    if (handle != NO_ROOM) return (zdd_placed){{s.capacity, c->count, s.limit}, 0, handle, c->count - s.count};
     take_back(c, s.count);
     zero_groups(cache, cache_words);
     return refused(s, ZDD_FULL);
@@ -407,7 +407,7 @@ static uint32_t place_parts(context *c, const context *table, uint32_t *handles,
 zdd_placed tuned_load(STORE, CACHE, const uint8_t *file, size_t file_bytes, uint32_t *scratch, size_t scratch_words) {
     if (!fits(s, node_words, lookup_words)) return refused(s, ZDD_DAMAGED);
     if (scratch_words / 6 < file_bytes) return refused(s, ZDD_SCRATCH);
-    if (file_bytes == 1 && (file[0] == 0 || file[0] == 2)) return (zdd_placed){s, 0, file[0] / 2};
+    if (file_bytes == 1 && (file[0] == 0 || file[0] == 2)) return (zdd_placed){s, 0, file[0] / 2, 0};
     if (file_bytes == 0 || file[0] != 1) return refused(s, ZDD_NO_FILE);
     context table, c;
     open_store(&table, (zdd_store){(uint32_t)file_bytes, 0, s.limit}, scratch, scratch + 3 * file_bytes, 2 * file_bytes, NULL, 0);

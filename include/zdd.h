@@ -13,9 +13,13 @@
  * On any words whatever, sound or not, a call reads and writes nothing but what it is lent, and ends.
  *
  * Refusals. The field `refusal` is 0 where the call is not refused, else a number below. Several at once: 1, 2, 3 for
- * Fresh; else 10, 4, 3, 7, 9, 13, 6, 8, 5. A refusal gives handle, size and length 0 and member false, and hands the
- * record back as it came. After 5 the nodes and the lookup are as before and the whole cache groups are 0; otherwise the
- * lent words stay as they were, but for the scratch where a call says so.
+ * Fresh; else 10, 4, 3, 7, 9, 13, 6, 8, 5. A refusal gives handle, added, size and length 0 and member false, and hands
+ * the record back as it came. After 5 the nodes and the lookup are as before and the whole cache groups are 0; otherwise
+ * the lent words stay as they were, but for the scratch where a call says so.
+ *
+ * Cost. A call that places a family adds a node for each of its different parts not yet held, and gives their number in
+ * `added`. The record's count grows by just that, on any words: the numbers since Fresh sum to it. Union, Intsec and Diff
+ * add at most (a + 2) * (b + 2) nodes, where p has a different parts and q has b.
  *
  * Damage. 10 is certain, and changes nothing, where the record's capacity is not the one that node_words gives, the
  * lookup is not longer than the capacity, the count is above the capacity, or the limit is not from 1 to 512. On a store
@@ -72,11 +76,12 @@ typedef struct {
     uint32_t refusal;
 } zdd_freshened;
 
-/* What a call that places a family gives. */
+/* What a call that places a family gives: its handle, and how many nodes were added for it. */
 typedef struct {
     zdd_store store;
     uint32_t refusal;
     uint32_t handle;
+    uint32_t added;
 } zdd_placed;
 
 /* What Size gives. */
@@ -123,8 +128,8 @@ uint32_t zdd_base(void);
 
 /* Subset1: the members of p with the item, the item taken out.
  * Needs: p at most count + 1; item from 1 to store.limit.
- * Leaves: the family placed, its handle given; each of its parts not yet held has the next number, its node words and
- *   its lookup slot; cache groups are zero or true.
+ * Leaves: the family placed, its handle given; each of its parts not yet held (there are `added`) has the next number, its
+ *   node words and its lookup slot; cache groups are zero or true.
  * Refusals: 10, 4, 3, 5. */
 zdd_placed zdd_subset1(zdd_store store, uint32_t *nodes, size_t node_words, uint32_t *lookup, size_t lookup_words,
                        uint32_t *cache, size_t cache_words, uint32_t p, uint32_t item);

@@ -89,16 +89,18 @@ static zdd_placed load(shelf *s, const uint8_t *file, size_t length) {
     return placed;
 }
 
-/* Whether a family of one store, loaded in the other and saved there, has the same bytes. */
+/* Whether a family of one store, loaded in the other and saved there, has the same bytes. Says what the Load cost. */
 static bool travels(const shelf *from, uint32_t family, shelf *to) {
     size_t length = 0, again = 0;
     uint8_t *file = save(from, family, &length);
-    uint32_t loaded = handle_of(to, "Load", load(to, file, length));
+    zdd_placed placed = load(to, file, length);
+    uint32_t loaded = handle_of(to, "Load", placed);
     uint8_t *copy = save(to, loaded, &again);
     bool same = length == again && memcmp(file, copy, length) == 0;
-    printf("limit %u to %u: handle %u with %llu members, %zu bytes; there handle %u, %zu bytes: %s\n",
+    printf("limit %u to %u: handle %u with %llu members, %zu bytes; there handle %u, %u nodes added, %zu bytes: %s\n",
            (unsigned)from->record.limit, (unsigned)to->record.limit, (unsigned)family,
-           (unsigned long long)size_of(from, family), length, (unsigned)loaded, again, same ? "equal" : "NOT EQUAL");
+           (unsigned long long)size_of(from, family), length, (unsigned)loaded, (unsigned)placed.added, again,
+           same ? "equal" : "NOT EQUAL");
     free(file);
     free(copy);
     return same;

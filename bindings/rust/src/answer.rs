@@ -33,6 +33,8 @@ pub struct Placed {
     pub refusal: u32,
     /// The handle; 0 where it is refused.
     pub handle: u32,
+    /// How many nodes were added, one for each different part not held before; 0 where it is refused.
+    pub added: u32,
 }
 
 /// What Size gives.

@@ -11,7 +11,7 @@
 //! let one = store.change(Store::BASE, 1)?;
 //! let two = store.change(Store::BASE, 512)?;
 //! let both = store.union(one, two)?;
-//! assert_eq!(store.size(both)?, 2);
+//! assert_eq!((store.size(both)?, store.added(), store.record().count), (2, 1, 3));
 //! assert!(store.has(both, Combination::of([512])?)?);
 //! assert_eq!(store.change(both, 513), Err(Refusal::Item));
 //!

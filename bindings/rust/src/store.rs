@@ -6,6 +6,7 @@ use crate::{Combination, Placed, Record, Refusal};
 #[derive(Clone, Debug)]
 pub struct Store {
     record: Record,
+    added: u32,
     nodes: Vec<u32>,
     lookup: Vec<u32>,
     cache: Vec<u32>,
@@ -26,8 +27,8 @@ impl Store {
 
     /// An empty store with so many node, lookup and cache words, for the items from 1 to the limit.
     pub fn with_lengths(nodes: usize, lookup: usize, cache: usize, limit: u32) -> Result<Store, Refusal> {
-        let mut store =
-            Store { record: Record::default(), nodes: vec![0; nodes], lookup: vec![0; lookup], cache: vec![0; cache] };
+        let (nodes, lookup, cache) = (vec![0; nodes], vec![0; lookup], vec![0; cache]);
+        let mut store = Store { record: Record::default(), added: 0, nodes, lookup, cache };
         let words = Words { nodes: &mut store.nodes, lookup: &mut store.lookup, cache: &mut store.cache };
         store.record = calls::fresh(words, limit).result()?;
         Ok(store)
@@ -36,6 +37,12 @@ impl Store {
     /// The record: capacity, count and limit.
     pub fn record(&self) -> Record {
         self.record
+    }
+
+    /// How many nodes the last call that places a family added: 0 where it was refused, and on a new store. All these
+    /// numbers since the store was new sum to the record's count.
+    pub fn added(&self) -> u32 {
+        self.added
     }
 
     /// The node words: item, zero child and one child of node k from word 3(k - 2) on.
@@ -52,6 +59,7 @@ impl Store {
         let words = Words { nodes: &mut self.nodes, lookup: &mut self.lookup, cache: &mut self.cache };
         let placed = call(self.record, words);
         self.record = placed.store;
+        self.added = placed.added;
         placed.result()
     }
 

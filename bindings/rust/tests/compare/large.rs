@@ -38,7 +38,7 @@ fn many_combinations() -> Result<(), Refusal> {
     assert_eq!(Store::new(count - 1, 64, top(&family))?.load(&file), Err(Refusal::Full));
     assert_eq!(Store::new(count - 1, 64, top(&family) - 1)?.load(&file), Err(Refusal::AboveLimit));
     let mut store = Store::new(count, 64, 512)?;
-    assert_eq!(store.load(&file), Ok(last));
+    assert_eq!((store.load(&file), store.added()), (Ok(last), count));
     let words = node_words(&book);
     assert_eq!(store.nodes(), words);
     assert_eq!(store.lookup(), entered(&words, store.lookup().len()));

@@ -72,17 +72,20 @@ fn asked(rng: &mut Random, book: &Book, p: u32, makings: &Makings) -> std::colle
     c
 }
 
-// A list of so many calls on a new store; files saved on the way, whole or damaged, are loaded later, in other lists too.
+// A list of so many calls on a new store, whose added numbers sum to the count; files saved on the way, whole or damaged, are
+// loaded later, in other lists too.
 fn list(rng: &mut Random, capacity: usize, calls: usize, makings: &mut Makings, tally: &mut Tally) {
     let lookup = capacity + 1 + rng.below(2 * capacity);
     let cache = rng.pick(&[0, 3, 4, 16, 67, 256]);
     let nodes = 3 * capacity + rng.below(3);
     let mut shelf = Shelf::fresh(rng, nodes, lookup, cache, makings.limit);
     let mut book = Book::start();
+    let mut added = 0;
     for _ in 0..calls {
         let call = any_call(rng, &book, makings);
         let lent = if rng.once_in(3) { rng.below(cache + 1) } else { cache };
-        compare(&mut shelf, &mut book, &call, lent, rng, tally);
+        added += compare(&mut shelf, &mut book, &call, lent, rng, tally);
+        assert_eq!(added, shelf.record.count, "the sum of the added numbers after {call:?}");
         let handle = rng.below(book.count() as usize + 2) as u32;
         if rng.once_in(12) {
             let file = file_of(book.at(handle).expect("held"));

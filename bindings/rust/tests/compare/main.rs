@@ -1,4 +1,5 @@
 //! Comparison runs: every call of the library against the plain implementation of documents 01 and 02 in `plain`.
+mod added;
 mod damage;
 mod faults;
 mod files;

@@ -8,8 +8,16 @@ use crate::shelf::{Seen, Shelf};
 use crate::tally::Tally;
 use zdd::Record;
 
-/// Makes the call on both sides, with so much of the cache lent, and compares all that it gives and leaves.
-pub fn compare(shelf: &mut Shelf, book: &mut Book, call: &Call, lent: usize, rng: &mut Random, tally: &mut Tally) {
+/// Makes the call on both sides, with so much of the cache lent, and compares all that it gives and leaves. Gives the
+/// number of nodes that it added.
+pub fn compare(
+    shelf: &mut Shelf,
+    book: &mut Book,
+    call: &Call,
+    lent: usize,
+    rng: &mut Random,
+    tally: &mut Tally,
+) -> u32 {
     let before = shelf.clone();
     let held = book.count() as usize;
     let opening = Opening { capacity: before.record.capacity, limit: before.record.limit };
@@ -22,6 +30,7 @@ pub fn compare(shelf: &mut Shelf, book: &mut Book, call: &Call, lent: usize, rng
     cache_words(&before, shelf, book, call, lent, expected.refusal);
     scratch_words(&seen, book, call, held, expected.refusal);
     tally.add(call.name(), expected.refusal);
+    seen.answer.added
 }
 
 // Node words and lookup are those of the book; node words past the capacity's stay.
@@ -42,7 +51,7 @@ fn cache_words(before: &Shelf, after: &Shelf, book: &Book, call: &Call, lent: us
     assert_eq!(new[whole..], old[whole..], "cache words past the whole groups lent after {call:?}");
     match (call, refusal) {
         (Call::Audit, _) | (_, 5) => assert!(new[..whole].iter().all(|word| *word == 0), "the cache after {call:?}"),
-        (Call::Operation { .. } | Call::Load { .. }, 0) => {
+        (_, 0) if call.places() => {
             assert!(is_true(book, before.record.limit, &new[..whole]), "the cache after {call:?}")
         }
         _ => assert_eq!(new[..whole], old[..whole], "the cache after {call:?}"),

@@ -28,6 +28,13 @@ fn call(store: &mut Store, call: &Call) -> Result<Answer, Refusal> {
     Ok(answer)
 }
 
+// Its answer, refused or not; a call that places leaves the number that it added in the store.
+fn answer(store: &mut Store, each: &Call) -> Answer {
+    let refused = |refusal: Refusal| Answer { refusal: refusal.number(), ..Answer::default() };
+    let given = call(store, each).unwrap_or_else(refused);
+    Answer { added: if each.places() { store.added() } else { 0 }, ..given }
+}
+
 // The same call with scratch and output long enough.
 fn with_room(call: Call) -> Call {
     match call {
@@ -53,9 +60,7 @@ fn lists_on_an_owned_store() {
         for _ in 0..60 {
             let each = with_room(any_call(&mut rng, &book, &makings));
             let expected = book.answer(Opening { capacity, limit }, &each);
-            let seen = call(&mut store, &each)
-                .unwrap_or_else(|refusal| Answer { refusal: refusal.number(), ..Answer::default() });
-            assert_eq!(seen, expected, "{each:?}");
+            assert_eq!(answer(&mut store, &each), expected, "{each:?}");
             assert_eq!(store.record(), Record { capacity, count: book.count(), limit });
             tally.add(each.name(), expected.refusal);
             let handle = rng.below(book.count() as usize + 2) as u32;
@@ -85,6 +90,22 @@ fn refusals_by_name() {
         assert_eq!(Refusal::of(number).map(Refusal::number), known.then_some(number));
     }
     assert_eq!(Refusal::Full.to_string(), "refused with 5: full");
+}
+
+#[test]
+fn added_is_of_the_last_call_that_places() -> Result<(), Refusal> {
+    let mut store = Store::new(3, 4, 64)?;
+    assert_eq!(store.added(), 0);
+    let one = store.change(Store::BASE, 64)?;
+    assert_eq!(store.added(), 1);
+    assert_eq!((store.size(one)?, store.has(one, Combination::of([64])?)?, store.audit()), (1, true, true));
+    let file = store.save(one)?;
+    assert_eq!(store.added(), 1);
+    store.change(one, 1)?;
+    assert_eq!((store.added(), store.record().count), (2, 3));
+    assert_eq!((store.change(one, 2), store.added()), (Err(Refusal::Full), 0));
+    assert_eq!((store.load(&file)?, store.added()), (one, 0));
+    Ok(())
 }
 
 #[test]

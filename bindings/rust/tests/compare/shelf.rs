@@ -122,7 +122,7 @@ impl Shelf {
 }
 
 fn placed(r: Placed) -> (Record, Answer) {
-    (r.store, Answer { refusal: r.refusal, handle: r.handle, ..Answer::default() })
+    (r.store, Answer { refusal: r.refusal, handle: r.handle, added: r.added, ..Answer::default() })
 }
 
 fn lengths(call: &Call) -> (usize, usize, usize) {

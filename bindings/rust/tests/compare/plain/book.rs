@@ -52,8 +52,8 @@ impl Book {
     }
 
     /// How many different parts are not yet held.
-    pub fn missing(&self, f: &Family) -> usize {
-        parts(f).into_iter().filter(|part| self.number(part).is_none()).collect::<BTreeSet<_>>().len()
+    pub fn missing(&self, f: &Family) -> u32 {
+        parts(f).into_iter().filter(|part| self.number(part).is_none()).collect::<BTreeSet<_>>().len() as u32
     }
 
     /// Puts each part not yet held at the end, in visiting order; gives the family's number.

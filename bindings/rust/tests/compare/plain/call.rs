@@ -26,6 +26,7 @@ pub enum Call {
 pub struct Answer {
     pub refusal: u32,
     pub handle: u32,
+    pub added: u32,
     pub size: u64,
     pub yes: bool,
     pub length: usize,
@@ -47,6 +48,11 @@ impl Call {
             Call::Load { .. } => "Load",
             Call::Audit => "Audit",
         }
+    }
+
+    /// Whether it places a family.
+    pub fn places(&self) -> bool {
+        matches!(self, Call::Operation { .. } | Call::Load { .. })
     }
 }
 
@@ -101,10 +107,11 @@ impl Book {
     }
 
     fn placed(&mut self, capacity: u32, f: &Family) -> Answer {
-        if self.missing(f) > (capacity - self.count()) as usize {
+        let added = self.missing(f);
+        if added > capacity - self.count() {
             return refused(5);
         }
-        Answer { handle: self.place(f), ..Answer::default() }
+        Answer { handle: self.place(f), added, ..Answer::default() }
     }
 }
 
