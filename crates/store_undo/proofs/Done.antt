@@ -17,7 +17,7 @@ use Rattle.table.proofs.OwnSlots.{cleared-length}
 use Rattle.store.specs.declared.record.Store.{Store}
 use Rattle.store.specs.declared.record.Refusal.{Refusal}
 use Rattle.store.specs.declared.record.Refusal.the-variants.{Full}
-use Rattle.store.specs.declared.record.PlaceAnswer.the-variants.{Handle as Given, Refused as Denied}
+use Rattle.store.specs.declared.record.PlaceAnswer.the-variants.{Handle as HandsOut, Refused as Denies}
 use Rattle.store.specs.declared.record.Placed.{Placed}
 use Rattle.store.specs.Capacity.{capacityOf, counting, fitting}
 use Rattle.store.specs.Refusals.{refusalNumber, refusedBy, givenBy}
@@ -51,7 +51,7 @@ module _ (s : Store) (nodes lookup cache : List ℕ) where
 
     module _ (h : ℕ) (eh : answerOf coded ≡ Handle h) where
       module _ (S : Sound s nodes lookup cache) where
-        given : Handed (s .limit) (place (bookOf nodes (s .count)) (F (bookOf nodes (s .count)))) (F (bookOf nodes (s .count))) h (held) nodes₁ lookup₁
+        given : Handed (s .limit) (place (bookOf nodes (s .count)) (F (bookOf nodes (s .count)))) (F (bookOf nodes (s .count))) h held nodes₁ lookup₁
         given = handed-of eh (R .sound (bookOf nodes (s .count)) low (sound-holds S) (S .cached))
 
         fits : tooLarge (s .capacity) (bookOf nodes (s .count)) (F (bookOf nodes (s .count))) ≡ false
@@ -70,7 +70,7 @@ module _ (s : Store) (nodes lookup cache : List ℕ) where
         added-is : held - s .count ≡ costOf (bookOf nodes (s .count)) (F (bookOf nodes (s .count)))
         added-is = omega (arith, given .holds .size, sound-holds S .size, cost-length (bookOf nodes (s .count)) (F (bookOf nodes (s .count))))
 
-        left : leaves (record { store = counting s held; answer = Given h (held - s .count) }) nodes₁ lookup₁ ≡ placing 0 (F (bookOf nodes (s .count))) s nodes lookup
+        left : leaves (record { store = counting s held; answer = HandsOut h (held - s .count) }) nodes₁ lookup₁ ≡ placing 0 (F (bookOf nodes (s .count))) s nodes lookup
         unfolding placing placeAnswer placeBook
         left =
             rw fits (left-is
@@ -106,7 +106,7 @@ module _ (s : Store) (nodes lookup cache : List ℕ) where
       as-came : r .store ≡ s
       as-came = E .undone x ex .0
 
-      ea : r .answer ≡ Denied x
+      ea : r .answer ≡ Denies x
       ea = E .undone x ex .1
 
       U : RolledBack (counting s held) nodes₁ lookup₁ (s .count) nodes₂ lookup₂
@@ -126,14 +126,14 @@ module _ (s : Store) (nodes lookup cache : List ℕ) where
         record Over : Type 0 where
           is : x ≡ Full
           D : List Family
-          holds : Holds (s .limit) D (held) nodes₁ lookup₁
+          holds : Holds (s .limit) D held nodes₁ lookup₁
           big : s .capacity + 2 < length (place (bookOf nodes (s .count)) (F (bookOf nodes (s .count))))
 
         over : Over
         over = out (answerOf coded) ex (R .sound (bookOf nodes (s .count)) low (sound-holds S) (S .cached))
           where
             out : (a : Reply) → a ≡ Refused x
-                → Outcome (s .limit) (place (bookOf nodes (s .count)) (F (bookOf nodes (s .count)))) (F (bookOf nodes (s .count))) (s .capacity) (held) nodes₁ lookup₁ a → Over
+                → Outcome (s .limit) (place (bookOf nodes (s .count)) (F (bookOf nodes (s .count)))) (F (bookOf nodes (s .count))) (s .capacity) held nodes₁ lookup₁ a → Over
             out a q (gave G) = absurd (let z : _≡_ {A = ℕ} 0 1 = cc in omega arith)
             out a q (full D H l) = record { is = cc; D = D; holds = H; big = l }
 

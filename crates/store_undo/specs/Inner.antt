@@ -7,7 +7,7 @@ use Rattle.words.specs.Words.{zeroed}
 use Rattle.table.specs.Own.{cleared}
 use Rattle.store.specs.declared.record.Store.{Store}
 use Rattle.store.specs.declared.record.Refusal.{Refusal}
-use Rattle.store.specs.declared.record.PlaceAnswer.the-variants.{Handle as Given, Refused as Denied}
+use Rattle.store.specs.declared.record.PlaceAnswer.the-variants.{Handle as HandsOut, Refused as Denies}
 use Rattle.store.specs.declared.record.Placed.{Placed}
 use Rattle.store.specs.Capacity.{counting}
 use Rattle.store.specs.Inner.{fillIn, Handle, Refused, Roomy}
@@ -27,6 +27,6 @@ pub record RolledBack (s : Store) (nodes lookup : List ℕ) (keep : ℕ) (nodes�
 -- the two counts; refused, with the record as it came, those nodes taken back and the whole cache groups zeroed.
 pub record Finished (s : Store) (held coded : ℕ) (nodes lookup cache : List ℕ) (r : Placed) (nodes′ lookup′ cache′ : List ℕ) : Type 0 where
   pub gave : (h : ℕ) → answerOf coded ≡ Handle h
-      → (r .store ≡ counting s held) × (r .answer ≡ Given h (held - s .count)) × (nodes′ ≡ nodes) × (lookup′ ≡ lookup) × (cache′ ≡ cache)
+      → (r .store ≡ counting s held) × (r .answer ≡ HandsOut h (held - s .count)) × (nodes′ ≡ nodes) × (lookup′ ≡ lookup) × (cache′ ≡ cache)
   pub undone : (x : Refusal) → answerOf coded ≡ Refused x
-      → (r .store ≡ s) × (r .answer ≡ Denied x) × RolledBack (counting s held) nodes lookup (s .count) nodes′ lookup′ × (cache′ ≡ zeroed 0 (length cache / 4 * 4) cache)
+      → (r .store ≡ s) × (r .answer ≡ Denies x) × RolledBack (counting s held) nodes lookup (s .count) nodes′ lookup′ × (cache′ ≡ zeroed 0 (length cache / 4 * 4) cache)
