@@ -2,12 +2,12 @@
 -- Fresh leaves a count of 0, and each call's promise says by how much it grows the count: a call that places by the
 -- number added, every other call by nothing.
 use Prim.Native.Nat.{ℕ, _+_}
-use mathlib.Core.Path.{_≡_, refl, sym, ap, _∙_}
+use mathlib.Core.Path.{_≡_, ap}
 use mathlib.Core.List.{List, [], _∷_, _++_}
 use native.Mathlib.Omega.{arith}
-use Rattle.store_fresh.proofs.Freshly.{fresh-passed, fresh-is}
 use Rattle.lists.specs.Calls.{Call, Answer, addedBy, addedSum}
 use Rattle.lists.specs.Runs.{State, Opening, Step, operates, sizes, asks, saves, loads, audits, Runs, fresh, next}
+use Rattle.lists.proofs.Invariant.{size, fresh-inv}
 
 sum-snoc : (answers : List Answer) (a : Answer) → addedSum (answers ++ (a ∷ [])) ≡ addedSum answers + addedBy (a .value)
 sum-snoc [] a = omega arith
@@ -23,7 +23,5 @@ step-counts (loads lent P) = P .places .counted
 step-counts (audits lent P) = omega (arith, ap (λ s. s .count) (P .store-is))
 
 pub sums : {o : Opening} {calls : List Call} {answers : List Answer} {x : State} → Runs o calls answers x → addedSum answers ≡ x .store .count
-sums {o} (fresh P e) =
-    let fits = fresh-passed (o .limit) (o .nodes) (o .lookup) (o .cache) (sym (ap (λ l. l .refusal) (P .leaves-is)) ∙ e) in
-    sym (ap (λ l. l .store .count) (P .leaves-is ∙ fresh-is (o .limit) (o .nodes) (o .lookup) (o .cache) fits))
+sums {o} (fresh P e) = omega (arith, size (fresh-inv o P e))
 sums (next {answers = answers} {answer = answer} R s) = omega (arith, sum-snoc answers answer, sums R, step-counts s)
