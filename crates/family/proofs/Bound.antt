@@ -1,7 +1,7 @@
 -- A family made of two part by part has at most (a + 2) × (b + 2) different parts, a and b those of the two.
 -- Each of its parts is made of a part, {} or {{}} of each side; and a book is no longer than a list that holds all its
 -- families.
-use Prim.Native.Nat.{ℕ, zero, suc, _+_, _*_, _≤_, _<_, max}
+use Prim.Native.Nat.{ℕ, zero, suc, _+_, _-_, _*_, _≤_, _<_, max}
 use mathlib.Core.Path.{_≡_, sym, ap, _∙_}
 use mathlib.Core.Logic.{⊎-elim}
 use mathlib.Core.Bool.{Bool, false}
@@ -78,7 +78,9 @@ add-all-length B [] = omega arith
 add-all-length B (F ∷ Fs) = by-held B F (λ h e. rw e (omega (arith, add-all-length B Fs))) (λ h e. omega (arith, add-all-length (add B F) Fs, add-length B F h))
 
 pub place-bound : {t : ℕ} (B : List Family) (F : Family) → Book t B → length (place B F) ≤ length B + partCount F
-place-bound B F k = rw (← place-own B F k) (omega (arith, add-all-length B (drop 2 (place start F)), length-drop {A = Family} {n = 2} {xs = place start F}, own-length F))
+place-bound B F k =
+    let e : length (drop 2 (place start F)) ≡ length (place start F) - 2 = rw length-drop in
+    rw (← place-own B F k) (omega (arith, add-all-length B (drop 2 (place start F)), own-length F))
 
 module _ (f : Bool → Bool → Bool) (z : f false false ≡ false) where
   -- level by level: a part of what F and G make is made of two families held with them
@@ -96,7 +98,7 @@ module _ (f : Bool → Bool → Bool) (z : f false false ≡ false) where
     own = book-place start (combine f F G) (book-start t) (within-combine f z F G wF wG) .0
 
     -- {}, {{}}, and all that two own books make
-    wide : List Family
+    abbrev wide : List Family
     wide = start ++ table f (place start F) (place start G)
 
     inside : (k : ℕ) → k < length (place start (combine f F G)) → Held wide (at (place start (combine f F G)) k)

@@ -28,13 +28,12 @@ use Rattle.store.specs.Capacity.{fitting}
 use Rattle.store.specs.Promise.{PlaceCall}
 use Rattle.store_undo.specs.Inner.{Finished}
 use Rattle.store.specs.Coded.{reachedAs}
-use Rattle.store.specs.Inner.{fillOf, fillIn, Roomy, Holds}
+use Rattle.store.specs.Inner.{fillIn, Holds}
 use Rattle.store.specs.Words.{topAt}
 use Rattle.store.proofs.Held.{at-0, at-1, top-at}
 use Rattle.store_undo.proofs.Finishing.{finished-held}
 use Rattle.store_undo.proofs.Done.{call-done}
 use Rattle.store.proofs.Calls.{refusal-some, call-refused}
-use Rattle.store.proofs.Growing.{kept-roomy}
 use Rattle.store.proofs.Plain.{plain-coded, plain-ran}
 use Rattle.store.proofs.Codes.{coded-held}
 use Rattle.file_read.specs.declared.file.Content.{Content}
@@ -174,9 +173,6 @@ module _ (s : Store) (nodes lookup cache file words : List ℕ) (r : Placed) whe
             kept (refusal-above (s .limit) file (length words) room (at (R .book) (n + 1)) (R .is) (omega (arith, top-is))) refl (call-refused s nodes lookup cache 13 _ r AboveLimit e refl (omega arith) es ea) (A .long) (A .rest)
 
         module _ {held coded : ℕ} {nodes₁ lookup₁ words₂ : List ℕ} (W : PlacedOf (fillIn s) nodes lookup words₁ (length file) n (reachedAs (s .capacity) held coded) nodes₁ lookup₁ words₂) where
-          pub load-roomy : Roomy (fillOf (s .capacity) held) nodes₁ lookup₁
-          load-roomy = kept-roomy (W .kept) (P .roomy)
-
           pub load-parts : topAt words₁ (n + 1) ≤ s .limit → {nodes₂ lookup₂ cache₂ : List ℕ} → Finished s held coded nodes₁ lookup₁ cache r nodes₂ lookup₂ cache₂ → LoadCall s nodes lookup cache file words r nodes₂ lookup₂ cache₂ words₂
           load-parts h E =
               let F = at (R .book) (n + 1) in

@@ -147,7 +147,7 @@ module _ (s : Fill) (nodes₀ lookup₀ words₀ : List ℕ) (b n : ℕ) where
             one-before = omega (arith, E .one-before, one-same);
           }
 
-      module _ {m coded : ℕ} {nodes₁ lookup₁ : List ℕ}
+      module _ {m : ℕ} (coded : ℕ) {nodes₁ lookup₁ : List ℕ}
           (P : NodeIt (fillOf (s .capacity) count) nodes lookup (getD words (3 * k) 0) (handleIn b words (getD words (3 * k + 1) 0)) (handleIn b words (getD words (3 * k + 2) 0)) (reachedAs (s .capacity) m coded) nodes₁ lookup₁) where
         kept-on : Kept s nodes₀ lookup₀ (fillOf (s .capacity) m) nodes₁ lookup₁
         kept-on = kept-trans (I .kept) (P .kept)

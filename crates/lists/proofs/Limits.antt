@@ -71,7 +71,7 @@ module _ (limit : ℕ) where
   file-within (x ∷ l) F e =
       by-eq x 1 (λ p t. parts-within l F (rw t at e))
       (λ p t. by-eq x 0
-      (λ p₀ t₀. alone-within empty F l (empty-within limit) (rw (t, t₀) at e))
+      (λ p₀ t₀. alone-within empty F l (record { ordered = tt; low = omega arith }) (rw (t, t₀) at e))
       (λ n₀ t₀. by-eq x 2
       (λ p₂ t₂. alone-within base F l (record { ordered = tt; low = omega arith }) (rw (t, t₀, t₂) at e))
       (λ n₂ t₂. not-some (rw (t, t₀, t₂) at e))))

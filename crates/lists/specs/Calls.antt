@@ -49,4 +49,4 @@ addedBy (Writes long bytes) = 0
 -- their sum over the answers of a list
 abbrev pub addedSum : List Answer → ℕ
 addedSum [] = 0
-addedSum (a ∷ as) = addedBy (a .value) + addedSum as
+addedSum (a ∷ rest) = addedBy (a .value) + addedSum rest

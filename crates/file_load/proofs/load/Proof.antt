@@ -1,12 +1,26 @@
 -- `load` tests the record and the scratch, reads the file, compares its top with the limit and places its parts.
 -- Each way out is one law of loading.
+use Prim.Native.Nat.{_/_}
 use mathlib.Core.Path.{_∙_}
 use native.Mathlib.Omega.{arith}
-use Rattle.store.proofs.Testing.{tested-clear}
-use Rattle.file_load.proofs.Loads.{parts-of, parts-nodes, load-refused, load-none, load-leaf, load-above, load-roomy, load-parts}
+use lib.ListN.{length}
+use Rattle.store.proofs.Growing.{kept-roomy}
+use Rattle.store.proofs.Testing.{Tested, tested-clear}
+use Rattle.file_load.proofs.Loads.{parts-of, parts-nodes, load-refused, load-none, load-leaf, load-above, load-parts}
 use borrow.Author.Needs.{needs}
 use Rattle.file_load.proofs.load.Statement.{statement}
 use Rattle.file_load.proofs.load.Tie as tie
+
+-- what stands before the tests passed
+abbrev start-of : tie.After-enum-told → tie.Start
+start-of c = search
+
+-- the tests passed
+passed : (c : tie.After-enum-told) → let a = (start-of c) .args in Tested (a .store) (a .nodes .now) (a .lookup .now) 0 0 0 (length (a .words .now) / 6) (length (a .file .now))
+passed c =
+    let at-tested : tie.After-tested = search in
+    let a = (start-of c) .args in
+    tested-clear (a .nodes .now) (a .lookup .now) (at-tested .tested .ensures) (c .enum-told .given .1)
 
 tested-requires : tie.Need-tested-requires
 tested-requires c κs = search needs
@@ -27,11 +41,7 @@ enum-told c = search needs
 read-file-requires : tie.Need-read-file-requires
 read-file-requires c κs =
     let at-told : tie.After-enum-told = search in
-    let at-tested : tie.After-tested = search in
-    let at-start : tie.Start = search in
-    let a = at-start .args in
-    let P = tested-clear (a .nodes .now) (a .lookup .now) (at-tested .tested .ensures) (at-told .enum-told .given .1) in
-    omega (arith, P .passed .room)
+    omega (arith, passed at-told .passed .room)
 
 enum-known-content : tie.Need-enum-known-content
 enum-known-content c = search needs
@@ -53,10 +63,7 @@ top-of-requires c κs =
     let at-content2 : tie.After-content2 = search in
     let at-read-file : tie.After-read-file = search (at-content2) in
     let at-told : tie.After-enum-told = search (at-read-file) in
-    let at-tested : tie.After-tested = search (at-told) in
-    let at-start : tie.Start = search (at-tested) in
-    let a = at-start .args in
-    let P = tested-clear (a .nodes .now) (a .lookup .now) (at-tested .tested .ensures) (at-told .enum-told .given .1) in
+    let P = passed at-told in
     let R = parts-of _ (at-content2 .content2 .given .1) (at-read-file .read-file .ensures .outcome) in
     record { held = omega arith; words = omega (arith, R .few, at-read-file .read-file .ensures .long, P .passed .room) }
 
@@ -73,11 +80,8 @@ returns-2 c =
     let at-content2 : tie.After-content2 = search (at-top-of) in
     let at-read-file : tie.After-read-file = search (at-content2) in
     let at-told : tie.After-enum-told = search (at-read-file) in
-    let at-tested : tie.After-tested = search (at-told) in
-    let at-start : tie.Start = search (at-tested) in
-    let a = at-start .args in
-    let P = tested-clear (a .nodes .now) (a .lookup .now) (at-tested .tested .ensures) (at-told .enum-told .given .1) in
-    load-above (a .store) (a .nodes .now) (a .lookup .now) (a .cache .now) (a .file .now) (a .words .now) _ P (at-read-file .read-file .ensures) _ (at-content2 .content2 .given .1)
+    let a = (start-of at-told) .args in
+    load-above (a .store) (a .nodes .now) (a .lookup .now) (a .cache .now) (a .file .now) (a .words .now) _ (passed at-told) (at-read-file .read-file .ensures) _ (at-content2 .content2 .given .1)
     (omega (arith, at-top-of .top-of .ensures, at-then .if1 .taken)) (c .refused2 .ensures .0) (c .refused2 .ensures .1)
 
 place-parts-requires : tie.Need-place-parts-requires
@@ -85,10 +89,7 @@ place-parts-requires c κs =
     let at-content2 : tie.After-content2 = search in
     let at-read-file : tie.After-read-file = search (at-content2) in
     let at-told : tie.After-enum-told = search (at-read-file) in
-    let at-tested : tie.After-tested = search (at-told) in
-    let at-start : tie.Start = search (at-tested) in
-    let a = at-start .args in
-    let P = tested-clear (a .nodes .now) (a .lookup .now) (at-tested .tested .ensures) (at-told .enum-told .given .1) in
+    let P = passed at-told in
     let R = parts-of _ (at-content2 .content2 .given .1) (at-read-file .read-file .ensures .outcome) in
     record {
       roomy = P .roomy;
@@ -101,18 +102,9 @@ place-parts-requires c κs =
 finish-requires : tie.Need-finish-requires
 finish-requires c κs =
     let at-place-parts : tie.After-place-parts = search in
-    let at-content2 : tie.After-content2 = search in
-    let at-read-file : tie.After-read-file = search (at-content2) in
-    let at-told : tie.After-enum-told = search (at-read-file) in
-    let at-tested : tie.After-tested = search (at-told) in
-    let at-start : tie.Start = search (at-tested) in
-    let a = at-start .args in
-    let P = tested-clear (a .nodes .now) (a .lookup .now) (at-tested .tested .ensures) (at-told .enum-told .given .1) in
-    let W = at-place-parts .place-parts .ensures in
-    record {
-      roomy = load-roomy (a .store) (a .nodes .now) (a .lookup .now) (a .cache .now) (a .file .now) (a .words .now) (at-place-parts .place-parts .result) P (at-read-file .read-file .ensures) _ (at-content2 .content2 .given .1) W;
-      fewer = omega (arith, W .kept .grows);
-    }
+    let at-told : tie.After-enum-told = search (at-place-parts) in
+    let K = at-place-parts .place-parts .ensures .kept in
+    record { roomy = kept-roomy K (passed at-told .roomy); fewer = K .grows }
 
 enum-told-2 : tie.Need-enum-told-2
 enum-told-2 c = search needs
@@ -128,11 +120,8 @@ returns-3 c =
     let at-content : tie.After-content = search in
     let at-read-file : tie.After-read-file = search in
     let at-told : tie.After-enum-told = search in
-    let at-tested : tie.After-tested = search in
-    let at-start : tie.Start = search in
-    let a = at-start .args in
-    let P = tested-clear (a .nodes .now) (a .lookup .now) (at-tested .tested .ensures) (at-told .enum-told .given .1) in
-    load-leaf (a .store) (a .nodes .now) (a .lookup .now) (a .cache .now) (a .file .now) (a .words .now) _ P (at-read-file .read-file .ensures) _ (at-content .content .given .1) (c .placed .ensures .0) (c .placed .ensures .1)
+    let a = (start-of at-told) .args in
+    load-leaf (a .store) (a .nodes .now) (a .lookup .now) (a .cache .now) (a .file .now) (a .words .now) _ (passed at-told) (at-read-file .read-file .ensures) _ (at-content .content .given .1) (c .placed .ensures .0) (c .placed .ensures .1)
 
 same-length-3 : tie.Need-same-length-3
 same-length-3 c = search needs
@@ -149,10 +138,6 @@ same-length-6 c =
     let at-read-file : tie.After-read-file = search (at-place-parts) in
     at-place-parts .place-parts .ensures .long ∙ at-read-file .read-file .ensures .long
 
--- the start is too far from the last way out for one search
-abbrev start-of : tie.After-tested → tie.Start
-start-of c = search
-
 returns-4 : tie.Need-returns-4
 returns-4 c =
     let at-finish : tie.After-finish = search in
@@ -162,11 +147,8 @@ returns-4 c =
     let at-content2 : tie.After-content2 = search (at-top-of) in
     let at-read-file : tie.After-read-file = search (at-content2) in
     let at-told : tie.After-enum-told = search (at-read-file) in
-    let at-tested : tie.After-tested = search (at-told) in
-    let at-start = start-of at-tested in
-    let a = at-start .args in
-    let P = tested-clear (a .nodes .now) (a .lookup .now) (at-tested .tested .ensures) (at-told .enum-told .given .1) in
-    load-parts (a .store) (a .nodes .now) (a .lookup .now) (a .cache .now) (a .file .now) (a .words .now) _ P (at-read-file .read-file .ensures) _ (at-content2 .content2 .given .1)
+    let a = (start-of at-told) .args in
+    load-parts (a .store) (a .nodes .now) (a .lookup .now) (a .cache .now) (a .file .now) (a .words .now) _ (passed at-told) (at-read-file .read-file .ensures) _ (at-content2 .content2 .given .1)
     (at-place-parts .place-parts .ensures) (omega (arith, at-top-of .top-of .ensures, at-else .if1 .left)) (at-finish .finish .ensures)
 
 same-length-7 : tie.Need-same-length-7
@@ -177,11 +159,8 @@ returns-5 c =
     let at-told2 : tie.After-enum-told2 = search in
     let at-read-file : tie.After-read-file = search in
     let at-told : tie.After-enum-told = search in
-    let at-tested : tie.After-tested = search in
-    let at-start : tie.Start = search in
-    let a = at-start .args in
-    let P = tested-clear (a .nodes .now) (a .lookup .now) (at-tested .tested .ensures) (at-told .enum-told .given .1) in
-    load-none (a .store) (a .nodes .now) (a .lookup .now) (a .cache .now) (a .file .now) (a .words .now) _ P (at-read-file .read-file .ensures) (at-told2 .enum-told2 .given .1) (c .refused3 .ensures .0) (c .refused3 .ensures .1)
+    let a = (start-of at-told) .args in
+    load-none (a .store) (a .nodes .now) (a .lookup .now) (a .cache .now) (a .file .now) (a .words .now) _ (passed at-told) (at-read-file .read-file .ensures) (at-told2 .enum-told2 .given .1) (c .refused3 .ensures .0) (c .refused3 .ensures .1)
 
 pub load-spec : {M : Type 1} → statement M
 load-spec =

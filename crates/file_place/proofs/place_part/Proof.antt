@@ -1,6 +1,5 @@
 -- `place_part` makes the node of a local part from its item and the handles of its children.
 -- Its children stand before it, so they have handles.
-use borrow.Author.Needs.{needs}
 use native.Mathlib.Omega.{arith}
 use Rattle.file_place.proofs.Placements.{node-as}
 use borrow.Author.Needs.{needs}
@@ -48,6 +47,7 @@ same-length-2 c = search needs
 
 node-of-requires : tie.Need-node-of-requires
 node-of-requires c κs =
+    let at-handle-at2 : tie.After-handle-at2 = search in
     let at-handle-at : tie.After-handle-at = search in
     let at-start : tie.Start = search in
     let p = at-start .pre in
@@ -56,7 +56,7 @@ node-of-requires c κs =
       item-some = p .local .item-some;
       item-low = p .local .item-low;
       zero-held = omega (arith, at-handle-at .handle-at .ensures, p .handles .each _ (p .local .zero-before));
-      one-held = omega (arith, (c .before .before .before) .handle-at2 .ensures, p .handles .each _ (p .local .one-before));
+      one-held = omega (arith, at-handle-at2 .handle-at2 .ensures, p .handles .each _ (p .local .one-before));
     }
 
 returns : tie.Need-returns

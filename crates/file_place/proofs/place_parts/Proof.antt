@@ -1,7 +1,7 @@
 -- `place_parts` places one local part after another; so many are left.
 -- Each way out is one law of the turns.
 use borrow.Author.Needs.{needs}
-use mathlib.Core.Path.{_∙_}
+use mathlib.Core.Path.{refl, _∙_}
 use Prim.Native.Nat.{_-_}
 use native.Mathlib.Omega.{arith}
 use Rattle.store.specs.Inner.{fillOf}
@@ -20,6 +20,7 @@ loop-holds c = search turns-start
 
 place-part-requires : tie.Need-place-part-requires Inv-loop μ-loop
 place-part-requires c κs =
+    let at-loop-test : tie.In-loop Inv-loop μ-loop = search in
     let at-loop : tie.At-loop Inv-loop μ-loop = search in
     let at-start : tie.Start Inv-loop μ-loop = search in
     let a = at-start .args in
@@ -27,10 +28,10 @@ place-part-requires c κs =
     let p = at-start .pre in
     record {
       roomy = turns-roomy (fillOf (a .capacity) (a .count .now)) (a .nodes .now) (a .lookup .now) (a .words .now) (a .bytes) (a .parts) (p .few) (p .room) (p .local) (l .k) (l .count) (l .nodes) (l .lookup) (l .words) (l .inv) (p .roomy);
-      local = turns-node (fillOf (a .capacity) (a .count .now)) (a .nodes .now) (a .lookup .now) (a .words .now) (a .bytes) (a .parts) (p .few) (p .room) (p .local) (l .k) (l .count) (l .nodes) (l .lookup) (l .words) (l .inv) ((c .before .before .before) .loop-test .taken);
+      local = turns-node (fillOf (a .capacity) (a .count .now)) (a .nodes .now) (a .lookup .now) (a .words .now) (a .bytes) (a .parts) (p .few) (p .room) (p .local) (l .k) (l .count) (l .nodes) (l .lookup) (l .words) (l .inv) (at-loop-test .loop-test .taken);
       handles = l .inv .handles;
       room = omega (arith, p .room, l .inv .long);
-      below = omega (arith, p .few, (c .before .before .before) .loop-test .taken);
+      below = omega (arith, p .few, at-loop-test .loop-test .taken);
     }
 
 same-length : tie.Need-same-length Inv-loop μ-loop
@@ -94,7 +95,17 @@ loop-less c =
     omega (arith, at-loop-test .loop-test .taken)
 
 loop-again : tie.Need-loop-again Inv-loop μ-loop
-loop-again c = search turns-next
+loop-again c =
+    let at-if1 : tie.Else1 Inv-loop μ-loop = search in
+    let at-place-part : tie.After-place-part Inv-loop μ-loop = search in
+    let at-loop-test : tie.In-loop Inv-loop μ-loop = search in
+    let at-loop : tie.At-loop Inv-loop μ-loop = search in
+    let at-start : tie.Start Inv-loop μ-loop = search in
+    let a = at-start .args in
+    let l = at-loop .loop in
+    let p = at-start .pre in
+    turns-next (fillOf (a .capacity) (a .count .now)) (a .nodes .now) (a .lookup .now) (a .words .now) (a .bytes) (a .parts) (p .few) (p .room) (p .local) (l .k) (l .count) (l .nodes) (l .lookup) (l .words) (l .inv) (at-loop-test .loop-test .taken)
+    _ (at-place-part .place-part .ensures) (at-if1 .if1 .left) refl
 
 add-handle-at : tie.Need-add-handle-at Inv-loop μ-loop
 add-handle-at c =

@@ -1,6 +1,5 @@
--- `rollback` takes the newest nodes back: their slots are emptied, their words zeroed, and the record counts the
--- others.
--- Each of the three calls ensures one of these.
+-- `rollback` takes the newest nodes back: their slots are emptied and their words zeroed.
+-- Each of the two calls ensures one of these.
 use borrow.Author.Needs.{needs}
 use Rattle.store_undo.proofs.rollback.Statement.{statement}
 use Rattle.store_undo.proofs.rollback.Tie as tie
@@ -10,9 +9,6 @@ returns c =
     let at-zero : tie.After-zero = search in
     let at-clear-newest : tie.After-clear-newest = search in
     record {
-      capacity = c .rolled-back .ensures .0;
-      count = c .rolled-back .ensures .1;
-      limit = c .rolled-back .ensures .2;
       nodes-are = at-zero .zero .ensures;
       lookup-is = at-clear-newest .clear-newest .ensures;
     }
@@ -25,7 +21,6 @@ rollback-spec =
     (λ c. search needs)
     (λ c. search needs)
     (λ c. search needs)
-    (λ c κs. search needs)
     (λ c κs. search needs)
     (λ c. search needs)
     (λ c. search needs)
