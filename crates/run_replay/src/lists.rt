@@ -146,8 +146,10 @@ fn added_line(state: State) {
     text(b"\n");
 }
 
-// Writes all node words and the lookup, and whether the words past the whole cache groups are as before.
-fn words_text(nodes: &[u32], lookup: &[u32], cache: &[u32], before: u32) {
+// Writes what a list leaves: what was added, all node words and the lookup, and whether the words past the whole cache
+// groups are as before.
+fn end_text(last: State, nodes: &[u32], lookup: &[u32], cache: &[u32], before: u32) {
+    added_line(last);
     text(b"Nodes");
     all_words(nodes);
     text(b"\nLookup");
@@ -171,8 +173,7 @@ fn list_on(
     let store = freshened.store;
     let start = with_fresh(state, store);
     let last = calls(setting, start, nodes, lookup, cache, file);
-    added_line(last);
-    words_text(nodes, lookup, cache, before);
+    end_text(last, nodes, lookup, cache, before);
     last
 }
 

@@ -6,6 +6,7 @@ use crate::sizes;
 use crate::turn::State;
 use crate::turn::with_placed;
 use store::record::PlaceAnswer;
+use store::record::Placed;
 
 // The state; the handles of all subsets so far, of all but the empty one, and of what came last.
 struct Built {
@@ -65,6 +66,25 @@ fn after(step: u32, built: Built, state: State, handle: u32) -> Built {
     }
 }
 
+// Runs the operation of a step.
+fn run_step(
+    step: u32,
+    built: Built,
+    nodes: &mut [u32],
+    lookup: &mut [u32],
+    cache: &mut [u32],
+) -> Placed {
+    let state = built.state;
+    let lent = everything(state.store, lookup.len(), cache.len());
+    placing::line(operation(step, built), lent, nodes, lookup, cache)
+}
+
+// Measures a family.
+fn size_line(handle: u32, state: State, nodes: &[u32], lookup: &[u32]) {
+    let lent = everything(state.store, lookup.len(), 0);
+    sizes::line(handle, 1100, lent, nodes, lookup);
+}
+
 // Runs the operation of a step, and measures what it gives.
 fn stepped(
     step: u32,
@@ -73,15 +93,11 @@ fn stepped(
     lookup: &mut [u32],
     cache: &mut [u32],
 ) -> Built {
-    let slots = lookup.len();
-    let before = built.state;
-    let lent = everything(before.store, slots, cache.len());
-    let placed = placing::line(operation(step, built), lent, nodes, lookup, cache);
+    let placed = run_step(step, built, nodes, lookup, cache);
     let answer = placed.answer;
     let handle = handle_of(answer);
-    let state = with_placed(before, placed);
-    let all = everything(state.store, slots, 0);
-    sizes::line(handle, 1100, all, nodes, lookup);
+    let state = with_placed(built.state, placed);
+    size_line(handle, state, nodes, lookup);
     after(step, built, state, handle)
 }
 
