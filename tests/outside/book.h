@@ -8,6 +8,7 @@ static size_t node_words, slots;
 static std::vector<Family> book;
 static std::map<Family, u32> number;
 static u32 capacity, limit;
+static u32 added_in_all; // the numbers added since Fresh
 
 static u32 count() { return (u32)book.size() - 2; }
 static bool held(u32 handle) { return handle < book.size(); }

@@ -23,14 +23,33 @@ static void refused_placing(int n) {
     text(n == 5 ? " cleared yes" : " stays yes");
 }
 
+// Tests the bound of Union, Intsec and Diff on the parts not held, before the result is placed.
+static void test_bound(Family result, Family p, Family q) {
+    u64 added = parts_not_held(result), most = (parts_of(p).size() + 2) * (parts_of(q).size() + 2);
+    must_hold(added <= most, "Union, Intsec and Diff add at most (a + 2) x (b + 2)");
+    tally["bound tested"]++;
+    if (most <= 4 * added) tally["bound tested, a quarter of it reached"]++;
+}
+
+// Writes how many nodes a call added; the numbers since Fresh must sum to the count.
+static void tell_added(const char *name, u32 added) {
+    text(" added");
+    num(added);
+    added_in_all += added;
+    must_hold(added_in_all == count(), "the numbers added since Fresh sum to the count");
+    tally[std::string(added == 0 ? "added 0 by " : "added above 0 by ") + name]++;
+}
+
 // Places a family, or refuses with 5; gives its handle, 0 for a refusal.
-static u32 placed(Family f) {
-    if (capacity - count() < parts_not_held(f)) {
+static u32 placed(const char *name, Family f) {
+    u32 added = parts_not_held(f);
+    if (capacity - count() < added) {
         refused_placing(5);
         return 0;
     }
     place(f);
     num(number[f]);
+    tell_added(name, added);
     return number[f];
 }
 
@@ -49,7 +68,9 @@ static u32 operation(u32 op, u32 p, u32 q, const Lent &lent, size_t cache) {
     else if (!held(p) || (4 <= op && !held(q))) refused_placing(4);
     else if (op < 4 && (q < 1 || limit < q)) refused_placing(3);
     else {
-        handle = placed(operated(op, book[p], op < 4 ? EMPTY : book[q], q));
+        Family second = op < 4 ? EMPTY : book[q], result = operated(op, book[p], second, q);
+        if (4 <= op) test_bound(result, book[p], second);
+        handle = placed(NAMES[op], result);
         n = count();
     }
     record(n, lent.room, lent.limit);
@@ -205,7 +226,7 @@ static void load_call(size_t n, const Lent &lent, size_t cache, size_t words) {
         refused_placing(13);
         if (capacity - count() < parts_not_held(f)) tally["Load 13 before 5"]++;
     } else {
-        tally[placed(f) || f == EMPTY ? "Load placed" : "Load full"]++;
+        tally[placed("Load", f) || f == EMPTY ? "Load placed" : "Load full"]++;
         held_after = count();
     }
     record(held_after, lent.room, lent.limit);

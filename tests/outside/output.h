@@ -20,6 +20,13 @@ static void record(u32 n, u32 room, u32 limit) {
     num(limit);
 }
 
+// Ends the program where a law that is tested on the way does not hold.
+static void must_hold(bool holds, const char *law) {
+    if (holds) return;
+    std::fprintf(stderr, "outside: this does not hold: %s\n", law);
+    std::exit(1);
+}
+
 static void called(const char *name) { tally[std::string("call ") + name]++; }
 static void refused(int n) {
     text(" refused");

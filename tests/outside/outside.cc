@@ -1,5 +1,5 @@
 // The comparison runs' other side: draws the same lists of calls as the crate `run_replay` and works out every answer from
-// document 01 alone. The families are CUDD's zero-suppressed diagrams; nothing of this library is used.
+// documents 01 and 02 alone. The families are CUDD's zero-suppressed diagrams; nothing of this library is used.
 #include "crafting.h"
 
 // One drawn call.
@@ -58,6 +58,7 @@ static void fresh(size_t words, size_t lookup, size_t cache, u32 most) {
     slots = lookup;
     capacity = 0;
     limit = 0;
+    added_in_all = 0;
     book.assign(1, EMPTY);
     book.push_back(BASE);
     number.clear();
@@ -110,11 +111,15 @@ static void calls_of_list(size_t cache, u32 items, u32 calls) {
     make_carried(cache);
 }
 
-// A list: Fresh, its calls, if it has any, and the words at its end.
+// A list: Fresh, its calls, if it has any, and at its end what was added, what is held, and the words.
 static void list(size_t words, size_t lookup, size_t cache, u32 most, u32 items, u32 calls) {
     fresh(words, lookup, cache, most);
     if (0 < calls) calls_of_list(cache, items, calls);
-    text("Nodes");
+    text("Added");
+    num(added_in_all);
+    text(" held");
+    num(count());
+    text("\nNodes");
     for (size_t k = 0; k < node_words; k++) num(all_nodes[k]);
     text("\nLookup");
     for (size_t k = 0; k < slots; k++) num(all_lookup[k]);

@@ -29,16 +29,25 @@ fn run_call(
 // The handle given; 0 for a refusal.
 fn handle_of(answer: PlaceAnswer) -> u32 {
     match answer {
-        PlaceAnswer::Handle(handle) => handle,
+        PlaceAnswer::Handle { handle, added: _ } => handle,
         PlaceAnswer::Refused(_) => 0,
     }
 }
 
-// The record and the answer last given; the next combination of at most two items, the lower one first and 0 where
-// there is one; the handle of a family of single items, and the item that is next for it.
+// How many nodes were added; 0 for a refusal.
+fn added_of(answer: PlaceAnswer) -> u32 {
+    match answer {
+        PlaceAnswer::Handle { handle: _, added } => added,
+        PlaceAnswer::Refused(_) => 0,
+    }
+}
+
+// The record and the answer last given; how many nodes the phase added; the next combination of at most two items, the
+// lower one first and 0 where there is one; the handle of a family of single items, and the item that is next for it.
 pub struct Progress {
     pub store: Store,
     pub answer: PlaceAnswer,
+    pub added: u32,
     pub low: u32,
     pub high: u32,
     pub handle: u32,
@@ -49,7 +58,11 @@ pub struct Progress {
 pub fn start(store: Store) -> Progress {
     Progress {
         store: store,
-        answer: PlaceAnswer::Handle(1),
+        answer: PlaceAnswer::Handle {
+            handle: 1,
+            added: 0,
+        },
+        added: 0,
         low: 0,
         high: 1,
         handle: 401,
@@ -57,15 +70,16 @@ pub fn start(store: Store) -> Progress {
     }
 }
 
-// The same with the first pair as the next combination.
-pub fn at_first_pair(at: Progress) -> Progress {
+// The same at the start of a phase, with this combination as the next.
+pub fn started(at: Progress, low: u32, high: u32) -> Progress {
     let store = at.store;
     let answer = at.answer;
     Progress {
         store: store,
         answer: answer,
-        low: 1,
-        high: 2,
+        added: 0,
+        low: low,
+        high: high,
         handle: at.handle,
         item: at.item,
     }
@@ -108,6 +122,7 @@ fn after_change(at: Progress, placed: Placed) -> Progress {
     Progress {
         store: store,
         answer: answer,
+        added: std::num::wrapping_add_u32(at.added, added_of(answer)),
         low: low,
         high: high,
         handle: at.handle,
@@ -122,6 +137,7 @@ fn after_union(at: Progress, placed: Placed) -> Progress {
     Progress {
         store: store,
         answer: answer,
+        added: std::num::wrapping_add_u32(at.added, added_of(answer)),
         low: at.low,
         high: at.high,
         handle: handle_of(answer),

@@ -22,15 +22,17 @@ pub fn record(store: Store) {
     text(b"\n");
 }
 
-// Writes the answer last given, and the record after it.
-pub fn given(answer: PlaceAnswer, store: Store) {
+// Writes the answer last given, how many nodes were added, and the record.
+pub fn given(answer: PlaceAnswer, added: u32, store: Store) {
     match answer {
-        PlaceAnswer::Handle(handle) => word(handle),
+        PlaceAnswer::Handle { handle, added: _ } => word(handle),
         PlaceAnswer::Refused(why) => {
             text(b"refused ");
             word(number(why));
         }
     }
+    text(b", added ");
+    word(added);
     text(b", ");
     record(store);
 }

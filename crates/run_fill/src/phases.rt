@@ -3,9 +3,9 @@ use crate::compare::copy;
 use crate::compare::tell_cache;
 use crate::compare::tell_words;
 use crate::making::Progress;
-use crate::making::at_first_pair;
 use crate::making::calls;
 use crate::making::start;
+use crate::making::started;
 use crate::output::given;
 use crate::output::record;
 use crate::output::text;
@@ -75,7 +75,7 @@ fn phase_lines(
 ) {
     name(k);
     let answer = at.answer;
-    given(answer, at.store);
+    given(answer, at.added, at.store);
     tell_words(nodes, lookup, node_copy, lookup_copy);
     tell_cache(cache);
 }
@@ -83,9 +83,9 @@ fn phase_lines(
 // Where a phase begins: the last one at the first pair, which is held.
 fn begun(k: u32, at: Progress) -> Progress {
     if k == 5 {
-        return at_first_pair(at);
+        return started(at, 1, 2);
     }
-    at
+    started(at, at.low, at.high)
 }
 
 // Runs the calls of a phase, and compares the words with the copies from before.

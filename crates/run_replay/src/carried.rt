@@ -6,12 +6,11 @@ use crate::loads::Reading;
 use crate::loads::needed;
 use crate::placing;
 use crate::placing::Operation;
-use crate::placing::next_record;
 use crate::saves;
 use crate::saves::Room;
 use crate::turn::State;
 use crate::turn::with_file;
-use crate::turn::with_record;
+use crate::turn::with_placed;
 use store::record::Store;
 
 // One less; 0 for 0.
@@ -39,7 +38,7 @@ fn load(
         words: words,
     };
     let placed = loads::line(reading, lent, nodes, lookup, cache, file);
-    with_record(state, next_record(placed, store))
+    with_placed(state, placed)
 }
 
 // Loads so many bytes in one scratch word too few, and without the last byte.
@@ -84,7 +83,7 @@ fn changed(state: State, nodes: &mut [u32], lookup: &mut [u32], cache: &mut [u32
         q: store.limit,
     };
     let placed = placing::line(call, lent, nodes, lookup, cache);
-    with_record(state, next_record(placed, store))
+    with_placed(state, placed)
 }
 
 // Saves the newest family.

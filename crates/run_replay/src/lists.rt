@@ -21,7 +21,7 @@ use crate::turn::Manner;
 use crate::turn::State;
 use crate::turn::turn;
 use crate::turn::with_file;
-use crate::turn::with_record;
+use crate::turn::with_fresh;
 use store::record::Store;
 use store_fresh::FreshAnswer;
 use store_fresh::Freshened;
@@ -99,8 +99,7 @@ fn opening(
 ) -> State {
     let loaded = carried::loaded(state, nodes, lookup, cache, file);
     if items == 70 {
-        let store = subsets::lines(loaded.store, nodes, lookup, cache);
-        return with_record(loaded, store);
+        return subsets::lines(loaded, nodes, lookup, cache);
     }
     loaded
 }
@@ -138,8 +137,19 @@ fn calls(
     carried::made(last, nodes, lookup, cache, file)
 }
 
-// Writes all node words and the lookup, and whether the words past the whole cache groups are as before.
-fn words_text(nodes: &[u32], lookup: &[u32], cache: &[u32], before: u32) {
+// Writes how many nodes were added since Fresh, and how many are held.
+fn added_line(state: State) {
+    text(b"Added");
+    word(state.added);
+    text(b" held");
+    word(state.store.count);
+    text(b"\n");
+}
+
+// Writes what a list leaves: what was added, all node words and the lookup, and whether the words past the whole cache
+// groups are as before.
+fn end_text(last: State, nodes: &[u32], lookup: &[u32], cache: &[u32], before: u32) {
+    added_line(last);
     text(b"Nodes");
     all_words(nodes);
     text(b"\nLookup");
@@ -161,9 +171,9 @@ fn list_on(
     let before = spare(cache);
     let freshened = fresh_line(setting.limit, nodes, lookup, cache);
     let store = freshened.store;
-    let start = with_record(state, store);
+    let start = with_fresh(state, store);
     let last = calls(setting, start, nodes, lookup, cache, file);
-    words_text(nodes, lookup, cache, before);
+    end_text(last, nodes, lookup, cache, before);
     last
 }
 
@@ -211,6 +221,7 @@ fn lists(nodes: &mut [u32], lookup: &mut [u32], cache: &mut [u32], file: &mut [u
     let mut state = State {
         draw: 2463534242,
         store: Store::new(0, 0),
+        added: 0,
         length: 0,
     };
     let mut k: u32 = 0;

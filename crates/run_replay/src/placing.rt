@@ -59,7 +59,11 @@ fn refused_with(refusal: Refusal, cache: &[u32], before: u32) {
 pub fn given(placed: Placed, cache: &[u32], before: u32) {
     let answer = placed.answer;
     match answer {
-        PlaceAnswer::Handle(handle) => word(handle),
+        PlaceAnswer::Handle { handle, added } => {
+            word(handle);
+            text(b" added");
+            word(added);
+        }
         PlaceAnswer::Refused(refusal) => refused_with(refusal, cache, before),
     }
     record(placed.store);
@@ -118,14 +122,5 @@ pub fn drawn_operation(op: u32, drawn: Drawn, items: u32, store: Store) -> Opera
         op: op,
         p: p,
         q: handle(drawn.b, store.count),
-    }
-}
-
-// The record for the next call: the one given back with a handle, else the one before.
-pub fn next_record(placed: Placed, before: Store) -> Store {
-    let answer = placed.answer;
-    match answer {
-        PlaceAnswer::Handle(_) => placed.store,
-        PlaceAnswer::Refused(_) => before,
     }
 }

@@ -3,12 +3,14 @@ use crate::lend::everything;
 use crate::placing;
 use crate::placing::Operation;
 use crate::sizes;
+use crate::turn::State;
+use crate::turn::with_placed;
 use store::record::PlaceAnswer;
-use store::record::Store;
+use store::record::Placed;
 
-// A record; the handles of all subsets so far, of all but the empty one, and of what came last.
+// The state; the handles of all subsets so far, of all but the empty one, and of what came last.
 struct Built {
-    store: Store,
+    state: State,
     all: u32,
     less: u32,
     last: u32,
@@ -39,13 +41,13 @@ fn operation(step: u32, built: Built) -> Operation {
 // The handle given; 0 for a refusal.
 fn handle_of(answer: PlaceAnswer) -> u32 {
     match answer {
-        PlaceAnswer::Handle(handle) => handle,
+        PlaceAnswer::Handle { handle, added: _ } => handle,
         PlaceAnswer::Refused(_) => 0,
     }
 }
 
 // What a step leaves.
-fn after(step: u32, built: Built, store: Store, handle: u32) -> Built {
+fn after(step: u32, built: Built, state: State, handle: u32) -> Built {
     let mut all = built.all;
     let mut less = built.less;
     if step < 128 {
@@ -57,11 +59,30 @@ fn after(step: u32, built: Built, store: Store, handle: u32) -> Built {
         less = handle;
     }
     Built {
-        store: store,
+        state: state,
         all: all,
         less: less,
         last: handle,
     }
+}
+
+// Runs the operation of a step.
+fn run_step(
+    step: u32,
+    built: Built,
+    nodes: &mut [u32],
+    lookup: &mut [u32],
+    cache: &mut [u32],
+) -> Placed {
+    let state = built.state;
+    let lent = everything(state.store, lookup.len(), cache.len());
+    placing::line(operation(step, built), lent, nodes, lookup, cache)
+}
+
+// Measures a family.
+fn size_line(handle: u32, state: State, nodes: &[u32], lookup: &[u32]) {
+    let lent = everything(state.store, lookup.len(), 0);
+    sizes::line(handle, 1100, lent, nodes, lookup);
 }
 
 // Runs the operation of a step, and measures what it gives.
@@ -72,21 +93,18 @@ fn stepped(
     lookup: &mut [u32],
     cache: &mut [u32],
 ) -> Built {
-    let slots = lookup.len();
-    let lent = everything(built.store, slots, cache.len());
-    let placed = placing::line(operation(step, built), lent, nodes, lookup, cache);
-    let store = placed.store;
+    let placed = run_step(step, built, nodes, lookup, cache);
     let answer = placed.answer;
     let handle = handle_of(answer);
-    let all = everything(store, slots, 0);
-    sizes::line(handle, 1100, all, nodes, lookup);
-    after(step, built, store, handle)
+    let state = with_placed(built.state, placed);
+    size_line(handle, state, nodes, lookup);
+    after(step, built, state, handle)
 }
 
-// Writes the lines; gives the record after them.
-pub fn lines(store: Store, nodes: &mut [u32], lookup: &mut [u32], cache: &mut [u32]) -> Store {
+// Writes the lines; gives the state after them.
+pub fn lines(start: State, nodes: &mut [u32], lookup: &mut [u32], cache: &mut [u32]) -> State {
     let mut built = Built {
-        store: store,
+        state: start,
         all: 1,
         less: 1,
         last: 1,
@@ -96,5 +114,5 @@ pub fn lines(store: Store, nodes: &mut [u32], lookup: &mut [u32], cache: &mut [u
         built = stepped(step, built, nodes, lookup, cache);
         step = step + 1;
     }
-    built.store
+    built.state
 }

@@ -19,16 +19,18 @@ use crate::output::text;
 use crate::output::word;
 use crate::placing;
 use crate::placing::drawn_operation;
-use crate::placing::next_record;
 use crate::saves;
 use crate::saves::Room;
 use crate::sizes;
+use store::record::PlaceAnswer;
+use store::record::Placed;
 use store::record::Store;
 
-// The draw, the record last given back, and the length of the file in the buffer.
+// The draw, the record last given back, the nodes added since Fresh, and the length of the file in the buffer.
 pub struct State {
     pub draw: u32,
     pub store: Store,
+    pub added: u32,
     pub length: usize,
 }
 
@@ -38,11 +40,27 @@ pub struct Manner {
     pub whole: bool,
 }
 
-// The state with another record.
-pub fn with_record(state: State, store: Store) -> State {
+// The state after Fresh.
+pub fn with_fresh(state: State, store: Store) -> State {
     State {
         draw: state.draw,
         store: store,
+        added: 0,
+        length: state.length,
+    }
+}
+
+// The state after a call that places: with a handle the record given back and the nodes added, else as before.
+pub fn with_placed(state: State, placed: Placed) -> State {
+    let store = placed.store;
+    let answer = placed.answer;
+    let PlaceAnswer::Handle { handle: _, added } = answer else {
+        return state;
+    };
+    State {
+        draw: state.draw,
+        store: store,
+        added: std::num::wrapping_add_u32(state.added, added),
         length: state.length,
     }
 }
@@ -53,6 +71,7 @@ pub fn with_file(state: State, draw: u32, length: usize) -> State {
     State {
         draw: draw,
         store: store,
+        added: state.added,
         length: length,
     }
 }
@@ -78,7 +97,7 @@ fn operation(
         cache.len(),
     );
     let placed = placing::line(call, lent, nodes, lookup, cache);
-    with_record(state, next_record(placed, store))
+    with_placed(state, placed)
 }
 
 // Size.
@@ -147,7 +166,7 @@ fn load(
         words: scratch(drawn.b, needed(bytes), 12400),
     };
     let placed = loads::line(reading, lent, nodes, lookup, cache, file);
-    with_record(state, next_record(placed, store))
+    with_placed(state, placed)
 }
 
 // Audit.

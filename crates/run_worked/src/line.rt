@@ -60,14 +60,16 @@ fn node_words(nodes: &[u32], handle: u32) {
     word(nodes[base + 2]);
 }
 
-// Writes what a call that places gave: the handle, its node's words, and how many nodes the store holds.
+// Writes what a call that places gave: the handle, its node's words, and how many nodes were added and are held.
 pub fn given(placed: Placed, nodes: &[u32]) {
     let answer = placed.answer;
     match answer {
-        PlaceAnswer::Handle(handle) => {
+        PlaceAnswer::Handle { handle, added } => {
             text(b" = ");
             word(handle);
             node_words(nodes, handle);
+            text(b", added ");
+            word(added);
             text(b", held ");
             word(placed.store.count);
             text(b"\n");
