@@ -29,7 +29,7 @@ fn run_call(
 // The handle given; 0 for a refusal.
 fn handle_of(answer: PlaceAnswer) -> u32 {
     match answer {
-        PlaceAnswer::Handle { handle, added: _ } => handle,
+        PlaceAnswer::Handle(handle, _) => handle,
         PlaceAnswer::Refused(_) => 0,
     }
 }
@@ -37,7 +37,7 @@ fn handle_of(answer: PlaceAnswer) -> u32 {
 // How many nodes were added; 0 for a refusal.
 fn added_of(answer: PlaceAnswer) -> u32 {
     match answer {
-        PlaceAnswer::Handle { handle: _, added } => added,
+        PlaceAnswer::Handle(_, added) => added,
         PlaceAnswer::Refused(_) => 0,
     }
 }
@@ -58,10 +58,7 @@ pub struct Progress {
 pub fn start(store: Store) -> Progress {
     Progress {
         store: store,
-        answer: PlaceAnswer::Handle {
-            handle: 1,
-            added: 0,
-        },
+        answer: PlaceAnswer::Handle(1, 0),
         added: 0,
         low: 0,
         high: 1,

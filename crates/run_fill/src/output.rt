@@ -25,7 +25,7 @@ pub fn record(store: Store) {
 // Writes the answer last given, how many nodes were added, and the record.
 pub fn given(answer: PlaceAnswer, added: u32, store: Store) {
     match answer {
-        PlaceAnswer::Handle { handle, added: _ } => word(handle),
+        PlaceAnswer::Handle(handle, _) => word(handle),
         PlaceAnswer::Refused(why) => {
             text(b"refused ");
             word(number(why));

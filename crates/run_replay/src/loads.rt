@@ -45,10 +45,7 @@ pub fn taken(x: u32, last: usize, all: usize) -> usize {
 fn scratch_kept(placed: Placed, scratch: &[u32], needed: usize) -> bool {
     let answer = placed.answer;
     match answer {
-        PlaceAnswer::Handle {
-            handle: _,
-            added: _,
-        } => kept(scratch, needed),
+        PlaceAnswer::Handle(_, _) => kept(scratch, needed),
         PlaceAnswer::Refused(refusal) => kept(scratch, free_until(refusal, needed)),
     }
 }

@@ -59,7 +59,7 @@ fn refused_with(refusal: Refusal, cache: &[u32], before: u32) {
 pub fn given(placed: Placed, cache: &[u32], before: u32) {
     let answer = placed.answer;
     match answer {
-        PlaceAnswer::Handle { handle, added } => {
+        PlaceAnswer::Handle(handle, added) => {
             word(handle);
             text(b" added");
             word(added);

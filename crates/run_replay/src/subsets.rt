@@ -41,7 +41,7 @@ fn operation(step: u32, built: Built) -> Operation {
 // The handle given; 0 for a refusal.
 fn handle_of(answer: PlaceAnswer) -> u32 {
     match answer {
-        PlaceAnswer::Handle { handle, added: _ } => handle,
+        PlaceAnswer::Handle(handle, _) => handle,
         PlaceAnswer::Refused(_) => 0,
     }
 }

@@ -54,7 +54,7 @@ pub fn with_fresh(state: State, store: Store) -> State {
 pub fn with_placed(state: State, placed: Placed) -> State {
     let store = placed.store;
     let answer = placed.answer;
-    let PlaceAnswer::Handle { handle: _, added } = answer else {
+    let PlaceAnswer::Handle(_, added) = answer else {
         return state;
     };
     State {

@@ -64,7 +64,7 @@ fn node_words(nodes: &[u32], handle: u32) {
 pub fn given(placed: Placed, nodes: &[u32]) {
     let answer = placed.answer;
     match answer {
-        PlaceAnswer::Handle { handle, added } => {
+        PlaceAnswer::Handle(handle, added) => {
             text(b" = ");
             word(handle);
             node_words(nodes, handle);

@@ -29,7 +29,7 @@ pub fn name(op: u32) {
 // The handle given; 0 for a refusal.
 pub fn handle_of(answer: PlaceAnswer) -> u32 {
     match answer {
-        PlaceAnswer::Handle { handle, added: _ } => handle,
+        PlaceAnswer::Handle(handle, _) => handle,
         PlaceAnswer::Refused(_) => 0,
     }
 }
