@@ -1,4 +1,5 @@
-// The six operations and their numbers; in specs/ and proofs/ their promise, and the laws of their ways out.
+// The six operations and their numbers; in specs/ and proofs/ their promise, the laws of their ways out, and the bound
+// on the nodes that Union, Intsec and Diff add.
 ghost use mathlib.Core.Path.{_≡_};
 ghost use Rattle.op_promise.specs.Promise.{numberOf, operationNumber};
 
