@@ -11,7 +11,7 @@ use lib.ListN.{length, length-append, List·getD-append, List·getD-eq-default}
 use lib.Seq.{getD-append-seam}
 use borrow.Author.Tests.{lt-ltb, le-ltb}
 use Rattle.family.specs.Family.{Family, empty, base, node, Family-discrete, Within}
-use Rattle.family.specs.Book.{start, same, at, number, Held, held, add, Grown, Book}
+use Rattle.family.specs.Book.{start, same, at, number, Held, add, Grown, Book}
 use Rattle.words.proofs.Cases.{by-test, by-lt, clash}
 
 -- sameness is equality

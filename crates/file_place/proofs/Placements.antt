@@ -10,7 +10,7 @@ use lib.ListN.{length, getD, set, take, drop, length-set, length-drop, take-appe
 use lib.Seq.{take-suc, take-all, getD-drop, getD-set-same, getD-set-other}
 use borrow.Author.Tests.{lt-ltb, le-ltb}
 use Rattle.family.specs.Family.{Family, empty, node, top, Within, largestItem}
-use Rattle.family.specs.Book.{start, at, add, place, made, Grown}
+use Rattle.family.specs.Book.{start, at, add, place, Grown}
 use Rattle.family.proofs.Diagrams.{mk-node}
 use Rattle.family.proofs.Books.{add-grown, grown-self, grown-trans, grown-length, grown-at}
 use Rattle.family.proofs.Placing.{place-own}
@@ -97,7 +97,7 @@ pub record Turns (s : Fill) (nodes₀ lookup₀ words₀ : List ℕ) (b n k coun
   pub rest : (j : ℕ) → 6 * b ≤ j → getD words j 0 ≡ getD words₀ j 0
   pub most : k ≤ n
   pub kept : Kept s nodes₀ lookup₀ (fillOf (s .capacity) count) nodes lookup
-  pub handles : Handles k b (count) words
+  pub handles : Handles k b count words
   pub sound : {limit : ℕ} (B C : List Family) → Tops limit C → Holds limit B (s .count) nodes₀ lookup₀ → Local C n b words₀ → Stored limit B C k b words count nodes lookup
 
 module _ (s : Fill) (nodes₀ lookup₀ words₀ : List ℕ) (b n : ℕ) where

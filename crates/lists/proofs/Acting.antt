@@ -8,7 +8,7 @@ use native.Mathlib.Omega.{arith}
 use lib.Dec.{ltb}
 use lib.ListN.{length}
 use Rattle.words.proofs.Cases.{by-lt, by-test}
-use Rattle.family.specs.Family.{Family, empty, top, Within, largestItem}
+use Rattle.family.specs.Family.{Family, top, Within, largestItem}
 use Rattle.family.specs.Book.{at, Held, Book}
 use Rattle.family.specs.File.{familyOf}
 use Rattle.family.proofs.Books.{at-held}

@@ -1,7 +1,7 @@
 -- The numbers that the calls of a list say they added sum to the count in the record.
 -- Fresh leaves a count of 0, and each call's promise says by how much it grows the count: a call that places by the
 -- number added, every other call by nothing.
-use Prim.Native.Nat.{ℕ, _+_}
+use Prim.Native.Nat.{_+_}
 use mathlib.Core.Path.{_≡_, ap}
 use mathlib.Core.List.{List, [], _∷_, _++_}
 use native.Mathlib.Omega.{arith}

@@ -1,7 +1,7 @@
 -- A terminal case of two families runs as the call that it answers, and so does a call with its operands in order.
 -- A terminal case gives a handle that is in the book already; an order that names the same family runs the same.
 use Prim.Native.Nat.{ℕ, _+_, _≤_}
-use mathlib.Core.Path.{_≡_, sym, ap, _∙_}
+use mathlib.Core.Path.{_≡_, sym, _∙_}
 use mathlib.Core.List.{List}
 use mathlib.Core.Logic.{_⊎_, ⊎-elim}
 use native.Mathlib.Omega.{arith}

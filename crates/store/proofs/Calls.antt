@@ -21,7 +21,7 @@ use Rattle.store.specs.Capacity.{fitting}
 use Rattle.store.specs.Refusals.{refusalNumber, Given, givenBy}
 use Rattle.store.specs.Sound.{Sound}
 use Rattle.store.specs.Placing.{costOf, tooLarge, placeAnswer}
-use Rattle.store.specs.Promise.{Left, leaves, placing, cacheRefused, PlaceCall}
+use Rattle.store.specs.Promise.{Left, placing, cacheRefused, PlaceCall}
 use Rattle.store.specs.Inner.{fillIn, Roomy}
 use Rattle.store.proofs.Fitting.{fits-true, true-fits}
 

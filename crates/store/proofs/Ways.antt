@@ -1,7 +1,7 @@
 -- The ways that a placing call has on a sound store: refused before it places, no room, and placed.
 -- The definition tests for them in this order.
 use Prim.Native.Nat.{ℕ, _-_, _≤_}
-use mathlib.Core.Path.{_≡_, refl}
+use mathlib.Core.Path.{_≡_}
 use mathlib.Core.Bool.{true, false}
 use mathlib.Core.List.{List}
 use native.Mathlib.Omega.{arith}

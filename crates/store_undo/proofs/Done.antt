@@ -1,7 +1,7 @@
 -- A call that came through to `finish` keeps its promise: it leaves the words of the book with the family placed, or,
 -- where that has no room, everything as before and an empty cache.
 -- What ran holds the placed book exactly when that fits the capacity, and the words of a book are one only.
-use Prim.Native.Nat.{ℕ, zero, _+_, _*_, _-_, _/_, _≤_, _<_}
+use Prim.Native.Nat.{ℕ, _+_, _*_, _-_, _/_, _≤_, _<_}
 use mathlib.Core.Path.{_≡_, refl, sym, ap, _∙_}
 use mathlib.Core.Bool.{true, false}
 use mathlib.Core.List.{List}
