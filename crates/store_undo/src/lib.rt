@@ -2,8 +2,8 @@
 ghost use Rattle.store.specs.Capacity.{counting};
 ghost use Rattle.store_undo.specs.Inner.{UndoAsks, RolledBack, Finished};
 use store::coded::FULL;
+use store::coded::refusal_of;
 use store::record::Placed;
-use store::record::Refusal;
 use store::record::Store;
 use table::own_slots::clear_newest;
 use words::zero;
@@ -40,8 +40,5 @@ pub fn finish(
     }
     rollback(after, nodes, lookup, before);
     zero_groups(cache);
-    if coded == FULL {
-        return store.refused(Refusal::Full);
-    }
-    store.refused(Refusal::Damaged)
+    store.refused(refusal_of(coded))
 }

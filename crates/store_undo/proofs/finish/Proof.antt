@@ -2,7 +2,7 @@
 -- What `rollback` and `zero_groups` ensure is the definition's own, and each number stands for one answer.
 use mathlib.Core.Path.{refl, _∙_}
 use native.Mathlib.Omega.{arith}
-use Rattle.store.proofs.Codes.{coded-handle, coded-full, coded-damaged}
+use Rattle.store.proofs.Codes.{coded-handle}
 use Rattle.store_undo.proofs.Finishing.{finished-gave, finished-undone}
 use borrow.Author.Needs.{needs}
 use Rattle.store_undo.proofs.finish.Statement.{statement}
@@ -35,6 +35,11 @@ rollback-requires c κs =
 zero-groups-requires : tie.Need-zero-groups-requires
 zero-groups-requires c κs = search needs
 
+refusal-of-requires : tie.Need-refusal-of-requires
+refusal-of-requires c κs =
+    let at-if1 : tie.Else1 = search in
+    at-if1 .if1 .left
+
 refused-requires : tie.Need-refused-requires
 refused-requires c κs = search needs
 
@@ -49,38 +54,14 @@ same-length-3 c = search needs
 
 returns-2 : tie.Need-returns-2
 returns-2 c =
-    let at-if2 : tie.Then2 = search in
+    let at-refusal-of : tie.After-refusal-of = search in
     let at-zero-groups : tie.After-zero-groups = search in
     let at-rollback : tie.After-rollback = search in
     let at-with-count : tie.After-with-count = search in
     let at-start : tie.Start = search in
     let a = at-start .args in
-    finished-undone (a .store) (a .held) (a .coded) (a .nodes .now) (a .lookup .now) (a .cache .now) (c .refused .result) (coded-full (a .coded) (at-if2 .if2 .taken))
+    finished-undone (a .store) (a .held) (a .coded) (a .nodes .now) (a .lookup .now) (a .cache .now) (c .refused .result) (at-refusal-of .refusal-of .ensures)
     (rw (at-with-count .with-count .ensures) at (at-rollback .rollback .ensures)) (at-zero-groups .zero-groups .ensures) (c .refused .ensures .0) (c .refused .ensures .1)
-
-refused-requires-2 : tie.Need-refused-requires-2
-refused-requires-2 c κs = search needs
-
-same-length-4 : tie.Need-same-length-4
-same-length-4 c = search needs
-
-same-length-5 : tie.Need-same-length-5
-same-length-5 c = search needs
-
-same-length-6 : tie.Need-same-length-6
-same-length-6 c = search needs
-
-returns-3 : tie.Need-returns-3
-returns-3 c =
-    let at-if2 : tie.Else2 = search in
-    let at-if1 : tie.Else1 = search in
-    let at-zero-groups : tie.After-zero-groups = search in
-    let at-rollback : tie.After-rollback = search in
-    let at-with-count : tie.After-with-count = search in
-    let at-start : tie.Start = search in
-    let a = at-start .args in
-    finished-undone (a .store) (a .held) (a .coded) (a .nodes .now) (a .lookup .now) (a .cache .now) (c .refused2 .result) (coded-damaged (a .coded) (at-if1 .if1 .left) (at-if2 .if2 .left))
-    (rw (at-with-count .with-count .ensures) at (at-rollback .rollback .ensures)) (at-zero-groups .zero-groups .ensures) (c .refused2 .ensures .0) (c .refused2 .ensures .1)
 
 pub finish-spec : {M : Type 1} → statement M
 finish-spec =
@@ -92,13 +73,9 @@ finish-spec =
     returns
     rollback-requires
     zero-groups-requires
+    refusal-of-requires
     refused-requires
     same-length
     same-length-2
     same-length-3
-    returns-2
-    refused-requires-2
-    same-length-4
-    same-length-5
-    same-length-6
-    returns-3)
+    returns-2)
