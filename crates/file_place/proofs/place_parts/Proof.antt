@@ -5,7 +5,7 @@ use mathlib.Core.Path.{refl, _∙_}
 use Prim.Native.Nat.{_-_}
 use native.Mathlib.Omega.{arith}
 use Rattle.store.specs.Inner.{fillOf}
-use Rattle.file_place.proofs.Placements.{Turns, turns-start, turns-roomy, turns-node, turns-next, turns-refused, turns-done}
+use Rattle.file_place.proofs.Placements.{Turns, turns-start, turns-asks, turns-next, turns-refused, turns-done}
 use Rattle.file_place.proofs.place_parts.Statement.{statement}
 use Rattle.file_place.proofs.place_parts.Tie as tie
 
@@ -23,16 +23,7 @@ place-part-requires c κs =
     let at-loop-test : tie.In-loop Inv-loop μ-loop = search in
     let at-loop : tie.At-loop Inv-loop μ-loop = search in
     let at-start : tie.Start Inv-loop μ-loop = search in
-    let a = at-start .args in
-    let l = at-loop .loop in
-    let p = at-start .pre in
-    record {
-      roomy = turns-roomy (fillOf (a .capacity) (a .count .now)) (a .nodes .now) (a .lookup .now) (a .words .now) (a .bytes) (a .parts) (p .few) (p .room) (p .local) (l .k) (l .count) (l .nodes) (l .lookup) (l .words) (l .inv) (p .roomy);
-      local = turns-node (fillOf (a .capacity) (a .count .now)) (a .nodes .now) (a .lookup .now) (a .words .now) (a .bytes) (a .parts) (p .few) (p .room) (p .local) (l .k) (l .count) (l .nodes) (l .lookup) (l .words) (l .inv) (at-loop-test .loop-test .taken);
-      handles = l .inv .handles;
-      room = omega (arith, p .room, l .inv .long);
-      below = omega (arith, p .few, at-loop-test .loop-test .taken);
-    }
+    turns-asks (at-start .pre) (at-loop .loop .inv) (at-loop-test .loop-test .taken)
 
 same-length : tie.Need-same-length Inv-loop μ-loop
 same-length c =
@@ -101,11 +92,7 @@ loop-again c =
     let at-loop-test : tie.In-loop Inv-loop μ-loop = search in
     let at-loop : tie.At-loop Inv-loop μ-loop = search in
     let at-start : tie.Start Inv-loop μ-loop = search in
-    let a = at-start .args in
-    let l = at-loop .loop in
-    let p = at-start .pre in
-    turns-next (fillOf (a .capacity) (a .count .now)) (a .nodes .now) (a .lookup .now) (a .words .now) (a .bytes) (a .parts) (p .few) (p .room) (p .local) (l .k) (l .count) (l .nodes) (l .lookup) (l .words) (l .inv) (at-loop-test .loop-test .taken)
-    _ (at-place-part .place-part .ensures) (at-if1 .if1 .left) refl
+    turns-next (at-start .pre) (at-loop .loop .inv) (at-loop-test .loop-test .taken) _ (at-place-part .place-part .ensures) (at-if1 .if1 .left) refl
 
 add-handle-at : tie.Need-add-handle-at Inv-loop μ-loop
 add-handle-at c =
@@ -136,11 +123,7 @@ returns-2 : tie.Need-returns-2 Inv-loop μ-loop
 returns-2 c =
     let at-loop : tie.At-loop Inv-loop μ-loop = search in
     let at-start : tie.Start Inv-loop μ-loop = search in
-    let a = at-start .args in
-    let l = at-loop .loop in
-    let p = at-start .pre in
-    turns-done (fillOf (a .capacity) (a .count .now)) (a .nodes .now) (a .lookup .now) (a .words .now) (a .bytes) (a .parts) (p .few) (p .room) (p .local) (l .k) (l .count) (l .nodes) (l .lookup) (l .words) (l .inv) (omega (arith, (c .before .before) .loop-test .left))
-    (p .roomy) _ (c .handle-at .ensures)
+    turns-done (at-start .pre) (at-loop .loop .inv) (omega (arith, (c .before .before) .loop-test .left)) _ (c .handle-at .ensures)
 
 pub place-parts-spec : {M : Type 1} → statement M
 place-parts-spec =
