@@ -6,7 +6,7 @@ use native.Mathlib.Omega.{arith}
 use lib.ListN.{length}
 use Rattle.store.proofs.Growing.{kept-roomy}
 use Rattle.store.proofs.Testing.{Tested, tested-clear}
-use Rattle.file_load.proofs.Loads.{parts-of, parts-nodes, load-refused, load-none, load-leaf, load-above, load-parts}
+use Rattle.file_load.proofs.Loads.{PartsRead, parts-of, parts-nodes, load-refused, load-none, load-leaf, load-above, load-parts}
 use borrow.Author.Needs.{needs}
 use Rattle.file_load.proofs.load.Statement.{statement}
 use Rattle.file_load.proofs.load.Tie as tie
@@ -21,6 +21,16 @@ passed c =
     let at-tested : tie.After-tested = search in
     let a = (start-of c) .args in
     tested-clear (a .nodes .now) (a .lookup .now) (at-tested .tested .ensures) (c .enum-told .given .1)
+
+-- the reader found parts
+abbrev read-of : tie.After-content2 → tie.After-read-file
+read-of c = search
+
+abbrev told-of : tie.After-content2 → tie.After-enum-told
+told-of c = search
+
+parts : (c : tie.After-content2) → let a = (start-of (told-of c)) .args in PartsRead (a .file .now) (length (a .file .now)) ((read-of c) .read-file .last .1 .0) (c .content2 .given .0 .0)
+parts c = parts-of _ (c .content2 .given .1) ((read-of c) .read-file .ensures .outcome)
 
 tested-requires : tie.Need-tested-requires
 tested-requires c κs = search needs
@@ -55,17 +65,12 @@ enum-known-content-2 c = search needs
 add-top-of : tie.Need-add-top-of
 add-top-of c =
     let at-content2 : tie.After-content2 = search in
-    let at-read-file : tie.After-read-file = search (at-content2) in
-    omega (arith, parts-of _ (at-content2 .content2 .given .1) (at-read-file .read-file .ensures .outcome) .low)
+    omega (arith, parts at-content2 .low)
 
 top-of-requires : tie.Need-top-of-requires
 top-of-requires c κs =
     let at-content2 : tie.After-content2 = search in
-    let at-read-file : tie.After-read-file = search (at-content2) in
-    let at-told : tie.After-enum-told = search (at-read-file) in
-    let P = passed at-told in
-    let R = parts-of _ (at-content2 .content2 .given .1) (at-read-file .read-file .ensures .outcome) in
-    record { held = omega arith; words = omega (arith, R .few, at-read-file .read-file .ensures .long, P .passed .room) }
+    record { held = omega arith; words = omega (arith, parts at-content2 .few, (read-of at-content2) .read-file .ensures .long, passed (told-of at-content2) .passed .room) }
 
 refused-requires-2 : tie.Need-refused-requires-2
 refused-requires-2 c κs = search needs
@@ -78,23 +83,20 @@ returns-2 c =
     let at-then : tie.Then1 = search in
     let at-top-of : tie.After-top-of = search (at-then) in
     let at-content2 : tie.After-content2 = search (at-top-of) in
-    let at-read-file : tie.After-read-file = search (at-content2) in
-    let at-told : tie.After-enum-told = search (at-read-file) in
+    let at-told = told-of at-content2 in
     let a = (start-of at-told) .args in
-    load-above (a .store) (a .nodes .now) (a .lookup .now) (a .cache .now) (a .file .now) (a .words .now) _ (passed at-told) (at-read-file .read-file .ensures) _ (at-content2 .content2 .given .1)
+    load-above (a .store) (a .nodes .now) (a .lookup .now) (a .cache .now) (a .file .now) (a .words .now) _ (passed at-told) ((read-of at-content2) .read-file .ensures) _ (at-content2 .content2 .given .1)
     (omega (arith, at-top-of .top-of .ensures, at-then .if1 .taken)) (c .refused2 .ensures .0) (c .refused2 .ensures .1)
 
 place-parts-requires : tie.Need-place-parts-requires
 place-parts-requires c κs =
     let at-content2 : tie.After-content2 = search in
-    let at-read-file : tie.After-read-file = search (at-content2) in
-    let at-told : tie.After-enum-told = search (at-read-file) in
-    let P = passed at-told in
-    let R = parts-of _ (at-content2 .content2 .given .1) (at-read-file .read-file .ensures .outcome) in
+    let P = passed (told-of at-content2) in
+    let R = parts at-content2 in
     record {
       roomy = P .roomy;
       local = parts-nodes R;
-      room = omega (arith, at-read-file .read-file .ensures .long, P .passed .room);
+      room = omega (arith, (read-of at-content2) .read-file .ensures .long, P .passed .room);
       few = R .few;
       low = R .low;
     }
@@ -102,9 +104,9 @@ place-parts-requires c κs =
 finish-requires : tie.Need-finish-requires
 finish-requires c κs =
     let at-place-parts : tie.After-place-parts = search in
-    let at-told : tie.After-enum-told = search (at-place-parts) in
+    let at-content2 : tie.After-content2 = search (at-place-parts) in
     let K = at-place-parts .place-parts .ensures .kept in
-    record { roomy = kept-roomy K (passed at-told .roomy); fewer = K .grows }
+    record { roomy = kept-roomy K (passed (told-of at-content2) .roomy); fewer = K .grows }
 
 enum-told-2 : tie.Need-enum-told-2
 enum-told-2 c = search needs
@@ -145,10 +147,9 @@ returns-4 c =
     let at-else : tie.Else1 = search (at-place-parts) in
     let at-top-of : tie.After-top-of = search (at-else) in
     let at-content2 : tie.After-content2 = search (at-top-of) in
-    let at-read-file : tie.After-read-file = search (at-content2) in
-    let at-told : tie.After-enum-told = search (at-read-file) in
+    let at-told = told-of at-content2 in
     let a = (start-of at-told) .args in
-    load-parts (a .store) (a .nodes .now) (a .lookup .now) (a .cache .now) (a .file .now) (a .words .now) _ (passed at-told) (at-read-file .read-file .ensures) _ (at-content2 .content2 .given .1)
+    load-parts (a .store) (a .nodes .now) (a .lookup .now) (a .cache .now) (a .file .now) (a .words .now) _ (passed at-told) ((read-of at-content2) .read-file .ensures) _ (at-content2 .content2 .given .1)
     (at-place-parts .place-parts .ensures) (omega (arith, at-top-of .top-of .ensures, at-else .if1 .left)) (at-finish .finish .ensures)
 
 same-length-7 : tie.Need-same-length-7
