@@ -1,6 +1,7 @@
 pub mod Family
 pub mod Combination
 pub mod Operation
+pub mod Parity
 pub mod Finite
 pub mod Book
 pub mod Parts

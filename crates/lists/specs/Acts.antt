@@ -8,16 +8,18 @@ use lib.ListN.{length, take}
 use Rattle.family.specs.Family.{Family}
 use Rattle.family.specs.Combination.{itemsOf}
 use Rattle.family.specs.Book.{at, place}
+use Rattle.family.specs.Parity.{parity}
 use Rattle.family.specs.File.{fileOf}
 use Rattle.store.specs.Refusals.{Given}
 use Rattle.store.specs.Operations.{named}
 use Rattle.store.specs.Placing.{tooLarge, placeAnswer}
 use Rattle.op_promise.specs.Promise.{operationRefusal, numberOf}
+use Rattle.op_parity.specs.Promise.{parityRefusal}
 use Rattle.query_size.specs.Promise.{SizeGiven, sizeAnswer}
 use Rattle.query_has.specs.Promise.{HasGiven, hasAnswer}
 use Rattle.file_save.specs.Promise.{SaveGiven, saveRefusal}
 use Rattle.file_load.specs.Promise.{loadRefusal, loadFamily}
-use Rattle.lists.specs.Calls.{Call, Operate, Size, Has, Save, Load, Audit, Fact, Number, Says, Handle, Tells, Writes, Answer}
+use Rattle.lists.specs.Calls.{Call, Operate, Parity, Size, Has, Save, Load, Audit, Fact, Number, Says, Handle, Tells, Writes, Answer}
 
 -- the answers, by what the calls return
 abbrev pub placeReturns : Given → Answer
@@ -51,6 +53,7 @@ pub data Act : Type 0 where
 -- capacity plays no part.
 abbrev pub actOf : ℕ → List Family → Call → Act
 actOf limit B (Operate op p q) = Places (operationRefusal (numberOf op) limit (count B) p q) (named (numberOf op) B p q)
+actOf limit B (Parity even p) = Places (parityRefusal (count B) p) (parity even (at B p))
 actOf limit B (Size p scratch) = Gives (sizeAnswer B p scratch .refusal) (Number (sizeAnswer B p scratch .size))
 actOf limit B (Has p combination) = Gives (hasAnswer B p (itemsOf combination) .refusal) (Says (hasAnswer B p (itemsOf combination) .member))
 actOf limit B (Save p scratch output) = Saves (saveRefusal B p scratch output) (at B p)

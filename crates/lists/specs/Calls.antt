@@ -1,4 +1,4 @@
--- Calls and their answers as data: document 01, 'Calls', and document 02, No. 7.
+-- Calls and their answers as data: document 01, 'Calls', and document 02, Nos. 4 and 7.
 use Prim.Native.Nat.{ℕ, _+_}
 use mathlib.Core.Bool.{Bool}
 use mathlib.Core.List.{List, [], _∷_}
@@ -6,9 +6,11 @@ use Rattle.op_promise.specs.declared.Operation.{Operation}
 
 -- A call, with all that it takes besides the record and the store's words: "handles, items, combinations, file bytes
 -- and lengths". p is a handle and q the second operand, a combination is the sixteen words of its record, and scratch
--- and output are lengths. The part of the cache that a call is lent is no part of it: the steps of Runs say it.
+-- and output are lengths. `Parity` is Even where its first argument is true, else Odd. The part of the cache that a
+-- call is lent is no part of it: the steps of Runs say it.
 pub data Call : Type 0 where
   Operate : Operation → (p q : ℕ) → Call
+  Parity : (even : Bool) (p : ℕ) → Call
   Size : (p scratch : ℕ) → Call
   Has : (p : ℕ) (combination : List ℕ) → Call
   Save : (p scratch output : ℕ) → Call
@@ -33,6 +35,15 @@ pub data Value : Type 0 where
 pub record Answer : Type 0 where
   pub refusal : ℕ
   pub value : Value
+
+-- a handle, and so many nodes added for it
+abbrev pub gives : ℕ → ℕ → Answer
+gives handle added = record { refusal = 0; value = Handle handle added }
+
+-- that a list of calls has this call, and it got this answer
+pub data Answered (call : Call) (answer : Answer) : List Call → List Answer → Type 0 where
+  here : {calls : List Call} {answers : List Answer} → Answered call answer (call ∷ calls) (answer ∷ answers)
+  later : {c : Call} {a : Answer} {calls : List Call} {answers : List Answer} → Answered call answer calls answers → Answered call answer (c ∷ calls) (a ∷ answers)
 
 -- the bytes that were written
 abbrev pub written : Value → List ℕ

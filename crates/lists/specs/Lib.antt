@@ -4,5 +4,6 @@ pub mod Table
 pub mod Books
 pub mod Runs
 pub mod Demand3
+pub mod Parted
 pub mod Witness
 pub mod Worked

@@ -2,6 +2,7 @@
 -- the cache, and 'Calls'.
 use Prim.Native.Nat.{ℕ}
 use mathlib.Core.Path.{_≡_}
+use mathlib.Core.Bool.{Bool}
 use mathlib.Core.List.{List, [], _∷_, _++_}
 use lib.ListN.{length, take, drop}
 use Rattle.family.specs.Combination.{itemsOf}
@@ -12,6 +13,7 @@ use Rattle.store.specs.Capacity.{capacityOf}
 use Rattle.store.specs.Refusals.{givenBy}
 use Rattle.store_fresh.specs.Promise.{freshNumber, FreshCall}
 use Rattle.op_promise.specs.Promise.{OperationCall, numberOf}
+use Rattle.op_parity.specs.Promise.{ParityCall}
 use Rattle.query_size.specs.declared.Measured.{Measured}
 use Rattle.query_has.specs.declared.Asked.{Asked}
 use Rattle.query_size.specs.Promise.{sizeGivenBy, SizeCall}
@@ -22,7 +24,7 @@ use Rattle.file_load.specs.Promise.{LoadCall}
 use Rattle.store_audit.specs.declared.audit.Audited.{Audited}
 use Rattle.store_audit.specs.Promise.{AuditCall}
 use Rattle.op_promise.specs.declared.Operation.{Operation}
-use Rattle.lists.specs.Calls.{Call, Operate, Size, Has, Save, Load, Audit, Answer}
+use Rattle.lists.specs.Calls.{Call, Operate, Parity, Size, Has, Save, Load, Audit, Answer}
 use Rattle.lists.specs.Acts.{placeReturns, sizeReturns, hasReturns, saveReturns, auditReturns}
 use Rattle.lists.specs.Books.{Bounds}
 
@@ -42,12 +44,15 @@ abbrev pub withPart : State → ℕ → Store → (nodes lookup part : List ℕ)
 withPart x lent s nodes lookup part = record { store = s; nodes = nodes; lookup = lookup; cache = part ++ drop lent (x .cache) }
 
 -- One call, from a state to the next: "each is handed the record last given back, and is lent Fresh's node and lookup
--- words whole, and any leading part of its cache, none included". The six operations, Load and Audit are lent a part
--- of the cache, as many words as `lent` says.
+-- words whole, and any leading part of its cache, none included". The six operations, Even, Odd, Load and Audit are lent
+-- a part of the cache, as many words as `lent` says.
 pub data Step (x : State) : Call → Answer → State → Type 0 where
   operates : (lent : ℕ) {op : Operation} {p q : ℕ} {r : Placed} {nodes lookup part : List ℕ}
       → OperationCall (numberOf op) p q (x .store) (x .nodes) (x .lookup) (take lent (x .cache)) r nodes lookup part
       → Step x (Operate op p q) (placeReturns (givenBy (r .answer))) (withPart x lent (r .store) nodes lookup part)
+  parts : (lent : ℕ) {even : Bool} {p : ℕ} {r : Placed} {nodes lookup part : List ℕ}
+      → ParityCall even p (x .store) (x .nodes) (x .lookup) (take lent (x .cache)) r nodes lookup part
+      → Step x (Parity even p) (placeReturns (givenBy (r .answer))) (withPart x lent (r .store) nodes lookup part)
   sizes : {p : ℕ} {scratch scratch′ : List ℕ} {r : Measured}
       → SizeCall (x .store) (x .nodes) (x .lookup) p scratch r scratch′
       → Step x (Size p (length scratch)) (sizeReturns (sizeGivenBy (r .answer))) (sameWords x (r .store))

@@ -8,6 +8,7 @@ use lib.Dec.{ltb}
 use lib.ListN.{length}
 use Rattle.family.specs.Family.{Family, size, top, largestItem}
 use Rattle.family.specs.Book.{at}
+use Rattle.family.specs.Parity.{parity}
 use Rattle.family.specs.File.{fileOf, familyOf}
 use Rattle.store.specs.Operations.{takesItem, named}
 use Rattle.store.specs.Placing.{tooLarge}
@@ -15,7 +16,7 @@ use Rattle.store.specs.Tests.{isItem}
 use Rattle.query_sizes.specs.NodeSizes.{most}
 use Rattle.op_promise.specs.declared.Operation.{Operation}
 use Rattle.op_promise.specs.Promise.{numberOf}
-use Rattle.lists.specs.Calls.{Call, Operate, Size, Has, Save, Load, Audit}
+use Rattle.lists.specs.Calls.{Call, Operate, Parity, Size, Has, Save, Load, Audit}
 use Rattle.lists.specs.Acts.{count}
 use Rattle.lists.specs.Books.{Bounds}
 
@@ -40,6 +41,7 @@ fileRefusal bounds B (some F) = cond (ltb (bounds .limit) (top F)) 13 (cond (too
 unfoldable pub refusalOf : Bounds → List Family → Call → ℕ
 refusalOf bounds B (Operate op p q) =
     cond (above B p || (not (onItem op) && above B q)) 4 (cond (onItem op && not (isItem (bounds .limit) q)) 3 (cond (tooLarge (bounds .capacity) B (named (numberOf op) B p q)) 5 0))
+refusalOf bounds B (Parity even p) = cond (above B p) 4 (cond (tooLarge (bounds .capacity) B (parity even (at B p))) 5 0)
 refusalOf bounds B (Size p scratch) = cond (above B p) 4 (cond (ltb scratch (count B)) 7 (cond (ltb most (size (at B p))) 6 0))
 refusalOf bounds B (Has p combination) = cond (above B p) 4 0
 refusalOf bounds B (Save p scratch output) = cond (above B p) 4 (cond (ltb scratch (count B)) 7 (cond (ltb output (length (fileOf (at B p)))) 8 0))

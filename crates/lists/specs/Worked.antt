@@ -7,7 +7,7 @@ use Rattle.table.specs.Start.{mixOf, startOf}
 use Rattle.store.specs.Capacity.{capacityOf}
 use Rattle.store.specs.Words.{wordsOf, lookupOf}
 use Rattle.op_promise.specs.declared.Operation.the-variants.{Subset1, Subset0, Change, Union, Intsec, Diff}
-use Rattle.lists.specs.Calls.{Call, Operate, Save, Handle, Writes, Answer}
+use Rattle.lists.specs.Calls.{Call, Operate, Save, Handle, Writes, Answer, gives}
 use Rattle.lists.specs.Books.{Bounds, answersOf, bookOfCalls}
 use Rattle.lists.specs.Runs.{State, Opening, Runs}
 
@@ -28,10 +28,6 @@ worked =
     Save 2 4 6 ∷
     Save 4 4 15 ∷
     []
-
--- a handle, and so many nodes added for it
-abbrev pub gives : ℕ → ℕ → Answer
-gives handle added = record { refusal = 0; value = Handle handle added }
 
 abbrev pub refusedWith : ℕ → Answer
 refusedWith n = record { refusal = n; value = Handle 0 0 }

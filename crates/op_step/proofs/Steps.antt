@@ -31,9 +31,9 @@ of call B = named (call .op) B (call .p) (call .q)
 
 -- operands that the call takes, where the limit is at least `least`
 pub record Taken (least : ℕ) (call : Call) (n : ℕ) : Type 0 where
-  pub operation : (1 ≤ call .op) × (call .op ≤ 6)
+  pub operation : (1 ≤ call .op) × (call .op ≤ 8)
   pub first : call .p < n + 2
-  pub second : (call .op < 4 → (1 ≤ call .q) × (call .q ≤ least)) × (4 ≤ call .op → call .q < n + 2)
+  pub second : (call .op < 4 → (1 ≤ call .q) × (call .q ≤ least)) × (4 ≤ call .op → call .q < n + 2) × (7 ≤ call .op → call .q ≡ 0)
 
 -- a call by its two calls below a level
 pub record Split (least : ℕ) (call below above : Call) (level : ℕ) (n : ℕ) (nodes lookup : List ℕ) : Type 0 where

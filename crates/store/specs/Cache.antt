@@ -18,7 +18,7 @@ pub record Group (cache : List ℕ) (g op p q h : ℕ) : Type 0 where
 
 -- "true: operands that the call takes, and the handle it gives", in a store of some limit
 pub record Truth (limit : ℕ) (B : List Family) (op p q h : ℕ) : Type 0 where
-  pub operation : (1 ≤ op) × (op ≤ 6)
+  pub operation : (1 ≤ op) × (op ≤ 8)
   pub first : p < length B
   pub second : Takes limit op B q
   pub result : h < length B

@@ -1,0 +1,2 @@
+-- The laws of `op_parity`.
+pub mod Splits
