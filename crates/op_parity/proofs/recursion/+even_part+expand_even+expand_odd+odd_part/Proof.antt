@@ -7,7 +7,6 @@ use mathlib.Core.Bool.{true, false}
 use native.Mathlib.Omega.{arith}
 use Rattle.store.specs.Inner.{fillOf}
 use Rattle.store.proofs.Codes.{coded-handle, coded-refused}
-use Rattle.store.proofs.Growing.{kept-top, kept-roomy}
 use Rattle.store_sides.proofs.Answers.{sides-two, sides-broken}
 use Rattle.op_step.proofs.Steps.{node-asks, step-first, step-second, step-done}
 use Rattle.op_step.proofs.Outcomes.{ran-broken, ran-recalled}
