@@ -20,7 +20,7 @@ pub record Numbered (B : List Family) (F : Family) (h : ℕ) : Type 0 where
   pub held : Held B F
   pub is : number B F ≡ h
 
-numbered-grown : {B C : List Family} {F : Family} {h : ℕ} → Grown B C → Numbered B F h → Numbered C F h
+pub numbered-grown : {B C : List Family} {F : Family} {h : ℕ} → Grown B C → Numbered B F h → Numbered C F h
 numbered-grown {F = F} g N = record { held = grown-held g F (N .held); is = grown-number g F (N .held) ∙ N .is }
 
 -- the book is made by the families handed out: it is their parts, and each family stands there under its handle
@@ -37,7 +37,7 @@ absent-all [] = refl
 absent-all (h ∷ hs) = absent-append start (parts (h .family)) (allParts hs) ∙ rw (absent-start (h .family), absent-all hs)
 
 -- a family that was placed is held
-placed-held : (B : List Family) (F : Family) → Grown start B → Held (place B F) F
+pub placed-held : (B : List Family) (F : Family) → Grown start B → Held (place B F) F
 placed-held B empty g = grown-held g empty (held-empty start (book-start 0))
 placed-held B base g = grown-held g base (held-base start (book-start 0))
 placed-held B (node i a b) g = add-held (place (place B a) b) (node i a b)
