@@ -7,8 +7,8 @@ use mathlib.Core.List.{List, [], _∷_, _++_, append-assoc, append-nil, foldl, f
 use mathlib.Core.Logic.{⊎-elim}
 use lib.ListN.{length, length-append}
 use Rattle.family.specs.Family.{Family, empty, base, node, parts}
-use Rattle.family.specs.Book.{start, number, Held, add, place, Grown, distinct, absent}
-use Rattle.family.proofs.Books.{grown-self, grown-trans, grown-number, grown-held, add-held, book-start, held-empty, held-base, number-empty, number-base}
+use Rattle.family.specs.Book.{start, at, number, Held, add, place, Grown, distinct, absent}
+use Rattle.family.proofs.Books.{number-at, grown-self, grown-trans, grown-number, grown-held, add-held, book-start, held-empty, held-base, number-empty, number-base}
 use Rattle.family.proofs.Placing.{place-parts, place-grown}
 use Rattle.family.proofs.Different.{add-all, absent-append, absent-start}
 use Rattle.lists.specs.Calls.{Call}
@@ -22,6 +22,9 @@ pub record Numbered (B : List Family) (F : Family) (h : ℕ) : Type 0 where
 
 pub numbered-grown : {B C : List Family} {F : Family} {h : ℕ} → Grown B C → Numbered B F h → Numbered C F h
 numbered-grown {F = F} g N = record { held = grown-held g F (N .held); is = grown-number g F (N .held) ∙ N .is }
+
+pub numbered-at : {B : List Family} {F : Family} {h : ℕ} → Numbered B F h → at B h ≡ F
+numbered-at {B} {F} N = ap (λ k. at B k) (sym (N .is)) ∙ number-at B F (N .held)
 
 -- the book is made by the families handed out: it is their parts, and each family stands there under its handle
 pub record MadeBy (B : List Family) (hs : List Handout) : Type 0 where

@@ -1,6 +1,6 @@
 -- The families that calls take keep to the limit: those of an operation and those of a file.
 -- An operation keeps to the limit of its operands, and reading a file adds only nodes that fit a book.
-use Prim.Native.Nat.{ℕ, zero, suc, _+_, _≤_, _<_}
+use Prim.Native.Nat.{ℕ, zero, suc, _≤_, _<_}
 use mathlib.Core.Path.{_≡_, sym, _∙_}
 use mathlib.Core.Bool.{true, cond, _&&_}
 use mathlib.Core.List.{List, [], _∷_, _++_}

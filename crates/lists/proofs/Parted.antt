@@ -10,8 +10,8 @@ use lib.ListN.{length}
 use Rattle.family.specs.Family.{Family}
 use Rattle.family.specs.Operation.{combine}
 use Rattle.family.specs.Parity.{parity}
-use Rattle.family.specs.Book.{start, at, Grown, Book}
-use Rattle.family.proofs.Books.{number-at, grown-trans, grown-length, grown-at, number-empty, held-empty, held-at, at-within, two-long}
+use Rattle.family.specs.Book.{start, at, Book}
+use Rattle.family.proofs.Books.{grown-trans, grown-length, grown-at, number-empty, held-empty, held-at, at-within}
 use Rattle.family.proofs.Parity.{parity-apart, parity-union}
 use Rattle.store.specs.Operations.{rule, named}
 use Rattle.store.proofs.Naming.{named-families, rule-4, rule-5}
@@ -23,15 +23,15 @@ use Rattle.op_promise.proofs.Refusing.{family-number}
 use Rattle.op_parity.specs.Promise.{parityRefusal}
 use Rattle.lists.specs.Calls.{Call, Operate, Parity, Answer, gives, Answered}
 use Rattle.lists.specs.Acts.{count}
-use Rattle.lists.specs.Books.{Bounds, bookAnswer, bookAfter, bookFrom}
-use Rattle.lists.specs.Runs.{State}
+use Rattle.lists.specs.Books.{Bounds, bookAnswer, bookFrom}
+use Rattle.lists.specs.Runs.{State, boundsOf}
 use Rattle.lists.specs.Parted.{PartedClaim}
 use Rattle.lists.proofs.Invariant.{book}
 use Rattle.lists.proofs.Placings.{TakesFamily}
 use Rattle.lists.proofs.Steps.{step}
-use Rattle.lists.proofs.Growth.{Numbered, numbered-grown, book-grown}
+use Rattle.lists.proofs.Growth.{Numbered, numbered-grown, numbered-at, book-grown}
 use Rattle.lists.proofs.Reaching.{Reached, reached}
-use Rattle.lists.proofs.Answering.{between, unrefused, numbered, held-given}
+use Rattle.lists.proofs.Answering.{Between, between, unrefused, numbered, held-given}
 
 -- h means the even part of what p means, or the odd part
 record PartOf (C : List Family) (even : Bool) (p h : ℕ) : Type 0 where
@@ -40,26 +40,25 @@ record PartOf (C : List Family) (even : Bool) (p h : ℕ) : Type 0 where
   is : at C h ≡ parity even (at C p)
 
 -- the handle that Even or Odd gave, in every later book
-module _ {bounds : Bounds} {even : Bool} {p h added : ℕ} {B C : List Family} (begun : Grown start B)
-    (e : gives h added ≡ bookAnswer bounds B (Parity even p)) (after : Grown (bookAfter bounds B (Parity even p)) C) where
-  takes : TakesFamily bounds B (Parity even p) (parityRefusal (count B) p) (parity even (at B p))
+module _ {bounds : Bounds} {even : Bool} {p h added : ℕ} {C : List Family} (N : Between bounds (Parity even p) (gives h added) start C) where
+  takes : TakesFamily bounds (N .before) (Parity even p) (parityRefusal (count (N .before)) p) (parity even (at (N .before) p))
   takes = record { act = refl }
 
-  inside : p < length B
-  inside = omega (arith, passes (count B) p 0 0 0 0 (unrefused takes e) .first, grown-length begun)
+  inside : p < length (N .before)
+  inside = omega (arith, passes (count (N .before)) p 0 0 0 0 (unrefused takes (N .answer-is)) .first, grown-length (N .begun))
 
   part-in : PartOf C even p h
   part-in =
-      let g = grown-trans (book-grown bounds B (Parity even p ∷ [])) after in
-      let N = numbered-grown after (numbered takes e begun) in
+      let g = grown-trans (book-grown bounds (N .before) (Parity even p ∷ [])) (N .after) in
+      let part = numbered-grown (N .after) (numbered takes (N .answer-is) (N .begun)) in
       record {
         family-held = omega (arith, inside, grown-length g);
-        part-held = omega (arith, N .held, N .is);
-        is = ap (λ k. at C k) (sym (N .is)) ∙ number-at C (parity even (at B p)) (N .held) ∙ ap (λ X. parity even X) (sym (grown-at g p inside));
+        part-held = omega (arith, part .held, part .is);
+        is = numbered-at part ∙ ap (λ X. parity even X) (sym (grown-at g p inside));
       }
 
 -- an operation on the two parts that names a family held
-module _ {bounds : Bounds} {C : List Family} (book : Book (bounds .limit) C) {even : Bool} {p e o : ℕ} (E : PartOf C even p e) (O : PartOf C (not even) p o) where
+module _ (bounds : Bounds) {C : List Family} (book : Book (bounds .limit) C) {even : Bool} {p e o : ℕ} (E : PartOf C even p e) (O : PartOf C (not even) p o) where
   names : (op : Operation) {F : Family} {h : ℕ} → 4 ≤ numberOf op → numberOf op ≤ 6 → combine (rule (numberOf op)) (parity even (at C p)) (parity (not even) (at C p)) ≡ F
       → Numbered C F h → bookAnswer bounds C (Operate op e o) ≡ gives h 0
   names op {F} l m is N = held-given joins book none N
@@ -87,12 +86,12 @@ module _ {bounds : Bounds} {C : List Family} (book : Book (bounds .limit) C) {ev
 
 part-after : {bounds : Bounds} {slots : ℕ} {calls : List Call} {answers : List Answer} {x : State} → Reached bounds slots calls answers x → {even : Bool} {p h added : ℕ}
     → Answered (Parity even p) (gives h added) calls answers → PartOf (bookFrom bounds start calls) even p h
-part-after {bounds} R found = let N = between bounds start found (R .answered) in part-in (N .begun) (N .answer-is) (N .after)
+part-after {bounds} R found = part-in (between bounds start found (R .answered))
 
 pub parted : PartedClaim
 parted opening calls answers x run =
     let R = reached run in
     record {
-      apart = λ even p e o added more first second s. step (R .inv) s .answer-is ∙ shared-none (book (R .inv)) (part-after R first) (part-after R second);
-      whole = λ even p e o added more first second s. step (R .inv) s .answer-is ∙ joined-all (book (R .inv)) (part-after R first) (part-after R second);
+      apart = λ even p e o added more first second s. step (R .inv) s .answer-is ∙ shared-none (boundsOf opening) (book (R .inv)) (part-after R first) (part-after R second);
+      whole = λ even p e o added more first second s. step (R .inv) s .answer-is ∙ joined-all (boundsOf opening) (book (R .inv)) (part-after R first) (part-after R second);
     }
