@@ -17,16 +17,16 @@ use borrow.Fn.Kinds.{In}
 use borrow.Fn.PlainCycle.{Measures, is, falls, and}
 use Rattle.op_parity.proofs.recursion.even_part.Reads as even-part
 use Rattle.op_parity.proofs.recursion.even_part.Kinds as even-part-kinds
-use Rattle.op_parity.proofs.recursion.+even_part+expand_even+expand_odd+odd_part.Lts-even-part as even-part-lts
+use Rattle.op_parity.proofs.recursion.+even_part+expand_even+expand_odd+odd_part.Lts-even_part as even-part-lts
 use Rattle.op_parity.proofs.recursion.expand_even.Reads as expand-even
 use Rattle.op_parity.proofs.recursion.expand_even.Kinds as expand-even-kinds
-use Rattle.op_parity.proofs.recursion.+even_part+expand_even+expand_odd+odd_part.Lts-expand-even as expand-even-lts
+use Rattle.op_parity.proofs.recursion.+even_part+expand_even+expand_odd+odd_part.Lts-expand_even as expand-even-lts
 use Rattle.op_parity.proofs.recursion.expand_odd.Reads as expand-odd
 use Rattle.op_parity.proofs.recursion.expand_odd.Kinds as expand-odd-kinds
-use Rattle.op_parity.proofs.recursion.+even_part+expand_even+expand_odd+odd_part.Lts-expand-odd as expand-odd-lts
+use Rattle.op_parity.proofs.recursion.+even_part+expand_even+expand_odd+odd_part.Lts-expand_odd as expand-odd-lts
 use Rattle.op_parity.proofs.recursion.odd_part.Reads as odd-part
 use Rattle.op_parity.proofs.recursion.odd_part.Kinds as odd-part-kinds
-use Rattle.op_parity.proofs.recursion.+even_part+expand_even+expand_odd+odd_part.Lts-odd-part as odd-part-lts
+use Rattle.op_parity.proofs.recursion.+even_part+expand_even+expand_odd+odd_part.Lts-odd_part as odd-part-lts
 use Rattle.op_cache.proofs.group_of.Reads as group-of-reads
 use Rattle.op_cache.proofs.recall.Reads as recall-reads
 use Rattle.op_step.proofs.keep.Reads as keep-reads
