@@ -15,6 +15,14 @@ use borrow.Author.Needs.{needs}
 use Rattle.op_parity.proofs.calls.of_parity.Statement.{statement}
 use Rattle.op_parity.proofs.calls.of_parity.Tie as tie
 
+returns : tie.Need-returns
+returns c =
+    let at-found : tie.After-found = search in
+    let at-tested : tie.After-tested = search in
+    let at-start : tie.Start = search in
+    let a = at-start .args in
+    placing-refused (a .nodes .now) (a .lookup .now) (at-tested .tested .ensures) (at-found .found .given .1) (λ e. omega arith) (λ d. d) _ _ (c .refused .result) (c .refused .ensures .0) (c .refused .ensures .1)
+
 -- what stands before the tests passed
 abbrev start-of : tie.After-enum-told → tie.Start
 start-of c = search
@@ -41,14 +49,6 @@ asks c =
     let P = passed (told-of c) in
     let low = fits-true _ _ _ (P .fits) .limit-is .1 in
     record { roomy = P .roomy; held = P .passed .first; level-is = (top-of c) .top-of .ensures; level-low = omega (arith, c .if1 .left) }
-
-returns : tie.Need-returns
-returns c =
-    let at-found : tie.After-found = search in
-    let at-tested : tie.After-tested = search in
-    let at-start : tie.Start = search in
-    let a = at-start .args in
-    placing-refused (a .nodes .now) (a .lookup .now) (at-tested .tested .ensures) (at-found .found .given .1) (λ e. omega arith) (λ d. d) _ _ (c .refused .result) (c .refused .ensures .0) (c .refused .ensures .1)
 
 top-of-requires : tie.Need-top-of-requires
 top-of-requires c κs =
