@@ -2,29 +2,47 @@
 // documents 01 and 02 alone. The families are CUDD's zero-suppressed diagrams; nothing of this library is used.
 #include "crafting.h"
 
-// One drawn call.
+// Even and Odd of p, then Intsec and Union of what they gave.
+static void parts_calls(u32 p, size_t cache) {
+    u32 even = operation(7, p, 0, lend(63), cache);
+    u32 odd = operation(8, p, 0, lend(63), cache);
+    operation(5, even, odd, lend(63), cache);
+    operation(4, even, odd, lend(63), cache);
+}
+
+// The operation of a kind, and the second operand that is drawn for it: an item, a handle, or none.
+static u32 operation_of(u32 kind) {
+    static const u32 FIRST[] = {0, 3, 6, 12, 17, 20, 23, 25};
+    return (u32)(std::upper_bound(FIRST, FIRST + 8, kind) - FIRST);
+}
+static u32 second_operand(u32 op, u32 x, u32 items) {
+    return op < 4 ? drawn_item(x, items) : op < 7 ? drawn_handle(x) : 0;
+}
+
+// One turn: a drawn call, or those of both parts of a family.
 static void turn(u32 items, bool whole, size_t cache) {
     Drawn drawn = draw();
-    u32 kind = drawn.kind % 40;
+    u32 kind = drawn.kind % 46;
     Lent lent = lend(drawn.d);
-    if (kind < 23) {
-        u32 op = kind < 3 ? 1 : kind < 6 ? 2 : kind < 12 ? 3 : kind < 17 ? 4 : kind < 20 ? 5 : 6;
-        u32 q = op < 4 ? drawn_item(drawn.b, items) : drawn_handle(drawn.b);
+    if (kind < 27) {
+        u32 op = operation_of(kind), q = second_operand(op, drawn.b, items);
         operation(op, drawn_handle(drawn.a), q, lent, cache_part(drawn.c, whole, cache));
-    } else if (kind < 25) {
+    } else if (kind < 29) {
+        parts_calls(drawn_handle(drawn.a), cache_part(drawn.c, whole, cache));
+    } else if (kind < 31) {
         size_call(drawn_handle(drawn.a), lent, scratch(drawn.c, count(), 1100));
-    } else if (kind < 27) {
+    } else if (kind < 33) {
         u32 p = drawn_handle(drawn.a);
         has_call(p, drawn_combination(drawn, items, p), lent);
-    } else if (kind < 29) {
+    } else if (kind < 35) {
         size_t room = drawn.b % 8 == 0 ? drawn.b / 8 % 40 : buffer.size();
         save_calls(drawn_handle(drawn.a), lent, scratch(drawn.c, count(), 1100), room);
-    } else if (kind < 34) {
+    } else if (kind < 40) {
         size_t n = drawn_length(drawn.c);
         load_call(n, lent, cache_part(drawn.a, whole, cache), scratch(drawn.b, 6 * n, 12400));
-    } else if (kind < 36) {
+    } else if (kind < 42) {
         audit_call(drawn, lent, cache_part(drawn.c, whole, cache));
-    } else if (kind < 39) {
+    } else if (kind < 45) {
         craft(drawn);
     } else {
         damage(drawn);
@@ -38,7 +56,7 @@ static u32 measured_operation(u32 op, u32 p, u32 q, size_t cache) {
     return handle;
 }
 
-// All subsets of 1 to 64 items, and families of 2^64 - 1 members and of one more.
+// All subsets of 1 to 64 items, families of 2^64 - 1 members and of one more, and two parts of 2^63 members each.
 static void subsets(size_t cache) {
     u32 all = 1;
     for (u32 item = 1; item <= 64; item++) {
@@ -50,6 +68,9 @@ static void subsets(size_t cache) {
     measured_operation(3, all, 65, cache);
     u32 single = measured_operation(3, 1, 65, cache);
     measured_operation(4, less, single, cache);
+    measured_operation(7, all, 0, cache);
+    measured_operation(8, all, 0, cache);
+    parts_calls(all, cache);
 }
 
 // Fresh: a book with {} and {{}} alone.
@@ -159,6 +180,7 @@ int main(int argc, char **argv) {
     if (!manager) return 2;
     EMPTY = keep(pbori_Cudd_ReadZero(manager));
     BASE = keep(pbori_Cudd_ReadZddOne(manager, 512)); // past the last variable: {{}} itself
+    make_even_and_odd();
     all_nodes.assign(3010, 2779096485u);
     all_lookup.assign(2060, 2779096485u);
     for (const u32 *l : LISTS) list(l[0], l[1], l[2], l[3], l[4], l[5]);

@@ -5,12 +5,12 @@ use crate::loads;
 use crate::loads::Reading;
 use crate::loads::needed;
 use crate::placing;
-use crate::placing::Operation;
+use crate::placing::of;
 use crate::saves;
 use crate::saves::Room;
-use crate::turn::State;
-use crate::turn::with_file;
-use crate::turn::with_placed;
+use crate::state::State;
+use crate::state::with_file;
+use crate::state::with_placed;
 use store::record::Store;
 
 // One less; 0 for 0.
@@ -77,11 +77,7 @@ fn newest(store: Store) -> u32 {
 fn changed(state: State, nodes: &mut [u32], lookup: &mut [u32], cache: &mut [u32]) -> State {
     let store = state.store;
     let lent = everything(store, lookup.len(), cache.len());
-    let call = Operation {
-        op: 3,
-        p: newest(store),
-        q: store.limit,
-    };
+    let call = of(3, newest(store), store.limit);
     let placed = placing::line(call, lent, nodes, lookup, cache);
     with_placed(state, placed)
 }

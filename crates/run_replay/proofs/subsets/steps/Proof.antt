@@ -1,17 +1,17 @@
--- `lines` is safe and ends: the measure is the number of steps that are left.
--- Each turn keeps the lengths of the lent words, and the step stays below 134.
+-- `steps` is safe and ends: the measure is the number of steps that are left.
+-- Each turn keeps the lengths of the lent words, and the step stays below 136.
 use mathlib.Core.Path.{_≡_}
 use Prim.Native.Nat.{_-_, _≤_}
 use lib.ListN.{length}
 use borrow.Author.Needs.{needs}
-use Rattle.run_replay.proofs.subsets.lines.Statement.{statement}
-use Rattle.run_replay.proofs.subsets.lines.Tie as tie
+use Rattle.run_replay.proofs.subsets.steps.Statement.{statement}
+use Rattle.run_replay.proofs.subsets.steps.Tie as tie
 
 abbrev Inv-loop : tie.InvT-loop
-Inv-loop nodes₀ lookup₀ cache₀ built₀ step₀ nodes lookup cache built step = (length nodes ≡ length nodes₀) × (length lookup ≡ length lookup₀) × (length cache ≡ length cache₀) × (step ≤ 133)
+Inv-loop nodes₀ lookup₀ cache₀ built₀ step₀ nodes lookup cache built step = (length nodes ≡ length nodes₀) × (length lookup ≡ length lookup₀) × (length cache ≡ length cache₀) × (step ≤ 135)
 
 abbrev μ-loop : tie.MeasureT-loop
-μ-loop nodes₀ lookup₀ cache₀ built₀ step₀ nodes lookup cache built step = 133 - step
+μ-loop nodes₀ lookup₀ cache₀ built₀ step₀ nodes lookup cache built step = 135 - step
 
 loop-holds : tie.Need-loop-holds Inv-loop μ-loop
 loop-holds c = search needs
@@ -40,8 +40,8 @@ same-length-3 c = search needs
 returns : tie.Need-returns Inv-loop μ-loop
 returns c = search needs
 
-pub lines-spec : {M : Type 1} → statement M
-lines-spec =
+pub steps-spec : {M : Type 1} → statement M
+steps-spec =
     tie.close
     (tie.spec
     Inv-loop
