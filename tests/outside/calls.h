@@ -31,19 +31,19 @@ static void test_bound(Family result, Family p, Family q) {
     if (most <= 4 * added) tally["bound tested, a quarter of it reached"]++;
 }
 
-// Tests what Even and Odd give together.
-static void test_parts(Family f) {
+// Tests what Even and Odd of a family are together.
+static void test_parity(Family f) {
     Family even = operated(7, f, EMPTY, 0), odd = operated(8, f, EMPTY, 0);
     must_hold(operated(5, even, odd, 0) == EMPTY, "the even and the odd part share no member");
     must_hold(operated(4, even, odd, 0) == f, "the union of the even and the odd part is the family");
     size_t parts = parts_of(f).size();
-    tally["parts tested"]++;
-    if (f == EMPTY) tally["parts tested, of {}"]++;
-    if (f == BASE) tally["parts tested, of {{}}"]++;
-    if (even != EMPTY && odd != EMPTY) tally["parts tested, neither is {}"]++;
-    if (100 <= parts) tally["parts tested, of 100 nodes or more"]++;
-    if (200 <= parts) tally["parts tested, of 200 nodes or more"]++;
-    if (count() == capacity) tally["parts tested, in a full store"]++;
+    tally["parity tested"]++;
+    if (f == EMPTY) tally["parity tested, of {}"]++;
+    if (f == BASE) tally["parity tested, of {{}}"]++;
+    if (even != EMPTY && odd != EMPTY) tally["parity tested, neither even nor odd part is {}"]++;
+    if (100 <= parts) tally["parity tested, of 100 parts or more"]++;
+    if (200 <= parts) tally["parity tested, of 200 parts or more"]++;
+    if (count() == capacity) tally["parity tested, in a full store"]++;
 }
 
 // Writes how many nodes a call added; the numbers since Fresh must sum to the count.
@@ -86,7 +86,7 @@ static u32 operation(u32 op, u32 p, u32 q, const Lent &lent, size_t cache) {
     else {
         Family second = two ? book[q] : EMPTY, result = operated(op, book[p], second, q);
         if (two) test_bound(result, book[p], second);
-        if (7 <= op) test_parts(book[p]);
+        if (7 <= op) test_parity(book[p]);
         handle = placed(NAMES[op], result);
         n = count();
     }

@@ -3,23 +3,25 @@
 #include "crafting.h"
 
 // Even and Odd of p, then Intsec and Union of what they gave.
-static void parts_calls(u32 p, size_t cache) {
+static void parity_calls(u32 p, size_t cache) {
     u32 even = operation(7, p, 0, lend(63), cache);
     u32 odd = operation(8, p, 0, lend(63), cache);
     operation(5, even, odd, lend(63), cache);
     operation(4, even, odd, lend(63), cache);
 }
 
-// The operation of a kind, and the second operand that is drawn for it: an item, a handle, or none.
+// The number of the operation that a kind stands for.
 static u32 operation_of(u32 kind) {
     static const u32 FIRST[] = {0, 3, 6, 12, 17, 20, 23, 25};
     return (u32)(std::upper_bound(FIRST, FIRST + 8, kind) - FIRST);
 }
+
+// The second operand that is drawn: an item, a handle, or none.
 static u32 second_operand(u32 op, u32 x, u32 items) {
     return op < 4 ? drawn_item(x, items) : op < 7 ? drawn_handle(x) : 0;
 }
 
-// One turn: a drawn call, or those of both parts of a family.
+// One turn: a drawn call, or both parts of the newest family or of a drawn one.
 static void turn(u32 items, bool whole, size_t cache) {
     Drawn drawn = draw();
     u32 kind = drawn.kind % 46;
@@ -28,7 +30,8 @@ static void turn(u32 items, bool whole, size_t cache) {
         u32 op = operation_of(kind), q = second_operand(op, drawn.b, items);
         operation(op, drawn_handle(drawn.a), q, lent, cache_part(drawn.c, whole, cache));
     } else if (kind < 29) {
-        parts_calls(drawn_handle(drawn.a), cache_part(drawn.c, whole, cache));
+        u32 p = drawn.b % 2 == 0 ? drawn_handle(drawn.a) : count() + 1;
+        parity_calls(p, cache_part(drawn.c, whole, cache));
     } else if (kind < 31) {
         size_call(drawn_handle(drawn.a), lent, scratch(drawn.c, count(), 1100));
     } else if (kind < 33) {
@@ -43,7 +46,7 @@ static void turn(u32 items, bool whole, size_t cache) {
     } else if (kind < 42) {
         audit_call(drawn, lent, cache_part(drawn.c, whole, cache));
     } else if (kind < 45) {
-        craft(drawn);
+        craft(drawn, 1 + drawn.a % 6, 0);
     } else {
         damage(drawn);
     }
@@ -70,7 +73,7 @@ static void subsets(size_t cache) {
     measured_operation(4, less, single, cache);
     measured_operation(7, all, 0, cache);
     measured_operation(8, all, 0, cache);
-    parts_calls(all, cache);
+    parity_calls(less, cache);
 }
 
 // Fresh: a book with {} and {{}} alone.
@@ -117,6 +120,13 @@ static void load_carried(size_t cache) {
     load_call(n, lend(63), cache, 12400);
 }
 
+// Even and Odd of a family of 200 parts.
+static void tall(size_t cache) {
+    craft(draw(), 200, 56);
+    load_call(file_length, lend(63), cache, 12400);
+    parity_calls(count() + 1, cache);
+}
+
 // The newest family, with the limit among its items if there is room, is saved for the next list.
 static void make_carried(size_t cache) {
     operation(3, count() + 1, limit, lend(63), cache);
@@ -128,6 +138,7 @@ static void make_carried(size_t cache) {
 static void calls_of_list(size_t cache, u32 items, u32 calls) {
     load_carried(cache);
     if (items == 70) subsets(cache);
+    if (items == 512) tall(cache);
     for (u32 k = 0; k < calls; k++) turn(items, 16 < items, cache);
     make_carried(cache);
 }
@@ -163,16 +174,16 @@ static const u32 LISTS[][6] = {
     {14, 4, 8, 64, 3, 0},
     {14, 5, 8, 0, 3, 12},
     {14, 5, 8, 513, 3, 0},
-    {12, 7, 0, 512, 2, 150},
-    {901, 307, 4099, 512, 512, 260},
-    {240, 83, 64, 511, 3, 300},
+    {12, 7, 0, 512, 2, 130},
+    {2701, 907, 4099, 512, 512, 260},
+    {240, 83, 64, 511, 3, 280},
     {3002, 2053, 4096, 70, 70, 260},
-    {151, 53, 29, 64, 3, 300},
-    {75, 64, 0, 33, 2, 250},
-    {43, 15, 4, 32, 2, 250},
-    {600, 211, 255, 31, 5, 260},
-    {14, 5, 3, 2, 2, 150},
-    {3, 2, 0, 1, 1, 80},
+    {151, 53, 29, 64, 3, 270},
+    {75, 64, 0, 33, 2, 220},
+    {43, 15, 4, 32, 2, 220},
+    {600, 211, 255, 31, 5, 250},
+    {14, 5, 3, 2, 2, 130},
+    {3, 2, 0, 1, 1, 70},
 };
 
 int main(int argc, char **argv) {

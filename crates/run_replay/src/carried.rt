@@ -9,9 +9,9 @@ use crate::placing::of;
 use crate::saves;
 use crate::saves::Room;
 use crate::state::State;
+use crate::state::newest;
 use crate::state::with_file;
 use crate::state::with_placed;
-use store::record::Store;
 
 // One less; 0 for 0.
 fn less(n: usize) -> usize {
@@ -22,7 +22,7 @@ fn less(n: usize) -> usize {
 }
 
 // Loads so many bytes in so much scratch.
-fn load(
+pub fn load(
     bytes: usize,
     words: usize,
     state: State,
@@ -66,11 +66,6 @@ pub fn loaded(
     let bytes = at_most(state.length, file.len());
     let same = refused(bytes, state, nodes, lookup, cache, file);
     load(bytes, 12400, same, nodes, lookup, cache, file)
-}
-
-// The handle of the newest family.
-fn newest(store: Store) -> u32 {
-    std::num::wrapping_add_u32(store.count, 1)
 }
 
 // Changes the newest family by the limit: the newest one then holds that item, if there is room.

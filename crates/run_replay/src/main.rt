@@ -8,7 +8,7 @@ mod lists;
 mod loads;
 mod members;
 mod output;
-mod parts;
+mod parity;
 mod path;
 mod placing;
 mod saves;
@@ -17,6 +17,7 @@ mod sizes;
 mod state;
 mod subsets;
 mod sums;
+mod tall;
 mod turn;
 
 fn main() {

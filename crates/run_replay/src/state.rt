@@ -46,3 +46,8 @@ pub fn with_file(state: State, draw: u32, length: usize) -> State {
         length: length,
     }
 }
+
+// The handle of the newest family.
+pub fn newest(store: Store) -> u32 {
+    std::num::wrapping_add_u32(store.count, 1)
+}

@@ -1,6 +1,6 @@
 // All subsets of 1 to 64 items, families of 2^64 - 1 members and of one more, and two parts of 2^63 members each.
 use crate::lend::everything;
-use crate::parts;
+use crate::parity;
 use crate::placing;
 use crate::placing::Operation;
 use crate::placing::handle_of;
@@ -109,8 +109,8 @@ fn steps(start: State, nodes: &mut [u32], lookup: &mut [u32], cache: &mut [u32])
     built
 }
 
-// Writes the lines; gives the state after them.
+// Writes the lines of all steps, and of both parts of all subsets but the empty one; gives the state after them.
 pub fn lines(start: State, nodes: &mut [u32], lookup: &mut [u32], cache: &mut [u32]) -> State {
     let built = steps(start, nodes, lookup, cache);
-    parts::lines(built.all, cache.len(), built.state, nodes, lookup, cache)
+    parity::lines(built.less, cache.len(), built.state, nodes, lookup, cache)
 }

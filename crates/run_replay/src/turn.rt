@@ -1,6 +1,6 @@
 // One turn of a list: draws a call, runs it and writes its line.
 use crate::audits;
-use crate::craft::craft;
+use crate::craft;
 use crate::craft::put;
 use crate::draw::Drawn;
 use crate::draw::at_most;
@@ -18,13 +18,14 @@ use crate::members;
 use crate::output::length;
 use crate::output::text;
 use crate::output::word;
-use crate::parts;
+use crate::parity;
 use crate::placing;
 use crate::placing::drawn_operation;
 use crate::saves;
 use crate::saves::Room;
 use crate::sizes;
 use crate::state::State;
+use crate::state::newest;
 use crate::state::with_file;
 use crate::state::with_placed;
 
@@ -58,7 +59,7 @@ fn operation(
     with_placed(state, placed)
 }
 
-// Both parts of a family.
+// Both parts of the newest family or of a drawn one.
 fn both_parts(
     drawn: Drawn,
     manner: Manner,
@@ -67,9 +68,12 @@ fn both_parts(
     lookup: &mut [u32],
     cache: &mut [u32],
 ) -> State {
-    let p = handle(drawn.a, state.store.count);
+    let mut p = newest(state.store);
+    if drawn.b % 2 == 0 {
+        p = handle(drawn.a, state.store.count);
+    }
     let lent = part(drawn.c, manner.whole, cache.len());
-    parts::lines(p, lent, state, nodes, lookup, cache)
+    parity::lines(p, lent, state, nodes, lookup, cache)
 }
 
 // Size.
@@ -165,11 +169,8 @@ fn audit(
 
 // A drawn file into the buffer.
 fn crafted(drawn: Drawn, state: State, file: &mut [u8]) -> State {
-    let made = craft(file, drawn, state.store.limit);
-    text(b"Craft");
-    saves::bytes(file, made.length);
-    text(b"\n");
-    with_file(state, made.draw, made.length)
+    let made = craft::short(file, drawn, state.store.limit);
+    craft::line(made, state, file)
 }
 
 // A drawn byte into the file in the buffer.
