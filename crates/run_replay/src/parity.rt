@@ -6,81 +6,78 @@ use crate::placing::handle_of;
 use crate::placing::of;
 use crate::state::State;
 use crate::state::with_placed;
+use store::record::Placed;
 
-// The state after a call, and the handle given.
-struct Called {
-    state: State,
-    handle: u32,
-}
-
-// Runs an operation with all words lent, and so much of the cache.
-fn call(
-    operation: Operation,
-    part: usize,
-    state: State,
-    nodes: &mut [u32],
-    lookup: &mut [u32],
-    cache: &mut [u32],
-) -> Called {
-    let lent = everything(state.store, lookup.len(), part);
-    let placed = placing::line(operation, lent, nodes, lookup, cache);
-    let answer = placed.answer;
-    Called {
-        state: with_placed(state, placed),
-        handle: handle_of(answer),
-    }
-}
-
-// The state after Even and Odd, and the handles given.
+// The state, and the handles of the even and the odd part.
 struct Pair {
     state: State,
     even: u32,
     odd: u32,
 }
 
-// Even and Odd of p.
-fn parted(
+// The operation of a step: Even and Odd of p, then Intsec and Union of both parts.
+fn operation(step: u32, p: u32, pair: Pair) -> Operation {
+    match step {
+        0 => of(7, p, 0),
+        1 => of(8, p, 0),
+        2 => of(5, pair.even, pair.odd),
+        _ => of(4, pair.even, pair.odd),
+    }
+}
+
+// What a step leaves.
+fn after(step: u32, pair: Pair, placed: Placed) -> Pair {
+    let answer = placed.answer;
+    let handle = handle_of(answer);
+    let mut even = pair.even;
+    let mut odd = pair.odd;
+    if step == 0 {
+        even = handle;
+    }
+    if step == 1 {
+        odd = handle;
+    }
+    Pair {
+        state: with_placed(pair.state, placed),
+        even: even,
+        odd: odd,
+    }
+}
+
+// Runs the operation of a step with all words lent, and so much of the cache.
+fn stepped(
+    step: u32,
     p: u32,
     part: usize,
-    state: State,
+    pair: Pair,
     nodes: &mut [u32],
     lookup: &mut [u32],
     cache: &mut [u32],
 ) -> Pair {
-    let even = call(of(7, p, 0), part, state, nodes, lookup, cache);
-    let odd = call(of(8, p, 0), part, even.state, nodes, lookup, cache);
-    let last = odd.state;
-    Pair {
-        state: last,
-        even: even.handle,
-        odd: odd.handle,
-    }
+    let state = pair.state;
+    let lent = everything(state.store, lookup.len(), part);
+    let placed = placing::line(operation(step, p, pair), lent, nodes, lookup, cache);
+    after(step, pair, placed)
 }
 
-// Intsec and Union of the two parts.
-fn joined(
-    pair: Pair,
-    part: usize,
-    nodes: &mut [u32],
-    lookup: &mut [u32],
-    cache: &mut [u32],
-) -> State {
-    let shared = of(5, pair.even, pair.odd);
-    let both = of(4, pair.even, pair.odd);
-    let first = call(shared, part, pair.state, nodes, lookup, cache);
-    let second = call(both, part, first.state, nodes, lookup, cache);
-    second.state
-}
-
-// Even and Odd of p, then Intsec and Union of what they gave: {} and p where neither was refused.
+// Writes the lines; gives the state after them.
 pub fn lines(
     p: u32,
     part: usize,
-    state: State,
+    start: State,
     nodes: &mut [u32],
     lookup: &mut [u32],
     cache: &mut [u32],
 ) -> State {
-    let pair = parted(p, part, state, nodes, lookup, cache);
-    joined(pair, part, nodes, lookup, cache)
+    let mut pair = Pair {
+        state: start,
+        even: 0,
+        odd: 0,
+    };
+    let mut step: u32 = 0;
+    while step < 4 {
+        pair = stepped(step, p, part, pair, nodes, lookup, cache);
+        step = step + 1;
+    }
+    pair.state
 }

@@ -1,4 +1,4 @@
-// One turn of a list: draws a call, runs it and writes its line.
+// One turn of a list: draws a call, or both parts of a family, runs it and writes its lines.
 use crate::audits;
 use crate::craft;
 use crate::craft::put;
@@ -28,6 +28,7 @@ use crate::state::State;
 use crate::state::newest;
 use crate::state::with_file;
 use crate::state::with_placed;
+use store::record::Store;
 
 // How the calls of a list are drawn: the items, and whether the cache is always lent whole.
 pub struct Manner {
@@ -57,23 +58,6 @@ fn operation(
     );
     let placed = placing::line(call, lent, nodes, lookup, cache);
     with_placed(state, placed)
-}
-
-// Both parts of the newest family or of a drawn one.
-fn both_parts(
-    drawn: Drawn,
-    manner: Manner,
-    state: State,
-    nodes: &mut [u32],
-    lookup: &mut [u32],
-    cache: &mut [u32],
-) -> State {
-    let mut p = newest(state.store);
-    if drawn.b % 2 == 0 {
-        p = handle(drawn.a, state.store.count);
-    }
-    let lent = part(drawn.c, manner.whole, cache.len());
-    parity::lines(p, lent, state, nodes, lookup, cache)
 }
 
 // Size.
@@ -214,6 +198,14 @@ fn operation_of(kind: u32) -> u32 {
     8
 }
 
+// The family whose two parts are drawn: the newest one, or any.
+fn parted(drawn: Drawn, store: Store) -> u32 {
+    if drawn.b % 2 == 0 {
+        return handle(drawn.a, store.count);
+    }
+    newest(store)
+}
+
 // An operation, or both parts of a family.
 fn operating(
     kind: u32,
@@ -228,7 +220,9 @@ fn operating(
         let op = operation_of(kind);
         return operation(op, drawn, manner, state, nodes, lookup, cache);
     }
-    both_parts(drawn, manner, state, nodes, lookup, cache)
+    let p = parted(drawn, state.store);
+    let lent = part(drawn.c, manner.whole, cache.len());
+    parity::lines(p, lent, state, nodes, lookup, cache)
 }
 
 // Size, Has or Save.
@@ -258,7 +252,7 @@ fn writing(kind: u32, drawn: Drawn, state: State, file: &mut [u8]) -> State {
     damaged(drawn, state, file)
 }
 
-// Draws a call, runs it and writes its line.
+// Draws a call, or both parts of a family, runs it and writes its lines.
 pub fn turn(
     manner: Manner,
     state: State,
