@@ -162,7 +162,7 @@ united : {capacity : ℕ} {m : Placed} {nodes lookup cache : List ℕ} {a : Adde
 unfolding rule
 united {capacity} {a = a} A p h F l e eh P =
     let G = gives A h eh in
-    let Q = combine-after (A .sound) (A .limit-is) p l 4 (omega arith) refl h (G .inside) P in
+    let Q = combine-after (A .sound) (A .limit-is) p l 4 (omega arith) (omega arith) h (G .inside) P in
     rw (next-going capacity (union F) a (G .going), ← A .capacity-is, ← A .book-is, ← G .means, ← e) Q
 
 -- the ends of adding

@@ -14,7 +14,6 @@ use Rattle.family.specs.Book.{at, place, Book}
 use Rattle.family.proofs.Books.{held-at}
 use Rattle.family.proofs.Placing.{book-place}
 use Rattle.family.proofs.Restrict.{within-change}
-use Rattle.family.proofs.Combine.{within-combine}
 use Rattle.store.specs.declared.record.Store.{Store}
 use Rattle.store.specs.declared.record.Placed.{Placed}
 use Rattle.store.specs.Words.{bookOf}
@@ -22,6 +21,7 @@ use Rattle.store.specs.Operations.{restrict, rule, named}
 use Rattle.store.specs.Sound.{Sound}
 use Rattle.store.specs.Placing.{costOf, tooLarge}
 use Rattle.store.specs.Promise.{PlaceCall}
+use Rattle.store.proofs.Naming.{named-families, families-within}
 use Rattle.store.proofs.Decoding.{sound-holds}
 use Rattle.store.proofs.Recovering.{book-of-words}
 use Rattle.store.proofs.Ways.{way-full, way-placed}
@@ -101,9 +101,8 @@ module _ {s : Store} {nodes lookup cache : List ℕ} (S : Sound s nodes lookup c
         placed-after i (within-change v _ n h (handle-within p lp)) (rw (item-taken (s .limit) (s .count) p v lp n h) at P)
 
     -- Union, Intsec and Diff
-    pub combine-after : (op : ℕ) → 4 ≤ op → (rule op false false ≡ false) → (q : ℕ) → q ≤ s .count + 1 → OperationCall op p q s nodes lookup cache r nodes′ lookup′ cache′
+    pub combine-after : (op : ℕ) → 4 ≤ op → op ≤ 6 → (q : ℕ) → q ≤ s .count + 1 → OperationCall op p q s nodes lookup cache r nodes′ lookup′ cache′
         → After (s .capacity) r nodes′ lookup′ cache′ (called (s .capacity) (bookOf nodes (s .count)) (combine (rule op) (at (bookOf nodes (s .count)) p) (at (bookOf nodes (s .count)) q)))
-    unfolding named restrict
-    combine-after op n f q lq P =
-        placed-after i (within-combine (rule op) f _ _ (handle-within p lp) (handle-within q lq))
-        (rw (handles-taken op (s .limit) (s .count) p q n lp lq, le-ltb op 4 n) at P)
+    combine-after op n m q lq P =
+        placed-after i (families-within op _ _ (handle-within p lp) (handle-within q lq))
+        (rw (handles-taken op (s .limit) (s .count) p q n lp lq, named-families op (bookOf nodes (s .count)) p q n m) at P)

@@ -123,13 +123,13 @@ diff-after : {capacity : ℕ} {m : Placed} {nodes lookup cache : List ℕ} {a : 
     → Stays (m .store .count) (bookOf nodes (m .store .count)) p P → Stays (m .store .count) (bookOf nodes (m .store .count)) q R
     → {r : Placed} {nodes′ lookup′ cache′ : List ℕ} → OperationCall 6 q p (m .store) nodes lookup cache r nodes′ lookup′ cache′ → After capacity r nodes′ lookup′ cache′ (called capacity (a .book) (diff R P))
 unfolding rule
-diff-after A {p} {q} G H O = rw (← A .capacity-is, ← A .book-is, ← G .means, ← H .means) (combine-after (A .sound) (A .limit-is) q (H .held) 6 (omega arith) refl p (G .held) O)
+diff-after A {p} {q} G H O = rw (← A .capacity-is, ← A .book-is, ← G .means, ← H .means) (combine-after (A .sound) (A .limit-is) q (H .held) 6 (omega arith) (omega arith) p (G .held) O)
 
 module _ {s : Store} {nodes lookup cache : List ℕ} (S : Sound s nodes lookup cache) (i : s .limit ≡ largestItem) {p q : ℕ} {P R : Family} (G : Stays (s .count) (bookOf nodes (s .count)) p P) (H : Stays (s .count) (bookOf nodes (s .count)) q R)
     {m : Placed} {nodes₁ lookup₁ cache₁ : List ℕ} (O : OperationCall 5 p q s nodes lookup cache m nodes₁ lookup₁ cache₁) where
   first-after : After (s .capacity) m nodes₁ lookup₁ cache₁ (called (s .capacity) (bookOf nodes (s .count)) (intsec P R))
   unfolding rule
-  first-after = rw (← G .means, ← H .means) (combine-after S i p (G .held) 5 (omega arith) refl q (H .held) O)
+  first-after = rw (← G .means, ← H .means) (combine-after S i p (G .held) 5 (omega arith) (omega arith) q (H .held) O)
 
   first-stays : (h : ℕ) (F : Family) → Stays (s .count) (bookOf nodes (s .count)) h F → Stays (m .store .count) (bookOf nodes₁ (m .store .count)) h F
   first-stays h F T = stays S first-after (placed-grown (s .capacity) (bookOf nodes (s .count)) (intsec P R)) h F (T .held) (T .means)
