@@ -33,9 +33,10 @@ static const auto two = [](auto &p) {
 // Their union less their intersection.
 static const auto three = [](auto &p, auto f) { return std::vector{p.subtract(p.unite(f[0], f[1]), p.intersect(f[0], f[1]))}; };
 
-// A family of 50,000 parts. Random combinations have an even number of items, so half of them are changed by one item.
+// A family of 50,000 parts. Random combinations have an even number of items: half of them are changed by one item, then all by another,
+// so that CUDD, where the family is built, does not hold its even and its odd part yet.
 static const auto mixed = [](auto &p) {
-    return std::vector{p.unite(random_family(p, 4000, 7), p.change(random_family(p, 4000, 11), 256))};
+    return std::vector{p.change(p.unite(random_family(p, 4156, 7), p.change(random_family(p, 4156, 11), 256)), 1)};
 };
 
 static const auto even_and_odd = [](auto &p, auto f) { return std::vector{p.even(f[0]), p.odd(f[0])}; };
