@@ -3,6 +3,7 @@ pub mod Falling
 pub mod Diagrams
 pub mod Canonical
 pub mod Combine
+pub mod Parity
 pub mod Restrict
 pub mod Members
 pub mod Books

@@ -33,7 +33,7 @@ module _ {call : Call} {level : ℕ} {s : Fill} {nodes lookup : List ℕ} (E : I
   I = E .asks .taken
 
   taken-item : (p : ℕ) → p ≤ s .count + 1 → Taken (call .q) (record { op = call .op; p = p; q = call .q }) (s .count)
-  taken-item p h = record { operation = (omega arith, omega arith); first = omega arith; second = (λ k. (omega arith, omega arith), λ k. absurd (omega arith)) }
+  taken-item p h = record { operation = (omega arith, omega arith); first = omega arith; second = (λ k. (omega arith, omega arith), λ k. absurd (omega arith), λ k. absurd (omega arith)) }
 
   pub split-item : {z o zt ot : ℕ} → TwoSides nodes (s .count) (call .p) level z o zt ot
       → Split (call .q) call (record { op = call .op; p = z; q = call .q }) (record { op = call .op; p = o; q = call .q }) level (s .count) nodes lookup

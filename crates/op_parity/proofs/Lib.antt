@@ -1,2 +1,3 @@
 -- The laws of `op_parity`.
 pub mod Splits
+pub mod Done

@@ -53,13 +53,7 @@ pub fn even(
 }
 
 // The members of p with an odd number of items.
-pub fn odd(
-    store: Store,
-    nodes: &mut [u32],
-    lookup: &mut [u32],
-    cache: &mut [u32],
-    p: u32,
-) -> Placed
+pub fn odd(store: Store, nodes: &mut [u32], lookup: &mut [u32], cache: &mut [u32], p: u32) -> Placed
     ensures { λ r. ⌜ ParityCall false p store (now (nodes .entry)) (now (lookup .entry)) (now (cache .entry)) r (now (nodes .exit)) (now (lookup .exit)) (now (cache .exit)) ⌝ }
 {
     of_parity(false, store, nodes, lookup, cache, p)

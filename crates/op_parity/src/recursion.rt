@@ -62,15 +62,15 @@ fn expand_even(
     else {
         return DAMAGED;
     };
-    let zero = even_part(p0, top0, capacity, count, nodes, lookup, cache);
-    if FULL <= zero {
-        return zero;
+    let even0 = even_part(p0, top0, capacity, count, nodes, lookup, cache);
+    if FULL <= even0 {
+        return even0;
     }
-    let one = odd_part(p1, top1, capacity, count, nodes, lookup, cache);
-    if FULL <= one {
-        return one;
+    let odd1 = odd_part(p1, top1, capacity, count, nodes, lookup, cache);
+    if FULL <= odd1 {
+        return odd1;
     }
-    let made = node_of(capacity, count, nodes, lookup, level, zero, one);
+    let made = node_of(capacity, count, nodes, lookup, level, even0, odd1);
     keep(cache, group, call, made);
     made
 }
@@ -122,15 +122,15 @@ fn expand_odd(
     else {
         return DAMAGED;
     };
-    let zero = odd_part(p0, top0, capacity, count, nodes, lookup, cache);
-    if FULL <= zero {
-        return zero;
+    let odd0 = odd_part(p0, top0, capacity, count, nodes, lookup, cache);
+    if FULL <= odd0 {
+        return odd0;
     }
-    let one = even_part(p1, top1, capacity, count, nodes, lookup, cache);
-    if FULL <= one {
-        return one;
+    let even1 = even_part(p1, top1, capacity, count, nodes, lookup, cache);
+    if FULL <= even1 {
+        return even1;
     }
-    let made = node_of(capacity, count, nodes, lookup, level, zero, one);
+    let made = node_of(capacity, count, nodes, lookup, level, odd0, even1);
     keep(cache, group, call, made);
     made
 }

@@ -32,9 +32,9 @@ added-parts {n} {F} {s} {nodes} {lookup} S P =
     omega (arith, ap (λ l. l .given .added) (P .on-sound S .leaves-is), added-cost n F s nodes lookup, cost-length B F, place-bound B F (sound-holds S .book))
 
 -- "For Union, Intsec and Diff it is never above (a + 2) × (b + 2)": the operations 4 to 6
-pub added-bound : (op p q : ℕ) → 4 ≤ op → {s : Store} {nodes lookup cache : List ℕ} {r : Placed} {nodes′ lookup′ cache′ : List ℕ} → Sound s nodes lookup cache
+pub added-bound : (op p q : ℕ) → 4 ≤ op → op ≤ 6 → {s : Store} {nodes lookup cache : List ℕ} {r : Placed} {nodes′ lookup′ cache′ : List ℕ} → Sound s nodes lookup cache
     → OperationCall op p q s nodes lookup cache r nodes′ lookup′ cache′ → givenBy (r .answer) .added ≤ mostParts (at (bookOf nodes (s .count)) p) (at (bookOf nodes (s .count)) q)
-added-bound op p q l {s} {nodes} S P =
+added-bound op p q l m {s} {nodes} S P =
     let B = bookOf nodes (s .count) in
     let book = sound-holds S .book in
-    omega (arith, added-parts S P, ap partCount (named-families op B p q l), parts-bound (rule op) (rule-false op) (at B p) (at B q) (at-within B book p .ordered) (at-within B book q .ordered))
+    omega (arith, added-parts S P, ap partCount (named-families op B p q l m), parts-bound (rule op) (rule-false op) (at B p) (at B q) (at-within B book p .ordered) (at-within B book q .ordered))

@@ -56,7 +56,7 @@ truth-of {B = B} {h = h} call k t H G =
     record {
       operation = t .operation;
       first = omega (arith, inside H (call .p) (t .first));
-      second = (λ m. (t .second .0 m .0, omega (arith, t .second .0 m .1)), λ m. omega (arith, inside H (call .q) (t .second .1 m)));
+      second = (λ m. (t .second .0 m .0, omega (arith, t .second .0 m .1)), λ m. omega (arith, inside H (call .q) (t .second .1 m)), t .second .2);
       result = inside (G .holds) h (G .within);
       means = G .means ∙ sym (of-grown call t H g);
     }

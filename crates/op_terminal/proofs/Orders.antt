@@ -27,49 +27,49 @@ module _ (call : Call) (O : FamilyOperation (call .op)) where
         op-is = refl;
         operands = inr (refl, refl);
         named-is = λ B f g.
-            named-families (call .op) B (call .q) (call .p) l
+            named-families (call .op) B (call .q) (call .p) l m
             ∙ families-swap (call .op) (at B (call .q)) (at B (call .p)) l m n g f
-            ∙ sym (named-families (call .op) B (call .p) (call .q) l);
+            ∙ sym (named-families (call .op) B (call .p) (call .q) l m);
       }
 
   pub same-none : call .p ≡ call .q → call .op ≡ 6 → Shortcut call 0
   same-none e s =
       record {
         one-of = inl refl;
-        means = λ B z f g. z ∙ sym (named-families (call .op) B (call .p) (call .q) l ∙ ap (λ k. combine (rule (call .op)) (at B (call .p)) (at B k)) (sym e) ∙ both-none (call .op) (at B (call .p)) s f);
+        means = λ B z f g. z ∙ sym (named-families (call .op) B (call .p) (call .q) l m ∙ ap (λ k. combine (rule (call .op)) (at B (call .p)) (at B k)) (sym e) ∙ both-none (call .op) (at B (call .p)) s f);
       }
 
   pub same-same : call .p ≡ call .q → (call .op ≡ 6 → ⊥) → Shortcut call (call .p)
   same-same e s =
       record {
         one-of = inr (inl refl);
-        means = λ B z f g. sym (named-families (call .op) B (call .p) (call .q) l ∙ ap (λ k. combine (rule (call .op)) (at B (call .p)) (at B k)) (sym e) ∙ both-same (call .op) (at B (call .p)) l m s f);
+        means = λ B z f g. sym (named-families (call .op) B (call .p) (call .q) l m ∙ ap (λ k. combine (rule (call .op)) (at B (call .p)) (at B k)) (sym e) ∙ both-same (call .op) (at B (call .p)) l m s f);
       }
 
   pub empty-second : call .p ≡ 0 → call .op ≡ 4 → Shortcut call (call .q)
   empty-second e s =
       record {
         one-of = inr (inr refl);
-        means = λ B z f g. sym (named-families (call .op) B (call .p) (call .q) l ∙ ap (λ X. combine (rule (call .op)) X (at B (call .q))) (ap (λ k. at B k) e ∙ z) ∙ first-union (call .op) (at B (call .q)) s g);
+        means = λ B z f g. sym (named-families (call .op) B (call .p) (call .q) l m ∙ ap (λ X. combine (rule (call .op)) X (at B (call .q))) (ap (λ k. at B k) e ∙ z) ∙ first-union (call .op) (at B (call .q)) s g);
       }
 
   pub empty-none : call .p ≡ 0 → (call .op ≡ 4 → ⊥) → Shortcut call 0
   empty-none e s =
       record {
         one-of = inl refl;
-        means = λ B z f g. z ∙ sym (named-families (call .op) B (call .p) (call .q) l ∙ ap (λ X. combine (rule (call .op)) X (at B (call .q))) (ap (λ k. at B k) e ∙ z) ∙ first-none (call .op) (at B (call .q)) l m s g);
+        means = λ B z f g. z ∙ sym (named-families (call .op) B (call .p) (call .q) l m ∙ ap (λ X. combine (rule (call .op)) X (at B (call .q))) (ap (λ k. at B k) e ∙ z) ∙ first-none (call .op) (at B (call .q)) l m s g);
       }
 
   pub none-second : call .q ≡ 0 → call .op ≡ 5 → Shortcut call 0
   none-second e s =
       record {
         one-of = inl refl;
-        means = λ B z f g. z ∙ sym (named-families (call .op) B (call .p) (call .q) l ∙ ap (λ X. combine (rule (call .op)) (at B (call .p)) X) (ap (λ k. at B k) e ∙ z) ∙ second-none (call .op) (at B (call .p)) s f);
+        means = λ B z f g. z ∙ sym (named-families (call .op) B (call .p) (call .q) l m ∙ ap (λ X. combine (rule (call .op)) (at B (call .p)) X) (ap (λ k. at B k) e ∙ z) ∙ second-none (call .op) (at B (call .p)) s f);
       }
 
   pub first-second : call .q ≡ 0 → (call .op ≡ 5 → ⊥) → Shortcut call (call .p)
   first-second e s =
       record {
         one-of = inr (inl refl);
-        means = λ B z f g. sym (named-families (call .op) B (call .p) (call .q) l ∙ ap (λ X. combine (rule (call .op)) (at B (call .p)) X) (ap (λ k. at B k) e ∙ z) ∙ second-same (call .op) (at B (call .p)) l m s f);
+        means = λ B z f g. sym (named-families (call .op) B (call .p) (call .q) l m ∙ ap (λ X. combine (rule (call .op)) (at B (call .p)) X) (ap (λ k. at B k) e ∙ z) ∙ second-same (call .op) (at B (call .p)) l m s f);
       }

@@ -18,7 +18,7 @@ truth-grown {B} {C} {op} {p} {q} {h} g t =
     record {
       operation = t .operation;
       first = omega (arith, t .first);
-      second = (λ m. t .second .0 m, λ m. omega (arith, t .second .1 m));
+      second = (λ m. t .second .0 m, λ m. omega (arith, t .second .1 m), t .second .2);
       result = omega (arith, t .result);
       means = grown-at g h (t .result) ∙ t .means ∙ sym (named-grown g op p q (t .first) (t .second .1));
     }

@@ -19,11 +19,14 @@ use Rattle.store.specs.declared.record.PlaceAnswer.the-variants.{Refused
 use Rattle.store.specs.declared.record.Placed.{Placed}
 use Rattle.store.specs.Capacity.{fitting}
 use Rattle.store.specs.Refusals.{refusalNumber, Given, givenBy}
+use Rattle.store.specs.Words.{topAt}
 use Rattle.store.specs.Sound.{Sound}
 use Rattle.store.specs.Placing.{costOf, tooLarge, placeAnswer}
 use Rattle.store.specs.Promise.{Left, placing, cacheRefused, PlaceCall}
 use Rattle.store.specs.Inner.{fillIn, Roomy}
 use Rattle.store.proofs.Fitting.{fits-true, true-fits}
+use Rattle.store.proofs.Held.{top-at, within}
+use Rattle.store.proofs.Decoding.{sound-holds}
 
 pub placed-is : {r : Placed} {s : Store} {a : PlaceAnswer} → r .store ≡ s → r .answer ≡ a → r ≡ record { store = s; answer = a }
 placed-is p q = λ i. record { store = p i; answer = q i }
@@ -102,6 +105,12 @@ module _ (s : Store) (nodes lookup cache : List ℕ) where
         refused = λ d. es;
         counted = refused-counted r x es ea;
       }
+
+  -- a top above the limit is in no sound store
+  pub call-high : (refusal : ℕ) (F : Family) (r : Placed) → fitting s (length nodes) (length lookup) ≡ true → (p : ℕ) → p ≤ s .count + 1 → s .limit < topAt nodes p → (x : Refusal) → r .store ≡ s → r .answer ≡ Refused x
+      → PlaceCall refusal F s nodes lookup cache r nodes lookup cache
+  call-high refusal F r e p held high x es ea =
+      call-unsound refusal F r e (λ S. let H = sound-holds S in omega (arith, top-at H p (omega arith), within H p (omega arith) .low)) x es ea
 
   -- refused before anything is placed
   pub call-refused : (n : ℕ) (F : Family) (r : Placed) (x : Refusal) → fitting s (length nodes) (length lookup) ≡ true → refusalNumber x ≡ n → (n ≡ 5 → ⊥)

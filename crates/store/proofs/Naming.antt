@@ -1,36 +1,49 @@
 -- The family that an operation names: it hangs on its operands alone, keeps to the limit, and follows the equations
 -- of the recursion.
--- Operations 4 to 6 are one combination by a rule on memberships; 1 to 3 are the three restrictions by an item.
+-- Operations 4 to 6 are one combination by a rule on memberships; 1 to 3 are the three restrictions by an item; 7 and 8
+-- are the parts of either parity.
 use Prim.Native.Nat.{ℕ, suc, _-_, _≤_, _<_}
 use mathlib.Core.Path.{_≡_, refl, sym, ap, _∙_}
-use mathlib.Core.Bool.{Bool, false, _&&_, _||_, or-comm, and-comm}
+use mathlib.Core.Bool.{Bool, true, false, _&&_, _||_, or-comm, and-comm}
 use mathlib.Core.List.{List}
 use native.Mathlib.Omega.{arith}
+use lib.Dec.{eqb}
 use lib.ListN.{length}
 use borrow.Author.Tests.{eq-eqb, ne-eqb, lt-ltb, le-ltb}
 use Rattle.family.specs.Family.{Family, empty, base, node, top, mk, Ordered, Within}
 use Rattle.family.specs.Operation.{subset1, subset0, change, lacking, holding, minus, combine}
+use Rattle.family.specs.Parity.{parity}
 use Rattle.family.specs.Book.{at, Grown}
 use Rattle.family.proofs.Books.{grown-at}
 use Rattle.family.proofs.Combine.{within-combine, combine-step, combine-swap, union-self, intsec-self, diff-self, union-empty, empty-union, intsec-empty, empty-intsec, diff-empty, empty-diff}
 use Rattle.family.proofs.Restrict.{within-subset1, within-subset0, within-change, subset1-low, subset0-low, change-low, subset1-at, subset0-at, change-at, subset1-high, subset0-high, change-high}
 use Rattle.words.proofs.Cases.{by-eq, by-lt}
-use Rattle.store.specs.Operations.{restrict, rule, named}
+use Rattle.store.specs.Operations.{restrict, rule, parityNumber, named}
 
-pub named-families : (op : ℕ) (B : List Family) (p q : ℕ) → 4 ≤ op → named op B p q ≡ combine (rule op) (at B p) (at B q)
+pub named-families : (op : ℕ) (B : List Family) (p q : ℕ) → 4 ≤ op → op ≤ 6 → named op B p q ≡ combine (rule op) (at B p) (at B q)
 unfolding named
-named-families op B p q h = rw (le-ltb op 4 h)
+named-families op B p q h m = rw (le-ltb op 4 h, lt-ltb op 7 (omega arith))
 
 pub named-item : (op : ℕ) (B : List Family) (p q : ℕ) → op < 4 → named op B p q ≡ restrict op q (at B p)
 unfolding named
 named-item op B p q h = rw (lt-ltb op 4 h)
+
+pub named-parity : (op : ℕ) (B : List Family) (p q : ℕ) → 7 ≤ op → named op B p q ≡ parity (eqb op 7) (at B p)
+unfolding named
+named-parity op B p q h = rw (le-ltb op 4 (omega arith), le-ltb op 7 h)
+
+pub named-part : (even : Bool) (B : List Family) (p q : ℕ) → named (parityNumber even) B p q ≡ parity even (at B p)
+named-part true B p q = named-parity 7 B p q (omega arith)
+named-part false B p q = named-parity 8 B p q (omega arith)
 
 -- it stays the same in a book that grew
 pub named-grown : {B C : List Family} → Grown B C → (op p q : ℕ) → p < length B → (4 ≤ op → q < length B) → named op C p q ≡ named op B p q
 named-grown {B} {C} g op p q lp lq =
     by-lt op 4
     (λ h e. named-item op C p q h ∙ ap (λ X. restrict op q X) (grown-at g p lp) ∙ sym (named-item op B p q h))
-    (λ h e. named-families op C p q h ∙ rw (grown-at g p lp, grown-at g q (lq h)) (sym (named-families op B p q h)))
+    (λ h e. by-lt op 7
+    (λ m d. named-families op C p q h (omega arith) ∙ rw (grown-at g p lp, grown-at g q (lq h)) (sym (named-families op B p q h (omega arith))))
+    (λ m d. named-parity op C p q m ∙ ap (λ X. parity (eqb op 7) X) (grown-at g p lp) ∙ sym (named-parity op B p q m)))
 
 -- the rules on memberships
 module _ (op : ℕ) where

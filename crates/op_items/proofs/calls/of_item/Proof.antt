@@ -5,13 +5,14 @@ use mathlib.Core.Path.{_≡_, sym, ap, _∙_}
 use native.Mathlib.Omega.{arith}
 use Rattle.store.specs.Tests.{testNumber, testsOf}
 use Rattle.store.specs.Inner.{fillIn}
+use Rattle.store.proofs.Calls.{call-high}
 use Rattle.store.proofs.Fitting.{fits-true}
 use Rattle.store.proofs.Growing.{kept-roomy}
 use Rattle.store.proofs.Plain.{plain-ran}
 use Rattle.store.proofs.Testing.{Tested, item-passed, item-not-five, tested-clear, placing-refused}
 use Rattle.op_cache.specs.Inner.{callOf}
 use Rattle.op_promise.specs.Promise.{operationRefusal}
-use Rattle.op_promise.proofs.Refusing.{item-number, refused-top, done}
+use Rattle.op_promise.proofs.Refusing.{item-number, done}
 use Rattle.op_items.specs.Inner.{RestrictAsks}
 use borrow.Author.Needs.{needs}
 use Rattle.op_items.proofs.calls.of_item.Statement.{statement}
@@ -106,7 +107,7 @@ returns-2 c =
     let at-top-of : tie.After-top-of = search in
     let at-told : tie.After-enum-told = search in
     let P = passed at-told in
-    refused-top _ _ _ _ _ _ (P .fits) _ (P .passed .first) (omega (arith, at-top-of .top-of .ensures, (c .before) .if1 .taken)) (c .refused2 .result) _ (c .refused2 .ensures .0) (c .refused2 .ensures .1)
+    call-high _ _ _ _ _ _ (c .refused2 .result) (P .fits) _ (P .passed .first) (omega (arith, at-top-of .top-of .ensures, (c .before) .if1 .taken)) _ (c .refused2 .ensures .0) (c .refused2 .ensures .1)
 
 leaf-requires : tie.Need-leaf-requires
 leaf-requires c κs =
