@@ -1,12 +1,14 @@
--- Worked examples of the definitions, computed by the checker: document 01's families, their numbers, and its files.
+-- Worked examples of the definitions, computed by the checker: document 01's families, their numbers, its files, and
+-- parts of either parity.
 -- Each holds by computation alone.
 use Prim.Native.Nat.{ℕ, zero, suc, _*_, _^_}
 use mathlib.Core.Path.{_≡_, refl}
-use mathlib.Core.Bool.{decide}
+use mathlib.Core.Bool.{true, false, decide}
 use mathlib.Core.List.{[], _∷_}
 use mathlib.Core.Option.{none, some}
 use Rattle.family.specs.Family.{Family, empty, base, node, members, size, parts}
 use Rattle.family.specs.Operation.{subset1, subset0, change, union, intsec, diff, combine}
+use Rattle.family.specs.Parity.{parity}
 use Rattle.family.specs.Book.{start, same, add, place}
 use Rattle.family.specs.Parts.{partCount}
 use Rattle.family.specs.Record.{mapOf, recordBytes, readFields, readRecord}
@@ -85,6 +87,13 @@ all (suc n) = node (suc n) (all n) (all n)
 
 size-all : size (all 10) ≡ 2 ^ 10
 size-all = refl
+
+-- of two items: {} and {1, 2} are even, {1} and {2} odd
+even-all : members (parity true (all 2)) ≡ [] ∷ (2 ∷ 1 ∷ []) ∷ []
+even-all = refl
+
+odd-all : members (parity false (all 2)) ≡ (1 ∷ []) ∷ (2 ∷ []) ∷ []
+odd-all = refl
 
 -- "Save of 2", "Save of 4", and the files that get 9
 save-one : fileOf one ≡ 0x01 ∷ 0x01 ∷ 0x00 ∷ 0x00 ∷ 0x00 ∷ 0x00 ∷ []

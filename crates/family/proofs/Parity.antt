@@ -16,7 +16,14 @@ use Rattle.family.specs.Parity.{parity, ofParity}
 use Rattle.family.proofs.Diagrams.{within-more, within-leaf, within-mk, has-mk, leaf-nil, leaf-cons}
 use Rattle.family.proofs.Combine.{combine-is}
 
--- an item more changes the parity; "Zero is even"
+-- "Zero is even": {{}} is its own even part, and its odd part is {}
+zero-even : parity true base ≡ base
+zero-even = refl
+
+zero-odd : parity false base ≡ empty
+zero-odd = refl
+
+-- the same of the combination without items; an item more changes the parity
 of-none : (even : Bool) → ofParity even [] ≡ even
 unfolding ofParity
 of-none true = refl
@@ -38,7 +45,7 @@ of-other even (x ∷ c) = of-more (not even) x c ∙ of-other (not even) c ∙ a
 own-within : (even : Bool) (F : Family) → Ordered F → Within (top F) (parity even F)
 own-within even empty h = record { ordered = tt; low = omega arith }
 own-within even base h = within-leaf 0 even
-own-within even (node i a b) h = within-mk (own-within even a (h .3)) (own-within (not even) b (h .4)) (h .0) (h .1)
+own-within even (node i a b) h = within-mk (own-within even a (h .3)) (own-within _ b (h .4)) (h .0) (h .1)
 
 pub within-parity : {t : ℕ} (even : Bool) (F : Family) → Within t F → Within t (parity even F)
 within-parity {t} even F h = within-more t (own-within even F (h .ordered)) (h .low)

@@ -69,10 +69,7 @@ module _ {p level : ℕ} {s : Fill} {nodes lookup : List ℕ} (E : PartStepAsks 
       }
 
   module _ {z o zt ot : ℕ} (K : TwoSides nodes (s .count) p level z o zt ot) where
-    pub zero-asks : PartAsks z zt s nodes lookup
-    zero-asks = record { roomy = E .asks .roomy; held = K .halves .zero-within; level-is = K .ztop; level-low = omega (arith, K .zero-below, E .asks .level-low) }
-
-    -- the with-side, after the part of the without-side
+    -- the with-side, after nodes were added for the part of the without-side
     pub one-asks : {s₁ : Fill} {nodes₁ lookup₁ : List ℕ} → Kept s nodes lookup s₁ nodes₁ lookup₁ → PartAsks o ot s₁ nodes₁ lookup₁
     one-asks L =
         record {

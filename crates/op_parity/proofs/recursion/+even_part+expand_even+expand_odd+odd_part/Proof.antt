@@ -7,11 +7,10 @@ use mathlib.Core.Bool.{true, false}
 use native.Mathlib.Omega.{arith}
 use Rattle.store.specs.Inner.{fillOf}
 use Rattle.store.proofs.Codes.{coded-handle, coded-refused}
-use Rattle.store.proofs.Growing.{kept-top, kept-roomy}
 use Rattle.store_sides.proofs.Answers.{sides-two, sides-broken}
 use Rattle.op_step.proofs.Steps.{node-asks, step-first, step-second, step-done}
 use Rattle.op_step.proofs.Outcomes.{ran-broken, ran-recalled}
-use Rattle.op_parity.proofs.Splits.{partOf, ran-leaf, split-part, sides-asks, zero-asks, one-asks}
+use Rattle.op_parity.proofs.Splits.{partOf, ran-leaf, split-part, sides-asks, one-asks}
 use borrow.Author.Needs.{needs}
 use borrow.Fn.Kinds.{In}
 use borrow.Fn.PlainCycle.{Measures, is, falls, and}
@@ -128,13 +127,6 @@ expand-even-returns-2 t c =
     let a = at-start .args in
     ran-broken 0 (fillOf (a .capacity) (a .count .now)) (a .nodes .now) (a .lookup .now) (a .cache .now) (at-start .pre .1 .asks .roomy) (partOf true (a .p)) (λ l B H. sides-broken (at-told .enum-told2 .given .1) (at-sides .sides-at .ensures) l B (a .lookup .now) H)
 
-expand-even-even-part-requires : (t : ℕ) → expand-even-lts.Need-even-part-requires (expand-even-claims t) (expand-even-at t) expand-even.Post
-expand-even-even-part-requires t c κs =
-    let at-p0 : expand-even-lts.After-p0 (expand-even-claims t) (expand-even-at t) expand-even.Post = search in
-    let p = (even-start t at-p0) .pre in
-    let K = sides-two (at-p0 .p0 .given .1) ((even-split t at-p0) .sides-at .ensures) in
-    (omega (arith, p .0, K .zero-below), zero-asks (p .1) K)
-
 expand-even-returns-3 : (t : ℕ) → expand-even-lts.Need-returns-3 (expand-even-claims t) (expand-even-at t) expand-even.Post
 expand-even-returns-3 t c =
     let at-first : expand-even-lts.After-even-part (expand-even-claims t) (expand-even-at t) expand-even.Post = search in
@@ -144,14 +136,6 @@ expand-even-returns-3 t c =
     let K = sides-two (at-p0 .p0 .given .1) ((even-split t at-p0) .sides-at .ensures) in
     let R = coded-refused _ (c .if1 .taken) in
     step-first (partOf true (a .p)) _ _ (a .level) (fillOf (a .capacity) (a .count .now)) (a .nodes .now) (a .lookup .now) (a .cache .now) (split-part (at-start .pre .1) K true) (at-first .even-part .ensures) (R .0) (R .1)
-
-expand-even-odd-part-requires : (t : ℕ) → expand-even-lts.Need-odd-part-requires (expand-even-claims t) (expand-even-at t) expand-even.Post
-expand-even-odd-part-requires t c κs =
-    let at-first : expand-even-lts.After-even-part (expand-even-claims t) (expand-even-at t) expand-even.Post = search in
-    let at-p0 : expand-even-lts.After-p0 (expand-even-claims t) (expand-even-at t) expand-even.Post = search (at-first) in
-    let p = (even-start t at-p0) .pre in
-    let K = sides-two (at-p0 .p0 .given .1) ((even-split t at-p0) .sides-at .ensures) in
-    (omega (arith, p .0, K .one-below), one-asks (p .1) K (at-first .even-part .ensures .kept))
 
 expand-even-returns-4 : (t : ℕ) → expand-even-lts.Need-returns-4 (expand-even-claims t) (expand-even-at t) expand-even.Post
 expand-even-returns-4 t c =
@@ -247,13 +231,6 @@ expand-odd-returns-2 t c =
     let a = at-start .args in
     ran-broken 0 (fillOf (a .capacity) (a .count .now)) (a .nodes .now) (a .lookup .now) (a .cache .now) (at-start .pre .1 .asks .roomy) (partOf false (a .p)) (λ l B H. sides-broken (at-told .enum-told2 .given .1) (at-sides .sides-at .ensures) l B (a .lookup .now) H)
 
-expand-odd-odd-part-requires : (t : ℕ) → expand-odd-lts.Need-odd-part-requires (expand-odd-claims t) (expand-odd-at t) expand-odd.Post
-expand-odd-odd-part-requires t c κs =
-    let at-p0 : expand-odd-lts.After-p0 (expand-odd-claims t) (expand-odd-at t) expand-odd.Post = search in
-    let p = (odd-start t at-p0) .pre in
-    let K = sides-two (at-p0 .p0 .given .1) ((odd-split t at-p0) .sides-at .ensures) in
-    (omega (arith, p .0, K .zero-below), zero-asks (p .1) K)
-
 expand-odd-returns-3 : (t : ℕ) → expand-odd-lts.Need-returns-3 (expand-odd-claims t) (expand-odd-at t) expand-odd.Post
 expand-odd-returns-3 t c =
     let at-first : expand-odd-lts.After-odd-part (expand-odd-claims t) (expand-odd-at t) expand-odd.Post = search in
@@ -263,14 +240,6 @@ expand-odd-returns-3 t c =
     let K = sides-two (at-p0 .p0 .given .1) ((odd-split t at-p0) .sides-at .ensures) in
     let R = coded-refused _ (c .if1 .taken) in
     step-first (partOf false (a .p)) _ _ (a .level) (fillOf (a .capacity) (a .count .now)) (a .nodes .now) (a .lookup .now) (a .cache .now) (split-part (at-start .pre .1) K false) (at-first .odd-part .ensures) (R .0) (R .1)
-
-expand-odd-even-part-requires : (t : ℕ) → expand-odd-lts.Need-even-part-requires (expand-odd-claims t) (expand-odd-at t) expand-odd.Post
-expand-odd-even-part-requires t c κs =
-    let at-first : expand-odd-lts.After-odd-part (expand-odd-claims t) (expand-odd-at t) expand-odd.Post = search in
-    let at-p0 : expand-odd-lts.After-p0 (expand-odd-claims t) (expand-odd-at t) expand-odd.Post = search (at-first) in
-    let p = (odd-start t at-p0) .pre in
-    let K = sides-two (at-p0 .p0 .given .1) ((odd-split t at-p0) .sides-at .ensures) in
-    (omega (arith, p .0, K .one-below), one-asks (p .1) K (at-first .odd-part .ensures .kept))
 
 expand-odd-returns-4 : (t : ℕ) → expand-odd-lts.Need-returns-4 (expand-odd-claims t) (expand-odd-at t) expand-odd.Post
 expand-odd-returns-4 t c =
@@ -334,12 +303,21 @@ pub +even-part+expand-even+expand-odd+odd-part-spec : {M : Type 1} → statement
     (λ c. search needs)
     (λ c. search needs)
     (expand-even-returns-2 t)
-    (expand-even-even-part-requires t)
+    (λ c κs.
+    let at-p0 : expand-even-lts.After-p0 (expand-even-claims t) (expand-even-at t) expand-even.Post = search in
+    let p = (even-start t at-p0) .pre in
+    let K = sides-two (at-p0 .p0 .given .1) ((even-split t at-p0) .sides-at .ensures) in
+    (omega arith, search needs))
     (λ c. search needs)
     (λ c. search needs)
     (λ c. search needs)
     (expand-even-returns-3 t)
-    (expand-even-odd-part-requires t)
+    (λ c κs.
+    let at-first : expand-even-lts.After-even-part (expand-even-claims t) (expand-even-at t) expand-even.Post = search in
+    let at-p0 : expand-even-lts.After-p0 (expand-even-claims t) (expand-even-at t) expand-even.Post = search (at-first) in
+    let p = (even-start t at-p0) .pre in
+    let K = sides-two (at-p0 .p0 .given .1) ((even-split t at-p0) .sides-at .ensures) in
+    (omega (arith, p .0, K .one-below), one-asks (p .1) K (at-first .even-part .ensures .kept)))
     (λ c. search needs)
     (λ c. search needs)
     (λ c. search needs)
@@ -365,12 +343,21 @@ pub +even-part+expand-even+expand-odd+odd-part-spec : {M : Type 1} → statement
     (λ c. search needs)
     (λ c. search needs)
     (expand-odd-returns-2 t)
-    (expand-odd-odd-part-requires t)
+    (λ c κs.
+    let at-p0 : expand-odd-lts.After-p0 (expand-odd-claims t) (expand-odd-at t) expand-odd.Post = search in
+    let p = (odd-start t at-p0) .pre in
+    let K = sides-two (at-p0 .p0 .given .1) ((odd-split t at-p0) .sides-at .ensures) in
+    (omega arith, search needs))
     (λ c. search needs)
     (λ c. search needs)
     (λ c. search needs)
     (expand-odd-returns-3 t)
-    (expand-odd-even-part-requires t)
+    (λ c κs.
+    let at-first : expand-odd-lts.After-odd-part (expand-odd-claims t) (expand-odd-at t) expand-odd.Post = search in
+    let at-p0 : expand-odd-lts.After-p0 (expand-odd-claims t) (expand-odd-at t) expand-odd.Post = search (at-first) in
+    let p = (odd-start t at-p0) .pre in
+    let K = sides-two (at-p0 .p0 .given .1) ((odd-split t at-p0) .sides-at .ensures) in
+    (omega (arith, p .0, K .one-below), one-asks (p .1) K (at-first .odd-part .ensures .kept)))
     (λ c. search needs)
     (λ c. search needs)
     (λ c. search needs)
