@@ -3,7 +3,7 @@
 #include <algorithm>
 #include "drawing.h"
 
-static const char *NAMES[] = {"", "Subset1", "Subset0", "Change", "Union", "Intsec", "Diff"};
+static const char *NAMES[] = {"", "Subset1", "Subset0", "Change", "Union", "Intsec", "Diff", "Even", "Odd"};
 
 // Whether the record does not fit the words, whatever its limit.
 static bool misfit(const Lent &lent) {
@@ -31,6 +31,21 @@ static void test_bound(Family result, Family p, Family q) {
     if (most <= 4 * added) tally["bound tested, a quarter of it reached"]++;
 }
 
+// Tests what Even and Odd of a family are together.
+static void test_parity(Family f) {
+    Family even = operated(7, f, EMPTY, 0), odd = operated(8, f, EMPTY, 0);
+    must_hold(operated(5, even, odd, 0) == EMPTY, "the even and the odd part share no member");
+    must_hold(operated(4, even, odd, 0) == f, "the union of the even and the odd part is the family");
+    size_t parts = parts_of(f).size();
+    tally["parity tested"]++;
+    if (f == EMPTY) tally["parity tested, of {}"]++;
+    if (f == BASE) tally["parity tested, of {{}}"]++;
+    if (even != EMPTY && odd != EMPTY) tally["parity tested, neither even nor odd part is {}"]++;
+    if (100 <= parts) tally["parity tested, of 100 parts or more"]++;
+    if (200 <= parts) tally["parity tested, of 200 parts or more"]++;
+    if (count() == capacity) tally["parity tested, in a full store"]++;
+}
+
 // Writes how many nodes a call added; the numbers since Fresh must sum to the count.
 static void tell_added(const char *name, u32 added) {
     text(" added");
@@ -53,23 +68,25 @@ static u32 placed(const char *name, Family f) {
     return number[f];
 }
 
-// One of the six operations; gives its handle, 0 for a refusal.
+// One of the six operations, Even or Odd; gives its handle, 0 for a refusal.
 static u32 operation(u32 op, u32 p, u32 q, const Lent &lent, size_t cache) {
     called(NAMES[op]);
     text(NAMES[op]);
     num(p);
-    num(q);
+    if (op < 7) num(q);
     text(" lent");
     num(lent.slots);
     num(cache);
     text(":");
+    bool two = 4 <= op && op < 7;
     u32 handle = 0, n = lent.n;
     if (damaged(lent)) refused_placing(10);
-    else if (!held(p) || (4 <= op && !held(q))) refused_placing(4);
+    else if (!held(p) || (two && !held(q))) refused_placing(4);
     else if (op < 4 && (q < 1 || limit < q)) refused_placing(3);
     else {
-        Family second = op < 4 ? EMPTY : book[q], result = operated(op, book[p], second, q);
-        if (4 <= op) test_bound(result, book[p], second);
+        Family second = two ? book[q] : EMPTY, result = operated(op, book[p], second, q);
+        if (two) test_bound(result, book[p], second);
+        if (7 <= op) test_parity(book[p]);
         handle = placed(NAMES[op], result);
         n = count();
     }

@@ -36,17 +36,19 @@ static u32 craft_one(u32 x, u32 local) {
     return local - 1;
 }
 
-// Puts a drawn file at the front of the buffer: a few records, mostly near to those of a true file.
-static void craft(const Drawn &drawn) {
-    u32 parts = 1 + drawn.a % 6, way = drawn.b % 32, item = 0;
+// Puts a drawn file of so many records at the front of the buffer. The mask goes into every draw: with 0 the records
+// are mostly near to those of a true file; with 56 the file is true, each item the next and each one child the record
+// before.
+static void craft(const Drawn &drawn, u32 parts, u32 mask) {
+    u32 way = (drawn.b | mask) % 32, item = 0;
     put(0, way == 0 ? drawn.c : 1);
     put_field(1, true, 4, way == 1 ? parts + 1 : way == 2 ? parts - 1 : parts);
     size_t at = 5;
     for (u32 local = 2; local < parts + 2; local++) {
         u32 a = step(state), b = step(a), c = step(b), d = step(c);
-        u32 next = craft_item(a, item), zero = craft_zero(b, local), one = craft_one(c, local);
+        u32 next = craft_item(a | mask, item), zero = craft_zero(b | mask, local), one = craft_one(c | mask, local);
         u32 bits = (next != item + 1) + 2 * (zero != 0) + 4 * (one != local - 1);
-        if (d % 32 == 0) bits |= d / 32 % 16;
+        if ((d | mask) % 32 == 0) bits |= d / 32 % 16;
         put(at, bits);
         at = put_field(at + 1, bits & 1, 2, next);
         at = put_field(at, bits & 2, 4, zero);

@@ -28,7 +28,9 @@ static u32 top(Family f) { return leaf(f) ? 0 : 512 - (u32)f->index; }
 static Family without_side(Family f) { return f->type.kids.E; }
 static Family with_side(Family f) { return f->type.kids.T; }
 
-// The operation by its number, 1 to 6, on a family and an item or on two families.
+static Family EVEN, ODD; // all combinations of 1 to 512 with an even number of items, and all with an odd number
+
+// The operation by its number in the cache, 1 to 8, on a family and an item, on two families, or on one.
 static Family operated(u32 op, Family p, Family q, u32 item) {
     switch (op) {
     case 1: return keep(pbori_Cudd_zddSubset1(manager, p, index_of(item)));
@@ -36,7 +38,20 @@ static Family operated(u32 op, Family p, Family q, u32 item) {
     case 3: return keep(pbori_Cudd_zddChange(manager, p, index_of(item)));
     case 4: return keep(pbori_Cudd_zddUnion(manager, p, q));
     case 5: return keep(pbori_Cudd_zddIntersect(manager, p, q));
-    default: return keep(pbori_Cudd_zddDiff(manager, p, q));
+    case 6: return keep(pbori_Cudd_zddDiff(manager, p, q));
+    case 7: return keep(pbori_Cudd_zddIntersect(manager, p, EVEN));
+    default: return keep(pbori_Cudd_zddIntersect(manager, p, ODD));
+    }
+}
+
+// Makes EVEN and ODD, an item at a time: with the item put in, each combination goes over to the other.
+static void make_even_and_odd() {
+    EVEN = BASE;
+    ODD = EMPTY;
+    for (u32 item = 1; item <= 512; item++) {
+        Family from_odd = operated(3, ODD, EMPTY, item), from_even = operated(3, EVEN, EMPTY, item);
+        EVEN = operated(4, EVEN, from_odd, 0);
+        ODD = operated(4, ODD, from_even, 0);
     }
 }
 

@@ -27,9 +27,12 @@ static void must_hold(bool holds, const char *law) {
     std::exit(1);
 }
 
-static void called(const char *name) { tally[std::string("call ") + name]++; }
+static const char *calling; // the call under way
+static void called(const char *name) { calling = name; tally[std::string("call ") + name]++; }
 static void refused(int n) {
     text(" refused");
     num(n);
-    tally["refused " + std::string(n < 10 ? " " : "") + std::to_string(n)]++;
+    std::string what = "refused " + std::string(n < 10 ? " " : "") + std::to_string(n);
+    tally[what]++;
+    tally[what + " by " + calling]++;
 }

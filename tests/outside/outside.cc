@@ -2,30 +2,51 @@
 // documents 01 and 02 alone. The families are CUDD's zero-suppressed diagrams; nothing of this library is used.
 #include "crafting.h"
 
-// One drawn call.
+// Even and Odd of p, then Intsec and Union of what they gave.
+static void parity_calls(u32 p, size_t cache) {
+    u32 even = operation(7, p, 0, lend(63), cache);
+    u32 odd = operation(8, p, 0, lend(63), cache);
+    operation(5, even, odd, lend(63), cache);
+    operation(4, even, odd, lend(63), cache);
+}
+
+// The number of the operation that a kind stands for.
+static u32 operation_of(u32 kind) {
+    static const u32 FIRST[] = {0, 3, 6, 12, 17, 20, 23, 25};
+    return (u32)(std::upper_bound(FIRST, FIRST + 8, kind) - FIRST);
+}
+
+// The second operand that is drawn: an item, a handle, or none.
+static u32 second_operand(u32 op, u32 x, u32 items) {
+    return op < 4 ? drawn_item(x, items) : op < 7 ? drawn_handle(x) : 0;
+}
+
+// One turn: a drawn call, or both parts of the newest family or of a drawn one.
 static void turn(u32 items, bool whole, size_t cache) {
     Drawn drawn = draw();
-    u32 kind = drawn.kind % 40;
+    u32 kind = drawn.kind % 46;
     Lent lent = lend(drawn.d);
-    if (kind < 23) {
-        u32 op = kind < 3 ? 1 : kind < 6 ? 2 : kind < 12 ? 3 : kind < 17 ? 4 : kind < 20 ? 5 : 6;
-        u32 q = op < 4 ? drawn_item(drawn.b, items) : drawn_handle(drawn.b);
+    if (kind < 27) {
+        u32 op = operation_of(kind), q = second_operand(op, drawn.b, items);
         operation(op, drawn_handle(drawn.a), q, lent, cache_part(drawn.c, whole, cache));
-    } else if (kind < 25) {
+    } else if (kind < 29) {
+        u32 p = drawn.b % 2 == 0 ? drawn_handle(drawn.a) : count() + 1;
+        parity_calls(p, cache_part(drawn.c, whole, cache));
+    } else if (kind < 31) {
         size_call(drawn_handle(drawn.a), lent, scratch(drawn.c, count(), 1100));
-    } else if (kind < 27) {
+    } else if (kind < 33) {
         u32 p = drawn_handle(drawn.a);
         has_call(p, drawn_combination(drawn, items, p), lent);
-    } else if (kind < 29) {
+    } else if (kind < 35) {
         size_t room = drawn.b % 8 == 0 ? drawn.b / 8 % 40 : buffer.size();
         save_calls(drawn_handle(drawn.a), lent, scratch(drawn.c, count(), 1100), room);
-    } else if (kind < 34) {
+    } else if (kind < 40) {
         size_t n = drawn_length(drawn.c);
         load_call(n, lent, cache_part(drawn.a, whole, cache), scratch(drawn.b, 6 * n, 12400));
-    } else if (kind < 36) {
+    } else if (kind < 42) {
         audit_call(drawn, lent, cache_part(drawn.c, whole, cache));
-    } else if (kind < 39) {
-        craft(drawn);
+    } else if (kind < 45) {
+        craft(drawn, 1 + drawn.a % 6, 0);
     } else {
         damage(drawn);
     }
@@ -38,7 +59,7 @@ static u32 measured_operation(u32 op, u32 p, u32 q, size_t cache) {
     return handle;
 }
 
-// All subsets of 1 to 64 items, and families of 2^64 - 1 members and of one more.
+// All subsets of 1 to 64 items, families of 2^64 - 1 members and of one more, and two parts of 2^63 members each.
 static void subsets(size_t cache) {
     u32 all = 1;
     for (u32 item = 1; item <= 64; item++) {
@@ -50,6 +71,9 @@ static void subsets(size_t cache) {
     measured_operation(3, all, 65, cache);
     u32 single = measured_operation(3, 1, 65, cache);
     measured_operation(4, less, single, cache);
+    measured_operation(7, all, 0, cache);
+    measured_operation(8, all, 0, cache);
+    parity_calls(less, cache);
 }
 
 // Fresh: a book with {} and {{}} alone.
@@ -96,6 +120,13 @@ static void load_carried(size_t cache) {
     load_call(n, lend(63), cache, 12400);
 }
 
+// Even and Odd of a family of 200 parts.
+static void tall(size_t cache) {
+    craft(draw(), 200, 56);
+    load_call(file_length, lend(63), cache, 12400);
+    parity_calls(count() + 1, cache);
+}
+
 // The newest family, with the limit among its items if there is room, is saved for the next list.
 static void make_carried(size_t cache) {
     operation(3, count() + 1, limit, lend(63), cache);
@@ -107,6 +138,7 @@ static void make_carried(size_t cache) {
 static void calls_of_list(size_t cache, u32 items, u32 calls) {
     load_carried(cache);
     if (items == 70) subsets(cache);
+    if (items == 512) tall(cache);
     for (u32 k = 0; k < calls; k++) turn(items, 16 < items, cache);
     make_carried(cache);
 }
@@ -142,16 +174,16 @@ static const u32 LISTS[][6] = {
     {14, 4, 8, 64, 3, 0},
     {14, 5, 8, 0, 3, 12},
     {14, 5, 8, 513, 3, 0},
-    {12, 7, 0, 512, 2, 150},
-    {901, 307, 4099, 512, 512, 260},
-    {240, 83, 64, 511, 3, 300},
+    {12, 7, 0, 512, 2, 130},
+    {2701, 907, 4099, 512, 512, 260},
+    {240, 83, 64, 511, 3, 280},
     {3002, 2053, 4096, 70, 70, 260},
-    {151, 53, 29, 64, 3, 300},
-    {75, 64, 0, 33, 2, 250},
-    {43, 15, 4, 32, 2, 250},
-    {600, 211, 255, 31, 5, 260},
-    {14, 5, 3, 2, 2, 150},
-    {3, 2, 0, 1, 1, 80},
+    {151, 53, 29, 64, 3, 270},
+    {75, 64, 0, 33, 2, 220},
+    {43, 15, 4, 32, 2, 220},
+    {600, 211, 255, 31, 5, 250},
+    {14, 5, 3, 2, 2, 130},
+    {3, 2, 0, 1, 1, 70},
 };
 
 int main(int argc, char **argv) {
@@ -159,6 +191,7 @@ int main(int argc, char **argv) {
     if (!manager) return 2;
     EMPTY = keep(pbori_Cudd_ReadZero(manager));
     BASE = keep(pbori_Cudd_ReadZddOne(manager, 512)); // past the last variable: {{}} itself
+    make_even_and_odd();
     all_nodes.assign(3010, 2779096485u);
     all_lookup.assign(2060, 2779096485u);
     for (const u32 *l : LISTS) list(l[0], l[1], l[2], l[3], l[4], l[5]);

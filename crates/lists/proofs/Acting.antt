@@ -11,10 +11,11 @@ use Rattle.words.proofs.Cases.{by-lt, by-test}
 use Rattle.family.specs.Family.{Family, top, Within, largestItem}
 use Rattle.family.specs.Book.{at, Held, Book}
 use Rattle.family.specs.File.{familyOf}
-use Rattle.family.proofs.Books.{at-held}
+use Rattle.family.proofs.Books.{at-held, at-within}
+use Rattle.family.proofs.Parity.{within-parity}
 use Rattle.file_load.specs.Promise.{fileNumber, foundFamily, loadRefusal, loadFamily}
 use Rattle.op_promise.specs.Promise.{numberOf}
-use Rattle.lists.specs.Calls.{Call, Operate, Size, Has, Save, Load, Audit, Fact}
+use Rattle.lists.specs.Calls.{Call, Operate, Parity, Size, Has, Save, Load, Audit, Fact}
 use Rattle.lists.specs.Acts.{count, Act, Gives, Saves, Places, actOf}
 use Rattle.lists.proofs.Limits.{named-within, file-within}
 
@@ -37,6 +38,7 @@ pub data Grounded (limit : ℕ) (B : List Family) : Act → Type 0 where
 
 pub grounded : (limit : ℕ) (B : List Family) → Book limit B → (call : Call) → Grounded limit B (actOf limit B call)
 grounded limit B book (Operate op p q) = family-grounded (λ e. named-within (numberOf op) B book (count B) p q e)
+grounded limit B book (Parity even p) = family-grounded (λ e. within-parity _ (at B p) (at-within B book p))
 grounded limit B book (Size p scratch) = fact-grounded
 grounded limit B book (Has p combination) = fact-grounded
 grounded limit B book (Save p scratch output) = file-grounded (at-held B book p)

@@ -7,8 +7,8 @@ use mathlib.Core.List.{List, [], _∷_, _++_, append-assoc, append-nil, foldl, f
 use mathlib.Core.Logic.{⊎-elim}
 use lib.ListN.{length, length-append}
 use Rattle.family.specs.Family.{Family, empty, base, node, parts}
-use Rattle.family.specs.Book.{start, number, Held, add, place, Grown, distinct, absent}
-use Rattle.family.proofs.Books.{grown-self, grown-trans, grown-number, grown-held, add-held, book-start, held-empty, held-base, number-empty, number-base}
+use Rattle.family.specs.Book.{start, at, number, Held, add, place, Grown, distinct, absent}
+use Rattle.family.proofs.Books.{number-at, grown-self, grown-trans, grown-number, grown-held, add-held, book-start, held-empty, held-base, number-empty, number-base}
 use Rattle.family.proofs.Placing.{place-parts, place-grown}
 use Rattle.family.proofs.Different.{add-all, absent-append, absent-start}
 use Rattle.lists.specs.Calls.{Call}
@@ -20,8 +20,11 @@ pub record Numbered (B : List Family) (F : Family) (h : ℕ) : Type 0 where
   pub held : Held B F
   pub is : number B F ≡ h
 
-numbered-grown : {B C : List Family} {F : Family} {h : ℕ} → Grown B C → Numbered B F h → Numbered C F h
+pub numbered-grown : {B C : List Family} {F : Family} {h : ℕ} → Grown B C → Numbered B F h → Numbered C F h
 numbered-grown {F = F} g N = record { held = grown-held g F (N .held); is = grown-number g F (N .held) ∙ N .is }
+
+pub numbered-at : {B : List Family} {F : Family} {h : ℕ} → Numbered B F h → at B h ≡ F
+numbered-at {B} {F} N = ap (λ k. at B k) (sym (N .is)) ∙ number-at B F (N .held)
 
 -- the book is made by the families handed out: it is their parts, and each family stands there under its handle
 pub record MadeBy (B : List Family) (hs : List Handout) : Type 0 where
@@ -37,7 +40,7 @@ absent-all [] = refl
 absent-all (h ∷ hs) = absent-append start (parts (h .family)) (allParts hs) ∙ rw (absent-start (h .family), absent-all hs)
 
 -- a family that was placed is held
-placed-held : (B : List Family) (F : Family) → Grown start B → Held (place B F) F
+pub placed-held : (B : List Family) (F : Family) → Grown start B → Held (place B F) F
 placed-held B empty g = grown-held g empty (held-empty start (book-start 0))
 placed-held B base g = grown-held g base (held-base start (book-start 0))
 placed-held B (node i a b) g = add-held (place (place B a) b) (node i a b)

@@ -1,4 +1,4 @@
--- The theorem of demand 3. Theorem.antt states it; the other files prove it, lowest first.
+-- The theorem of demand 3 is in Theorem.antt, and what Even and Odd of a family give in Parted.antt; lowest first.
 pub mod Limits
 pub mod Lending
 pub mod Acting
@@ -8,9 +8,11 @@ pub mod Steps
 pub mod Growth
 pub mod Filing
 pub mod Reaching
+pub mod Answering
 pub mod Members
 pub mod Summing
 pub mod Theorem
+pub mod Parted
 pub mod Tabled
 pub mod Worked
 pub mod Laying

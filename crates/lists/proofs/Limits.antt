@@ -1,6 +1,6 @@
 -- The families that calls take keep to the limit: those of an operation and those of a file.
 -- An operation keeps to the limit of its operands, and reading a file adds only nodes that fit a book.
-use Prim.Native.Nat.{ℕ, zero, suc, _+_, _≤_, _<_}
+use Prim.Native.Nat.{ℕ, zero, suc, _≤_, _<_}
 use mathlib.Core.Path.{_≡_, sym, _∙_}
 use mathlib.Core.Bool.{true, cond, _&&_}
 use mathlib.Core.List.{List, [], _∷_, _++_}
@@ -13,11 +13,12 @@ use Rattle.family.specs.Book.{start, at, Book}
 use Rattle.family.specs.Record.{readNumber, Triple, triple, itemOf, readRecord}
 use Rattle.family.specs.File.{nodeOf, fits, readRecords, andThen, order, lastOf, readParts, alone, familyOf}
 use Rattle.family.proofs.Books.{at-within, book-start}
+use Rattle.family.proofs.Parity.{within-parity}
 use Rattle.family.proofs.Records.{not-some, then-inv}
 use Rattle.family.proofs.Orders.{and-then-inv, cond-inv}
 use Rattle.family.proofs.Reading.{fits-next, book-next}
 use Rattle.store.specs.Operations.{named}
-use Rattle.store.proofs.Naming.{named-families, named-item, families-within, restrict-within}
+use Rattle.store.proofs.Naming.{named-families, named-item, named-parity, families-within, restrict-within}
 use Rattle.store.specs.Tests.{itemTest}
 use Rattle.store.proofs.Testing.{item-passed, passes}
 use Rattle.op_promise.proofs.Refusing.{item-number}
@@ -32,7 +33,9 @@ pub named-within : {limit : ℕ} (op : ℕ) (B : List Family) → Book limit B �
 named-within {limit} op B book n p q e =
     by-lt op 4
     (λ l t. let i = item-some op limit n p q l e in rw (named-item op B p q l) (restrict-within op q (at B p) (i .0) (i .1) (at-within B book p)))
-    (λ l t. rw (named-families op B p q l) (families-within op (at B p) (at B q) (at-within B book p) (at-within B book q)))
+    (λ l t. by-lt op 7
+    (λ m u. rw (named-families op B p q l (omega arith)) (families-within op (at B p) (at B q) (at-within B book p) (at-within B book q)))
+    (λ m u. rw (named-parity op B p q m) (within-parity (eqb op 7) (at B p) (at-within B book p))))
 
 -- reading a file
 module _ (limit : ℕ) where

@@ -22,6 +22,7 @@ use Rattle.store.specs.Tests.{isItem, testsOf}
 use Rattle.store.proofs.Testing.{passes}
 use Rattle.query_has.specs.Promise.{hasRefusal}
 use Rattle.op_promise.specs.Promise.{operationRefusal}
+use Rattle.op_parity.specs.Promise.{parityRefusal}
 use Rattle.query_sizes.specs.NodeSizes.{most, sizesOf}
 use Rattle.query_size.specs.declared.SizeAnswer.the-variants.{Members, Refused as SizeRefused}
 use Rattle.query_size.specs.Promise.{sizeGivenBy, sizeRefusal, sizeAnswer, sizeScratch}
@@ -51,6 +52,9 @@ operation-refusing op limit n p q =
     by-test (ltb op 4)
     (λ t. rw t (tests-refusing n p 0 0 0 (by-test (isItem limit q) (λ i. rw i nothing) (λ i. rw i (refuses Item (λ e. omega arith))))))
     (λ t. rw t (tests-refusing n p q 0 0 nothing))
+
+pub parity-refusing : (n p : ℕ) → Refusing (parityRefusal n p)
+parity-refusing n p = tests-refusing n p 0 0 0 nothing
 
 pub load-refusing : (limit : ℕ) (file : List ℕ) (words : ℕ) → Refusing (loadRefusal limit file words)
 unfolding loadRefusal

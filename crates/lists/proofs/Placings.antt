@@ -32,20 +32,20 @@ pub record TakesFamily (bounds : Bounds) (B : List Family) (call : Call) (n : �
   pub act : actOf (bounds .limit) B call ≡ Places n F
 
 -- what the book answers and does
-record Book-does (bounds : Bounds) (B : List Family) (call : Call) (given : Given) (effect : Effect) : Type 0 where
-  answers : bookAnswer bounds B call ≡ placeReturns given
-  does : bookEffect bounds B call ≡ effect
+pub record Book-does (bounds : Bounds) (B : List Family) (call : Call) (given : Given) (effect : Effect) : Type 0 where
+  pub answers : bookAnswer bounds B call ≡ placeReturns given
+  pub does : bookEffect bounds B call ≡ effect
 
 module _ {bounds : Bounds} {B : List Family} {call : Call} {n : ℕ} {F : Family} (K : TakesFamily bounds B call n F) where
-  book-refused : (n ≡ 0 → ⊥) → Book-does bounds B call (refusedBy n) stays
+  pub book-refused : (n ≡ 0 → ⊥) → Book-does bounds B call (refusedBy n) stays
   unfolding bookAnswer bookEffect placeAnswer
   book-refused d = record { answers = rw (K .act, ne-eqb n 0 d); does = rw (K .act, ne-eqb n 0 d) }
 
-  book-full : n ≡ 0 → tooLarge (bounds .capacity) B F ≡ true → Book-does bounds B call (refusedBy 5) stays
+  pub book-full : n ≡ 0 → tooLarge (bounds .capacity) B F ≡ true → Book-does bounds B call (refusedBy 5) stays
   unfolding bookAnswer bookEffect placeAnswer
   book-full e t = record { answers = rw (K .act, e, t); does = rw (K .act, e, t) }
 
-  book-placed : n ≡ 0 → tooLarge (bounds .capacity) B F ≡ false → Book-does bounds B call (record { refusal = 0; handle = number (place B F) F; added = costOf B F }) (grows F)
+  pub book-placed : n ≡ 0 → tooLarge (bounds .capacity) B F ≡ false → Book-does bounds B call (record { refusal = 0; handle = number (place B F) F; added = costOf B F }) (grows F)
   unfolding bookAnswer bookEffect placeAnswer
   book-placed e t = record { answers = rw (K .act, e, t); does = rw (K .act, e, t) }
 

@@ -11,7 +11,7 @@ use lib.Seq.{take-nil, take-all, take-append-le}
 use Rattle.words.proofs.Cases.{by-lt}
 use Rattle.family.specs.Family.{Within}
 use Rattle.family.specs.Book.{start, distinct}
-use Rattle.family.proofs.Books.{number-at, grown-self, grown-length, grown-at, at-within}
+use Rattle.family.proofs.Books.{grown-self, grown-length, grown-at, at-within}
 use Rattle.store.specs.Words.{bookOf}
 use Rattle.store.proofs.Decoding.{sound-holds}
 use Rattle.store.proofs.Held.{at-inj}
@@ -21,7 +21,7 @@ use Rattle.lists.specs.Runs.{State, Opening, boundsOf, Step, Runs, fresh
 use Rattle.lists.specs.Demand3.{meaning}
 use Rattle.lists.proofs.Invariant.{Inv, limit-low, book, size, count-fits, capacity-low, fresh-inv}
 use Rattle.lists.proofs.Steps.{step}
-use Rattle.lists.proofs.Growth.{book-append, book-snoc, answers-snoc, MadeBy, first-handed, handed-from, handed-length, book-grown}
+use Rattle.lists.proofs.Growth.{numbered-at, book-append, book-snoc, answers-snoc, MadeBy, first-handed, handed-from, handed-length, book-grown}
 use Rattle.lists.proofs.Filing.{Filed, now-filed, files-snoc}
 
 -- what a list of calls has come to
@@ -86,7 +86,7 @@ module _ {bounds : Bounds} {slots : ℕ} {calls : List Call} {answers : List Ans
   unfolding handedOut
   keeps g m =
       let N = handed .each g m in
-      (omega (arith, N .held, N .is, size (R .inv)), rw (R .inv .book-is, ← N .is) (number-at (bookFrom bounds start calls) (g .family) (N .held)))
+      (omega (arith, N .held, N .is, size (R .inv)), rw (R .inv .book-is) (numbered-at N))
 
   pub files-filed : (f : SavedFile) → List·Memᴰ f (filesOf bounds calls answers) → Filed f
   unfolding filesOf

@@ -2,6 +2,7 @@
 -- A call's promise gives the answer of the book that the store holds, and the placing calls the words of the next.
 use Prim.Native.Nat.{ℕ, _*_, _/_}
 use mathlib.Core.Path.{_≡_, refl, ap, _∙_}
+use mathlib.Core.Bool.{Bool}
 use mathlib.Core.List.{List, [], _++_}
 use native.Mathlib.Omega.{arith}
 use lib.Dec.{eqb}
@@ -22,6 +23,7 @@ use Rattle.store.specs.Cache.{True}
 use Rattle.store.specs.Sound.{Sound}
 use Rattle.store.proofs.Sounds.{zeroed-true, sound-with, bare}
 use Rattle.op_promise.specs.Promise.{OperationCall, numberOf}
+use Rattle.op_parity.specs.Promise.{ParityCall}
 use Rattle.query_size.specs.declared.Measured.{Measured}
 use Rattle.query_has.specs.declared.Asked.{Asked}
 use Rattle.query_size.specs.Promise.{sizeGivenBy, sizeAnswer, SizeCall}
@@ -32,10 +34,10 @@ use Rattle.file_load.specs.Promise.{LoadCall}
 use Rattle.store_audit.specs.declared.audit.Audited.{Audited}
 use Rattle.store_audit.specs.Promise.{AuditCall}
 use Rattle.op_promise.specs.declared.Operation.{Operation}
-use Rattle.lists.specs.Calls.{Call, Operate, Size, Has, Save, Load, Audit, Answer}
+use Rattle.lists.specs.Calls.{Call, Operate, Parity, Size, Has, Save, Load, Audit, Answer}
 use Rattle.lists.specs.Acts.{placeReturns, sizeReturns, hasReturns, saveReturns, auditReturns, Saves, actAnswer, stays}
 use Rattle.lists.specs.Books.{Bounds, bookAnswer, bookEffect}
-use Rattle.lists.specs.Runs.{State, sameWords, withPart, Step, operates, sizes, asks, saves, loads, audits}
+use Rattle.lists.specs.Runs.{State, sameWords, withPart, Step, operates, parts, sizes, asks, saves, loads, audits}
 use Rattle.lists.proofs.Lending.{joined-true}
 use Rattle.lists.proofs.Invariant.{Inv, BookStep, count-is}
 use Rattle.lists.proofs.Placings.{place-step}
@@ -54,6 +56,11 @@ module _ {bounds : Bounds} {slots : ℕ} {B : List Family} {x : State} (I : Inv 
       → OperationCall (numberOf op) p q (x .store) (x .nodes) (x .lookup) (take lent (x .cache)) r nodes lookup part
       → BookStep bounds slots B (Operate op p q) (placeReturns (givenBy (r .answer))) (withPart x lent (r .store) nodes lookup part)
   operate-step lent P = place-step (record { act = rw (← count-is I, ← I .limit-is) refl }) I lent (rw (I .book-is) at P)
+
+  parity-step : (lent : ℕ) {even : Bool} {p : ℕ} {r : Placed} {nodes lookup part : List ℕ}
+      → ParityCall even p (x .store) (x .nodes) (x .lookup) (take lent (x .cache)) r nodes lookup part
+      → BookStep bounds slots B (Parity even p) (placeReturns (givenBy (r .answer))) (withPart x lent (r .store) nodes lookup part)
+  parity-step lent P = place-step (record { act = rw (← count-is I) refl }) I lent (rw (I .book-is) at P)
 
   load-step : (lent : ℕ) {file scratch : List ℕ} {r : Placed} {nodes lookup part scratch′ : List ℕ}
       → LoadCall (x .store) (x .nodes) (x .lookup) (take lent (x .cache)) file scratch r nodes lookup part scratch′
@@ -122,6 +129,7 @@ module _ {bounds : Bounds} {slots : ℕ} {B : List Family} {x : State} (I : Inv 
 
   pub step : {call : Call} {answer : Answer} {y : State} → Step x call answer y → BookStep bounds slots B call answer y
   step (operates lent {op = op} {p = p} {q = q} P) = operate-step lent {op = op} {p = p} {q = q} P
+  step (parts lent {even = even} {p = p} P) = parity-step lent {even = even} {p = p} P
   step (sizes P) = size-step P
   step (asks {combination = w} P) = has-step w P
   step (saves P) = save-step P

@@ -12,19 +12,21 @@ use borrow.Author.Tests.{le-ltb}
 use Rattle.words.proofs.Cases.{by-test}
 use Rattle.family.specs.Family.{Family, size, top, largestItem}
 use Rattle.family.specs.Book.{at}
+use Rattle.family.specs.Parity.{parity}
 use Rattle.family.specs.File.{fileOf, familyOf}
 use Rattle.store.specs.Operations.{named}
 use Rattle.store.specs.Placing.{tooLarge, placeAnswer}
 use Rattle.store.specs.Scratch.{scratchTests}
 use Rattle.store.specs.Tests.{isItem, testsOf}
 use Rattle.op_promise.specs.Promise.{operationRefusal, numberOf}
+use Rattle.op_parity.specs.Promise.{parityRefusal}
 use Rattle.query_sizes.specs.NodeSizes.{most}
 use Rattle.query_size.specs.Promise.{sizeRefusal, sizeAnswer}
 use Rattle.query_has.specs.Promise.{hasAnswer, hasRefusal}
 use Rattle.file_save.specs.Promise.{saveRefusal}
 use Rattle.file_load.specs.Promise.{fileNumber, foundFamily, loadRefusal, loadFamily}
 use Rattle.op_promise.specs.declared.Operation.{Operation}
-use Rattle.lists.specs.Calls.{Call, Operate, Size, Has, Save, Load, Audit}
+use Rattle.lists.specs.Calls.{Call, Operate, Parity, Size, Has, Save, Load, Audit}
 use Rattle.lists.specs.Acts.{count}
 use Rattle.lists.specs.Books.{Bounds, bookAnswer}
 use Rattle.lists.specs.Table.{above, onItem, fileRefusal, refusalOf}
@@ -55,6 +57,9 @@ module _ (bounds : Bounds) (B : List Family) where
   pub tabled : (call : Call) → bookAnswer bounds B call .refusal ≡ refusalOf bounds B call
   unfolding bookAnswer refusalOf sizeAnswer sizeRefusal saveRefusal scratchTests hasAnswer hasRefusal testsOf
   tabled (Operate op p q) = place-refusal (operationRefusal (numberOf op) (bounds .limit) (count B) p q) (named (numberOf op) B p q) ∙ sym (operate-table op p q)
+  tabled (Parity even p) =
+      place-refusal (parityRefusal (count B) p) (parity even (at B p))
+      ∙ by-test (above B p) (λ a. rw a) (λ a. rw (a, le-ltb (count B + 1) 0 (omega arith)))
   tabled (Size p scratch) =
       by-test (above B p) (λ a. rw a)
       (λ a. rw (a, le-ltb (count B + 1) 0 (omega arith)) (by-test (ltb scratch (count B)) (λ s. rw s) (λ s. rw s (by-test (ltb most (size (at B p))) (λ l. rw l) (λ l. rw l)))))

@@ -8,7 +8,10 @@ use lib.ListN.{length, take, replicate}
 use Rattle.words.proofs.Zeroed.{zeros-length}
 use Rattle.family.specs.Family.{Family}
 use Rattle.family.specs.Combination.{itemsOf}
-use Rattle.family.specs.Book.{start}
+use Rattle.family.specs.Book.{start, at}
+use Rattle.family.specs.Parity.{parity}
+use Rattle.family.proofs.Books.{at-within}
+use Rattle.family.proofs.Parity.{within-parity}
 use Rattle.store.specs.Words.{bookOf}
 use Rattle.store.specs.Operations.{named}
 use Rattle.store.specs.Sound.{Sound}
@@ -17,9 +20,9 @@ use Rattle.store_fresh.specs.declared.FreshAnswer.the-variants.{Done}
 use Rattle.store_fresh.specs.Promise.{freshLeaves, freshOf}
 use Rattle.file_load.specs.Promise.{loadFamily}
 use Rattle.op_promise.specs.Promise.{numberOf}
-use Rattle.lists.specs.Calls.{Call, Operate, Size, Has, Save, Load, Audit, Answer}
+use Rattle.lists.specs.Calls.{Call, Operate, Parity, Size, Has, Save, Load, Audit, Answer}
 use Rattle.lists.specs.Books.{Bounds, bookAnswer, answersOf, bookOfCalls}
-use Rattle.lists.specs.Runs.{State, Opening, boundsOf, Step, operates, sizes, asks, saves, loads, audits, Runs, fresh, next}
+use Rattle.lists.specs.Runs.{State, Opening, boundsOf, Step, operates, parts, sizes, asks, saves, loads, audits, Runs, fresh, next}
 use Rattle.lists.specs.Witness.{WitnessClaim}
 use Rattle.lists.proofs.Limits.{named-within}
 use Rattle.lists.proofs.Acting.{load-within}
@@ -29,7 +32,7 @@ use Rattle.lists.proofs.Invariant.{Inv}
 use Rattle.lists.proofs.Steps.{no-cache, step}
 use Rattle.lists.proofs.Growth.{answers-snoc}
 use Rattle.lists.proofs.Reaching.{reached}
-use Rattle.lists.proofs.Numbers.{operation-refusing, load-refusing}
+use Rattle.lists.proofs.Numbers.{operation-refusing, parity-refusing, load-refusing}
 use Rattle.lists.proofs.Promising.{place-kept, has-kept, audit-kept, size-kept, save-kept}
 
 -- a step with some answer
@@ -59,6 +62,11 @@ module _ {bounds : Bounds} {slots : ℕ} {B : List Family} {x : State} (I : Inv 
       let book = sound-holds (I .sound) .book in
       taken (operates lent (place-kept (named (numberOf op) (bookOf (x .nodes) n) p q) (lent-sound lent)
       (operation-refusing (numberOf op) (x .store .limit) n p q) (λ e. named-within (numberOf op) (bookOf (x .nodes) n) book n p q e) .call))
+  steps lent (Parity even p) =
+      let n = x .store .count in
+      let F = at (bookOf (x .nodes) n) p in
+      let w = at-within (bookOf (x .nodes) n) (sound-holds (I .sound) .book) p in
+      taken (parts lent (place-kept (parity even F) (lent-sound lent) (parity-refusing n p) (λ e. within-parity even F w) .call))
   steps lent (Size p scratch) = rw (zeros-length scratch) at (size-steps p (replicate scratch 0))
   steps lent (Has p combination) = taken (asks (has-kept (no-cache I) p (itemsOf combination) .call))
   steps lent (Save p scratch output) = rw (zeros-length scratch, zeros-length output) at (save-steps p (replicate scratch 0) (replicate output 0))

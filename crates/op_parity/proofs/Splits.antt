@@ -9,9 +9,10 @@ use native.Mathlib.Omega.{arith}
 use Rattle.family.specs.Family.{Family, empty, top}
 use Rattle.family.specs.Book.{at}
 use Rattle.family.proofs.Parity.{within-parity, parity-step, parity-leaf}
-use Rattle.store.specs.Coded.{reachedAs}
+use Rattle.store.specs.Coded.{answerOf, reachedAs}
 use Rattle.store.specs.Operations.{parityNumber}
-use Rattle.store.specs.Inner.{Fill, Holds, Kept, Ran}
+use Rattle.store.specs.Inner.{Handle, Fill, Holds, Kept, Ran}
+use Rattle.store.proofs.Codes.{coded-held}
 use Rattle.store.proofs.Held.{at-0, top-at, within, low-at}
 use Rattle.store.proofs.Growing.{kept-top, kept-roomy}
 use Rattle.store.proofs.Naming.{named-part}
@@ -36,13 +37,16 @@ taken-part even n p h =
     number false = (omega arith, omega arith)
 
 -- a top of 0: the even part is the family, the odd part is {}
-module _ (even : Bool) {p level : ℕ} {s : Fill} {nodes lookup : List ℕ} (A : PartAsks p level s nodes lookup) (none : level ≡ 0) (cache : List ℕ) where
+module _ (even : Bool) {p level : ℕ} {s : Fill} {nodes lookup : List ℕ} (A : PartAsks p level s nodes lookup) where
   leaf-held : (even : Bool) → cond even p 0 ≤ s .count + 1
   leaf-held true = A .held
   leaf-held false = omega arith
 
-  leaf-means : (limit : ℕ) (B : List Family) → Holds limit B (s .count) nodes lookup → at B (cond even p 0) ≡ of (partOf even p) B
-  leaf-means limit B H =
+  pub leaf-code : answerOf (cond even p 0) ≡ Handle (cond even p 0)
+  leaf-code = coded-held (cond even p 0) (A .roomy) (A .roomy .within) (leaf-held even)
+
+  leaf-means : level ≡ 0 → (limit : ℕ) (B : List Family) → Holds limit B (s .count) nodes lookup → at B (cond even p 0) ≡ of (partOf even p) B
+  leaf-means none limit B H =
       let l = A .held in
       chosen even
       ∙ sym (named-part even B p 0 ∙ parity-leaf even (at B p) (within H p (omega arith) .ordered) (sym (top-at H p (omega arith)) ∙ sym (A .level-is) ∙ none))
@@ -51,9 +55,9 @@ module _ (even : Bool) {p level : ℕ} {s : Fill} {nodes lookup : List ℕ} (A :
       chosen true = refl
       chosen false = at-0 H
 
-  pub ran-leaf : Ran 0 (of (partOf even p)) s nodes lookup cache (reachedAs (s .capacity) (s .count) (cond even p 0)) nodes lookup cache
-  ran-leaf =
-      plain-ran 0 (of (partOf even p)) s nodes lookup cache (plain-coded 0 (of (partOf even p)) s nodes lookup (A .roomy) (cond even p 0) (leaf-held even) leaf-means)
+  pub ran-leaf : level ≡ 0 → (cache : List ℕ) → Ran 0 (of (partOf even p)) s nodes lookup cache (reachedAs (s .capacity) (s .count) (cond even p 0)) nodes lookup cache
+  ran-leaf none cache =
+      plain-ran 0 (of (partOf even p)) s nodes lookup cache (plain-coded 0 (of (partOf even p)) s nodes lookup (A .roomy) (cond even p 0) (leaf-held even) (leaf-means none))
 
 -- a top that is an item: what the step asks
 module _ {p level : ℕ} {s : Fill} {nodes lookup : List ℕ} (E : PartStepAsks p level s nodes lookup) where

@@ -1,8 +1,9 @@
 // Even and Odd: what refuses them, the recursion, and the end of the call.
-ghost use mathlib.Core.Bool.{true, false};
+ghost use mathlib.Core.Path.{_≡_};
+ghost use mathlib.Core.Bool.{true, false, cond};
 ghost use Rattle.op_parity.specs.Promise.{ParityCall};
-use crate::recursion::even_part;
-use crate::recursion::odd_part;
+use crate::recursion::expand_even;
+use crate::recursion::expand_odd;
 use store::record::Placed;
 use store::record::Refusal;
 use store::record::Store;
@@ -10,6 +11,13 @@ use store::tests::Test;
 use store::tests::tested;
 use store_sides::top_of;
 use store_undo::finish;
+
+// The even part of {} or {{}}, which is the family itself, or else its odd part, which is {}.
+fn leaf_part(even: bool, p: u32) -> u32
+    ensures { λ r. ⌜ r ≡ cond even p 0 ⌝ }
+{
+    if even { p } else { 0 }
+}
 
 // The even part of p, or else its odd part.
 fn of_parity(
@@ -30,12 +38,15 @@ fn of_parity(
     if store.limit < level {
         return store.refused(Refusal::Damaged);
     }
+    if level == 0 {
+        return store.placed(leaf_part(even, p), 0);
+    }
     let mut held = store.count;
     if even {
-        let coded = even_part(p, level, store.capacity, &mut held, nodes, lookup, cache);
+        let coded = expand_even(p, level, store.capacity, &mut held, nodes, lookup, cache);
         return finish(store, held, coded, nodes, lookup, cache);
     }
-    let coded = odd_part(p, level, store.capacity, &mut held, nodes, lookup, cache);
+    let coded = expand_odd(p, level, store.capacity, &mut held, nodes, lookup, cache);
     finish(store, held, coded, nodes, lookup, cache)
 }
 

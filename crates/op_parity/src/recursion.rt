@@ -16,7 +16,7 @@ use store_sides::Sides;
 use store_sides::sides_at;
 
 // The even part of a family whose top is the level: {} and {{}} are their own, else by the two sides.
-pub fn even_part(
+fn even_part(
     p: u32,
     level: u32,
     capacity: u32,
@@ -36,7 +36,7 @@ pub fn even_part(
 
 // The same where the top is an item: the cache, else the even part of the without-side, the odd part of the
 // with-side, and their node.
-fn expand_even(
+pub fn expand_even(
     p: u32,
     level: u32,
     capacity: u32,
@@ -76,7 +76,7 @@ fn expand_even(
 }
 
 // The odd part of a family whose top is the level: {} and {{}} have none, else by the two sides.
-pub fn odd_part(
+fn odd_part(
     p: u32,
     level: u32,
     capacity: u32,
@@ -96,7 +96,7 @@ pub fn odd_part(
 
 // The same where the top is an item: the cache, else the odd part of the without-side, the even part of the
 // with-side, and their node.
-fn expand_odd(
+pub fn expand_odd(
     p: u32,
     level: u32,
     capacity: u32,

@@ -5,13 +5,13 @@ use crate::loads;
 use crate::loads::Reading;
 use crate::loads::needed;
 use crate::placing;
-use crate::placing::Operation;
+use crate::placing::of;
 use crate::saves;
 use crate::saves::Room;
-use crate::turn::State;
-use crate::turn::with_file;
-use crate::turn::with_placed;
-use store::record::Store;
+use crate::state::State;
+use crate::state::newest;
+use crate::state::with_file;
+use crate::state::with_placed;
 
 // One less; 0 for 0.
 fn less(n: usize) -> usize {
@@ -22,7 +22,7 @@ fn less(n: usize) -> usize {
 }
 
 // Loads so many bytes in so much scratch.
-fn load(
+pub fn load(
     bytes: usize,
     words: usize,
     state: State,
@@ -68,20 +68,11 @@ pub fn loaded(
     load(bytes, 12400, same, nodes, lookup, cache, file)
 }
 
-// The handle of the newest family.
-fn newest(store: Store) -> u32 {
-    std::num::wrapping_add_u32(store.count, 1)
-}
-
 // Changes the newest family by the limit: the newest one then holds that item, if there is room.
 fn changed(state: State, nodes: &mut [u32], lookup: &mut [u32], cache: &mut [u32]) -> State {
     let store = state.store;
     let lent = everything(store, lookup.len(), cache.len());
-    let call = Operation {
-        op: 3,
-        p: newest(store),
-        q: store.limit,
-    };
+    let call = of(3, newest(store), store.limit);
     let placed = placing::line(call, lent, nodes, lookup, cache);
     with_placed(state, placed)
 }

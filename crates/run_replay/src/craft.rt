@@ -1,7 +1,12 @@
-// Drawn files: a few records, mostly near to those of a true file.
+// Drawn files. A mask goes into every draw: with 0 the records are mostly near to those of a true file; with 56 the
+// file is true, each item the next and each one child the record before.
 use crate::draw::Drawn;
 use crate::draw::below;
 use crate::draw::step;
+use crate::output::text;
+use crate::saves;
+use crate::state::State;
+use crate::state::with_file;
 
 // Where the next byte goes, the record before, and the draw.
 struct Crafted {
@@ -121,19 +126,19 @@ fn craft_bits(x: u32, plain: u32) -> u32 {
 }
 
 // Draws and puts the record with a local number.
-fn put_record(file: &mut [u8], limit: u32, crafted: Crafted, local: u32) -> Crafted {
+fn put_record(file: &mut [u8], limit: u32, mask: u32, crafted: Crafted, local: u32) -> Crafted {
     let a = step(crafted.draw);
     let b = step(a);
     let c = step(b);
     let d = step(c);
-    let item = craft_item(a, crafted.item, limit);
-    let zero = craft_zero(b, local);
-    let one = craft_one(c, local);
+    let item = craft_item(a | mask, crafted.item, limit);
+    let zero = craft_zero(b | mask, local);
+    let one = craft_one(c | mask, local);
     let first = bit(1, item, std::num::wrapping_add_u32(crafted.item, 1));
     let second = bit(2, zero, 0);
     let third = bit(4, one, std::num::wrapping_sub_u32(local, 1));
     let fields = Fields {
-        bits: craft_bits(d, first | second | third),
+        bits: craft_bits(d | mask, first | second | third),
         item: item,
         zero: zero,
         one: one,
@@ -147,7 +152,7 @@ fn put_record(file: &mut [u8], limit: u32, crafted: Crafted, local: u32) -> Craf
 }
 
 // Puts so many records behind the first five bytes; gives the length and the draw.
-fn put_records(file: &mut [u8], limit: u32, parts: u32, draw: u32) -> Crafted {
+fn put_records(file: &mut [u8], limit: u32, parts: u32, mask: u32, draw: u32) -> Crafted {
     let mut crafted = Crafted {
         at: 5,
         item: 0,
@@ -156,7 +161,7 @@ fn put_records(file: &mut [u8], limit: u32, parts: u32, draw: u32) -> Crafted {
     let mut local: u32 = 2;
     let end = std::num::wrapping_add_u32(parts, 2);
     while local < end {
-        crafted = put_record(file, limit, crafted, local);
+        crafted = put_record(file, limit, mask, crafted, local);
         local = local + 1;
     }
     crafted
@@ -188,18 +193,18 @@ fn named_parts(way: u32, parts: u32) -> u32 {
 }
 
 // Puts the first five bytes.
-fn put_head(file: &mut [u8], drawn: Drawn, parts: u32) {
-    let way = drawn.b % 32;
-    put(file, 0, first_byte(way, drawn.c));
+fn put_head(file: &mut [u8], way: u32, other: u32, parts: u32) {
+    put(file, 0, first_byte(way, other));
     put_field(file, 1, true, true, named_parts(way, parts));
 }
 
-// Puts a drawn file for a store of this limit at the front of the buffer; seldom a byte of the buffer follows it.
-pub fn craft(file: &mut [u8], drawn: Drawn, limit: u32) -> Crafting {
-    let parts = 1 + drawn.a % 6;
-    put_head(file, drawn, parts);
-    let crafted = put_records(file, limit, parts, drawn.d);
-    if drawn.b % 32 == 3 {
+// Puts a drawn file of so many records for a store of this limit at the front of the buffer; seldom a byte of the
+// buffer follows it.
+fn craft(file: &mut [u8], drawn: Drawn, limit: u32, parts: u32, mask: u32) -> Crafting {
+    let way = (drawn.b | mask) % 32;
+    put_head(file, way, drawn.c, parts);
+    let crafted = put_records(file, limit, parts, mask, drawn.d);
+    if way == 3 {
         return Crafting {
             length: past(crafted.at, 1),
             draw: crafted.draw,
@@ -209,4 +214,22 @@ pub fn craft(file: &mut [u8], drawn: Drawn, limit: u32) -> Crafting {
         length: crafted.at,
         draw: crafted.draw,
     }
+}
+
+// Puts a file of a few records.
+pub fn short(file: &mut [u8], drawn: Drawn, limit: u32) -> Crafting {
+    craft(file, drawn, limit, 1 + drawn.a % 6, 0)
+}
+
+// Puts a true file of 200 parts.
+pub fn tall(file: &mut [u8], drawn: Drawn, limit: u32) -> Crafting {
+    craft(file, drawn, limit, 200, 56)
+}
+
+// Writes the file; gives the state with it in the buffer.
+pub fn line(crafting: Crafting, state: State, file: &[u8]) -> State {
+    text(b"Craft");
+    saves::bytes(file, crafting.length);
+    text(b"\n");
+    with_file(state, crafting.draw, crafting.length)
 }

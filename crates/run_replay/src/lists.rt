@@ -13,15 +13,16 @@ use crate::placing::words;
 use crate::settings::Setting;
 use crate::settings::drawn_setting;
 use crate::settings::numbered;
+use crate::state::State;
+use crate::state::with_file;
+use crate::state::with_fresh;
 use crate::subsets;
 use crate::sums::MARK;
 use crate::sums::cleared;
 use crate::sums::spare;
+use crate::tall;
 use crate::turn::Manner;
-use crate::turn::State;
 use crate::turn::turn;
-use crate::turn::with_file;
-use crate::turn::with_fresh;
 use store::record::Store;
 use store_fresh::FreshAnswer;
 use store_fresh::Freshened;
@@ -88,18 +89,22 @@ fn turns(
     state
 }
 
-// What comes before the drawn calls: Load of the file of the list before; in the list with 70 items, all subsets of 64.
+// What comes before the drawn calls: Load of the file of the list before; in the list with 70 items all subsets of 64,
+// in the one with 512 a family of 200 parts.
 fn opening(
     items: u32,
     state: State,
     nodes: &mut [u32],
     lookup: &mut [u32],
     cache: &mut [u32],
-    file: &[u8],
+    file: &mut [u8],
 ) -> State {
     let loaded = carried::loaded(state, nodes, lookup, cache, file);
     if items == 70 {
         return subsets::lines(loaded, nodes, lookup, cache);
+    }
+    if items == 512 {
+        return tall::lines(loaded, nodes, lookup, cache, file);
     }
     loaded
 }

@@ -8,13 +8,16 @@ mod lists;
 mod loads;
 mod members;
 mod output;
+mod parity;
 mod path;
 mod placing;
 mod saves;
 mod settings;
 mod sizes;
+mod state;
 mod subsets;
 mod sums;
+mod tall;
 mod turn;
 
 fn main() {

@@ -1,4 +1,4 @@
-// The lines of the six operations.
+// The lines of the six operations, Even and Odd.
 use crate::draw::Drawn;
 use crate::draw::at_most;
 use crate::draw::handle;
@@ -14,13 +14,15 @@ use crate::output::word;
 use crate::sums::cleared;
 use crate::sums::of_words;
 use op_calls::operate;
+use op_parity::calls::even;
+use op_parity::calls::odd;
 use op_promise::operation_of;
 use store::record::PlaceAnswer;
 use store::record::Placed;
 use store::record::Refusal;
 use store::record::Store;
 
-// An operation by its number, 1 to 6, and its two operands.
+// An operation by its number in the cache, 1 to 8, and its two operands; for Even (7) and Odd (8) the second is 0.
 pub struct Operation {
     pub op: u32,
     pub p: u32,
@@ -35,7 +37,9 @@ fn name(op: u32) {
         3 => text(b"Change"),
         4 => text(b"Union"),
         5 => text(b"Intsec"),
-        _ => text(b"Diff"),
+        6 => text(b"Diff"),
+        7 => text(b"Even"),
+        _ => text(b"Odd"),
     }
 }
 
@@ -74,12 +78,37 @@ pub fn words(nodes: &[u32], lookup: &[u32]) -> u32 {
     of_words(of_words(1, nodes), lookup)
 }
 
+// Writes the operands: Even and Odd take one.
+fn operands(call: Operation) {
+    word(call.p);
+    if call.op < 7 {
+        word(call.q);
+    }
+}
+
 // Writes an operation, and how much is lent to it.
 fn call_text(call: Operation, slots: usize, part: usize) {
     name(call.op);
-    word(call.p);
-    word(call.q);
+    operands(call);
     lent_two(slots, part);
+}
+
+// Runs an operation.
+fn run(
+    call: Operation,
+    record: Store,
+    nodes: &mut [u32],
+    lookup: &mut [u32],
+    cache: &mut [u32],
+) -> Placed {
+    if call.op == 7 {
+        return even(record, nodes, lookup, cache, call.p);
+    }
+    if call.op == 8 {
+        return odd(record, nodes, lookup, cache, call.p);
+    }
+    let op = operation_of(call.op);
+    operate(op, record, nodes, lookup, cache, call.p, call.q)
 }
 
 // Runs an operation and writes its line.
@@ -93,14 +122,12 @@ pub fn line(
     let slots = at_most(lent.slots, lookup.len());
     let part = at_most(lent.cache, cache.len());
     let before = of_words(1, &cache[0..part]);
-    let placed = operate(
-        operation_of(call.op),
+    let placed = run(
+        call,
         lent.record,
         nodes,
         &mut lookup[0..slots],
         &mut cache[0..part],
-        call.p,
-        call.q,
     );
     call_text(call, slots, part);
     given(placed, &cache[0..part], before);
@@ -108,19 +135,27 @@ pub fn line(
     placed
 }
 
+// The operation of these numbers.
+pub fn of(op: u32, p: u32, q: u32) -> Operation {
+    Operation { op: op, p: p, q: q }
+}
+
 // The operation that is drawn.
 pub fn drawn_operation(op: u32, drawn: Drawn, items: u32, store: Store) -> Operation {
     let p = handle(drawn.a, store.count);
     if op < 4 {
-        return Operation {
-            op: op,
-            p: p,
-            q: item(drawn.b, items, store.limit),
-        };
+        return of(op, p, item(drawn.b, items, store.limit));
     }
-    Operation {
-        op: op,
-        p: p,
-        q: handle(drawn.b, store.count),
+    if op < 7 {
+        return of(op, p, handle(drawn.b, store.count));
+    }
+    of(op, p, 0)
+}
+
+// The handle given; 0 for a refusal.
+pub fn handle_of(answer: PlaceAnswer) -> u32 {
+    match answer {
+        PlaceAnswer::Handle(handle, _) => handle,
+        PlaceAnswer::Refused(_) => 0,
     }
 }

@@ -1,11 +1,13 @@
-// All subsets of 1 to 64 items, and families of 2^64 - 1 members and of one more.
+// All subsets of 1 to 64 items, families of 2^64 - 1 members and of one more, and two parts of 2^63 members each.
 use crate::lend::everything;
+use crate::parity;
 use crate::placing;
 use crate::placing::Operation;
+use crate::placing::handle_of;
+use crate::placing::of;
 use crate::sizes;
-use crate::turn::State;
-use crate::turn::with_placed;
-use store::record::PlaceAnswer;
+use crate::state::State;
+use crate::state::with_placed;
 use store::record::Placed;
 
 // The state; the handles of all subsets so far, of all but the empty one, and of what came last.
@@ -16,12 +18,8 @@ struct Built {
     last: u32,
 }
 
-// The operation of these numbers.
-fn of(op: u32, p: u32, q: u32) -> Operation {
-    Operation { op: op, p: p, q: q }
-}
-
-// The operation of a step: 64 times Change and Union; then 2^64 - 1 members and 2^64, each also with an item more.
+// The operation of a step: 64 times Change and Union; then 2^64 - 1 members and 2^64, each also with an item more; Even
+// and Odd.
 fn operation(step: u32, built: Built) -> Operation {
     if step < 128 {
         if step % 2 == 0 {
@@ -34,15 +32,9 @@ fn operation(step: u32, built: Built) -> Operation {
         129 => of(3, built.less, 65),
         130 => of(3, built.all, 65),
         131 => of(3, 1, 65),
-        _ => of(4, built.less, built.last),
-    }
-}
-
-// The handle given; 0 for a refusal.
-fn handle_of(answer: PlaceAnswer) -> u32 {
-    match answer {
-        PlaceAnswer::Handle(handle, _) => handle,
-        PlaceAnswer::Refused(_) => 0,
+        132 => of(4, built.less, built.last),
+        133 => of(7, built.all, 0),
+        _ => of(8, built.all, 0),
     }
 }
 
@@ -101,8 +93,8 @@ fn stepped(
     after(step, built, state, handle)
 }
 
-// Writes the lines; gives the state after them.
-pub fn lines(start: State, nodes: &mut [u32], lookup: &mut [u32], cache: &mut [u32]) -> State {
+// Runs all steps.
+fn steps(start: State, nodes: &mut [u32], lookup: &mut [u32], cache: &mut [u32]) -> Built {
     let mut built = Built {
         state: start,
         all: 1,
@@ -110,9 +102,15 @@ pub fn lines(start: State, nodes: &mut [u32], lookup: &mut [u32], cache: &mut [u
         last: 1,
     };
     let mut step: u32 = 0;
-    while step < 133 {
+    while step < 135 {
         built = stepped(step, built, nodes, lookup, cache);
         step = step + 1;
     }
-    built.state
+    built
+}
+
+// Writes the lines of all steps, and of both parts of all subsets but the empty one; gives the state after them.
+pub fn lines(start: State, nodes: &mut [u32], lookup: &mut [u32], cache: &mut [u32]) -> State {
+    let built = steps(start, nodes, lookup, cache);
+    parity::lines(built.less, cache.len(), built.state, nodes, lookup, cache)
 }

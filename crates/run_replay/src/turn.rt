@@ -1,6 +1,6 @@
-// One turn of a list: draws a call, runs it and writes its line.
+// One turn of a list: draws a call, or both parts of a family, runs it and writes its lines.
 use crate::audits;
-use crate::craft::craft;
+use crate::craft;
 use crate::craft::put;
 use crate::draw::Drawn;
 use crate::draw::at_most;
@@ -8,6 +8,7 @@ use crate::draw::draw;
 use crate::draw::handle;
 use crate::draw::size_below;
 use crate::lend::lend;
+use crate::lend::part;
 use crate::lend::scratch;
 use crate::loads;
 use crate::loads::Reading;
@@ -17,63 +18,22 @@ use crate::members;
 use crate::output::length;
 use crate::output::text;
 use crate::output::word;
+use crate::parity;
 use crate::placing;
 use crate::placing::drawn_operation;
 use crate::saves;
 use crate::saves::Room;
 use crate::sizes;
-use store::record::PlaceAnswer;
-use store::record::Placed;
+use crate::state::State;
+use crate::state::newest;
+use crate::state::with_file;
+use crate::state::with_placed;
 use store::record::Store;
-
-// The draw, the record last given back, the nodes added since Fresh, and the length of the file in the buffer.
-pub struct State {
-    pub draw: u32,
-    pub store: Store,
-    pub added: u32,
-    pub length: usize,
-}
 
 // How the calls of a list are drawn: the items, and whether the cache is always lent whole.
 pub struct Manner {
     pub items: u32,
     pub whole: bool,
-}
-
-// The state after Fresh.
-pub fn with_fresh(state: State, store: Store) -> State {
-    State {
-        draw: state.draw,
-        store: store,
-        added: 0,
-        length: state.length,
-    }
-}
-
-// The state after a call that places: with a handle the record given back and the nodes added, else as before.
-pub fn with_placed(state: State, placed: Placed) -> State {
-    let store = placed.store;
-    let answer = placed.answer;
-    let PlaceAnswer::Handle(_, added) = answer else {
-        return state;
-    };
-    State {
-        draw: state.draw,
-        store: store,
-        added: std::num::wrapping_add_u32(state.added, added),
-        length: state.length,
-    }
-}
-
-// The state with another draw and another file in the buffer.
-pub fn with_file(state: State, draw: u32, length: usize) -> State {
-    let store = state.store;
-    State {
-        draw: draw,
-        store: store,
-        added: state.added,
-        length: length,
-    }
 }
 
 // An operation.
@@ -193,11 +153,8 @@ fn audit(
 
 // A drawn file into the buffer.
 fn crafted(drawn: Drawn, state: State, file: &mut [u8]) -> State {
-    let made = craft(file, drawn, state.store.limit);
-    text(b"Craft");
-    saves::bytes(file, made.length);
-    text(b"\n");
-    with_file(state, made.draw, made.length)
+    let made = craft::short(file, drawn, state.store.limit);
+    craft::line(made, state, file)
 }
 
 // A drawn byte into the file in the buffer.
@@ -232,7 +189,40 @@ fn operation_of(kind: u32) -> u32 {
     if kind < 20 {
         return 5;
     }
-    6
+    if kind < 23 {
+        return 6;
+    }
+    if kind < 25 {
+        return 7;
+    }
+    8
+}
+
+// The family whose two parts are drawn: the newest one, or any.
+fn parted(drawn: Drawn, store: Store) -> u32 {
+    if drawn.b % 2 == 0 {
+        return handle(drawn.a, store.count);
+    }
+    newest(store)
+}
+
+// An operation, or both parts of a family.
+fn operating(
+    kind: u32,
+    drawn: Drawn,
+    manner: Manner,
+    state: State,
+    nodes: &mut [u32],
+    lookup: &mut [u32],
+    cache: &mut [u32],
+) -> State {
+    if kind < 27 {
+        let op = operation_of(kind);
+        return operation(op, drawn, manner, state, nodes, lookup, cache);
+    }
+    let p = parted(drawn, state.store);
+    let lent = part(drawn.c, manner.whole, cache.len());
+    parity::lines(p, lent, state, nodes, lookup, cache)
 }
 
 // Size, Has or Save.
@@ -245,10 +235,10 @@ fn reading(
     lookup: &[u32],
     file: &mut [u8],
 ) -> State {
-    if kind < 25 {
+    if kind < 31 {
         return size(drawn, state, nodes, lookup);
     }
-    if kind < 27 {
+    if kind < 33 {
         return has(drawn, manner, state, nodes, lookup);
     }
     save(drawn, state, nodes, lookup, file)
@@ -256,13 +246,13 @@ fn reading(
 
 // A drawn file or a drawn byte.
 fn writing(kind: u32, drawn: Drawn, state: State, file: &mut [u8]) -> State {
-    if kind < 39 {
+    if kind < 45 {
         return crafted(drawn, state, file);
     }
     damaged(drawn, state, file)
 }
 
-// Draws a call, runs it and writes its line.
+// Draws a call, or both parts of a family, runs it and writes its lines.
 pub fn turn(
     manner: Manner,
     state: State,
@@ -273,18 +263,17 @@ pub fn turn(
 ) -> State {
     let drawn = draw(state.draw);
     let now = with_file(state, drawn.d, state.length);
-    let kind = drawn.kind % 40;
-    if kind < 23 {
-        let op = operation_of(kind);
-        return operation(op, drawn, manner, now, nodes, lookup, cache);
-    }
+    let kind = drawn.kind % 46;
     if kind < 29 {
+        return operating(kind, drawn, manner, now, nodes, lookup, cache);
+    }
+    if kind < 35 {
         return reading(kind, drawn, manner, now, nodes, lookup, file);
     }
-    if kind < 34 {
+    if kind < 40 {
         return load(drawn, manner, now, nodes, lookup, cache, file);
     }
-    if kind < 36 {
+    if kind < 42 {
         return audit(drawn, manner, now, nodes, lookup, cache);
     }
     writing(kind, drawn, now, file)

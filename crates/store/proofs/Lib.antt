@@ -19,3 +19,4 @@ pub mod Testing
 pub mod Tested
 pub mod Recovering
 pub mod Ways
+pub mod Holding

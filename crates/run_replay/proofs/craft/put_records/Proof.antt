@@ -8,10 +8,10 @@ use Rattle.run_replay.proofs.craft.put_records.Statement.{statement}
 use Rattle.run_replay.proofs.craft.put_records.Tie as tie
 
 abbrev Inv-loop : tie.InvT-loop
-Inv-loop file₀ limit parts draw crafted₀ local₀ end file crafted local = length file ≡ length file₀
+Inv-loop file₀ limit parts mask draw crafted₀ local₀ end file crafted local = length file ≡ length file₀
 
 abbrev μ-loop : tie.MeasureT-loop
-μ-loop file₀ limit parts draw crafted₀ local₀ end file crafted local = end - local
+μ-loop file₀ limit parts mask draw crafted₀ local₀ end file crafted local = end - local
 
 wrapping-add-u32-requires : tie.Need-wrapping-add-u32-requires Inv-loop μ-loop
 wrapping-add-u32-requires c κs = search needs

@@ -1,0 +1,56 @@
+-- What an answer says of the book: a handle that a call gave is its family's number in the book after the whole list,
+-- and a family that the book holds is placed for no new node. An answer is that of the book before its call, and the
+-- book only grows.
+use Prim.Native.Nat.{ℕ}
+use mathlib.Core.Path.{_≡_, sym, ap, _∙_}
+use mathlib.Core.List.{List, [], _∷_}
+use native.Mathlib.Omega.{arith}
+use Rattle.words.proofs.Cases.{by-test, by-eq}
+use Rattle.family.specs.Family.{Family}
+use Rattle.family.specs.Book.{start, number, place, Grown, Book}
+use Rattle.family.proofs.Books.{grown-self, grown-trans}
+use Rattle.store.specs.Placing.{tooLarge}
+use Rattle.store.proofs.Holding.{held-answer}
+use Rattle.lists.specs.Calls.{Call, Answer, gives, Answered, here, later}
+use Rattle.lists.specs.Acts.{placeReturns}
+use Rattle.lists.specs.Books.{Bounds, bookAnswer, bookAfter, answersFrom, bookFrom}
+use Rattle.lists.proofs.Placings.{TakesFamily, book-refused, book-full, book-placed}
+use Rattle.lists.proofs.Growth.{Numbered, placed-held, book-grown}
+
+-- a call and its answer, at some book on the way from one book to another
+pub record Between (bounds : Bounds) (call : Call) (answer : Answer) (B C : List Family) : Type 0 where
+  pub before : List Family
+  pub begun : Grown B before
+  pub answer-is : answer ≡ bookAnswer bounds before call
+  pub after : Grown (bookAfter bounds before call) C
+
+pub between : (bounds : Bounds) {call : Call} {answer : Answer} {calls : List Call} {answers : List Answer} (B : List Family) → Answered call answer calls answers → answers ≡ answersFrom bounds B calls
+    → Between bounds call answer B (bookFrom bounds B calls)
+between bounds {call} {answer} B (here {calls = calls}) e =
+    let is : answer ≡ bookAnswer bounds B call = cc in
+    record { before = B; begun = grown-self B; answer-is = is; after = book-grown bounds (bookAfter bounds B call) calls }
+between bounds B (later {c = c} {calls = calls} {answers = answers} found) e =
+    let rest : answers ≡ answersFrom bounds (bookAfter bounds B c) calls = cc in
+    let N = between bounds (bookAfter bounds B c) found rest in
+    record { before = N .before; begun = grown-trans (book-grown bounds B (c ∷ [])) (N .begun); answer-is = N .answer-is; after = N .after }
+
+-- a call that takes the family F
+module _ {bounds : Bounds} {B : List Family} {call : Call} {n : ℕ} {F : Family} (K : TakesFamily bounds B call n F) where
+  -- where it gave a handle, nothing refused it, and the handle is F's number from then on
+  module _ {h added : ℕ} (e : gives h added ≡ bookAnswer bounds B call) where
+    pub unrefused : n ≡ 0
+    unrefused = by-eq n 0 (λ z t. z) (λ z t. absurd (z (sym (ap (λ a. a .refusal) (e ∙ book-refused K z .answers)))))
+
+    pub numbered : Grown start B → Numbered (bookAfter bounds B call) F h
+    numbered s =
+        by-test (tooLarge (bounds .capacity) B F)
+        (λ f. absurd (omega (arith, ap (λ a. a .refusal) (e ∙ book-full K unrefused f .answers))))
+        (λ f. let D = book-placed K unrefused f in
+        let v = ap (λ a. a .value) (e ∙ D .answers) in
+        let is : number (place B F) F ≡ h = cc in
+        rw (D .does) record { held = placed-held B F s; is = is })
+
+  -- where nothing refuses it and the book holds F, it gives F's number
+  pub held-given : {limit h : ℕ} → Book limit B → n ≡ 0 → Numbered B F h → bookAnswer bounds B call ≡ gives h 0
+  unfolding bookAnswer
+  held-given book z N = rw (K .act, z) (ap placeReturns (held-answer B F book (N .held) (bounds .capacity)) ∙ ap (λ k. gives k 0) (N .is))
