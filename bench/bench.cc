@@ -1,8 +1,6 @@
 // The same lists of calls on this library, on two stores in C, on an earlier build of this library where one is given, and on
 // CUDD's zero-suppressed diagrams. First all must come to the same; then they are timed in turn. Prints tables of Markdown, and
 // draws the picture into the file that is named.
-#include <utility>
-
 #include "chart.h"
 #include "measure.h"
 #include "packages.h"
