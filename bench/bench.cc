@@ -1,8 +1,6 @@
 // The same lists of calls on this library, on two stores in C, on an earlier build of this library where one is given, and on
 // CUDD's zero-suppressed diagrams. First all must come to the same; then they are timed in turn. Prints tables of Markdown, and
 // draws the picture into the file that is named.
-#include <utility>
-
 #include "chart.h"
 #include "measure.h"
 #include "packages.h"
@@ -25,38 +23,46 @@ static const Setting settings[] = {
 };
 
 // Two large families that share half of their combinations.
-template <class P> static std::pair<typename P::F, typename P::F> two(P &p) {
+static const auto two = [](auto &p) {
     auto shared = random_family(p, 2500, 7);
-    return {p.unite(shared, random_family(p, 2500, 11)), p.unite(shared, random_family(p, 2500, 13))};
-}
+    return std::vector{p.unite(shared, random_family(p, 2500, 11)), p.unite(shared, random_family(p, 2500, 13))};
+};
 
 // Their union less their intersection.
-template <class P> static typename P::F three(P &p, std::pair<typename P::F, typename P::F> f) {
-    return p.subtract(p.unite(f.first, f.second), p.intersect(f.first, f.second));
-}
+static const auto three = [](auto &p, auto f) { return std::vector{p.subtract(p.unite(f[0], f[1]), p.intersect(f[0], f[1]))}; };
 
-// The two families before the operations on them are timed: built in CUDD, loaded from files here.
-static std::pair<Cudd::F, Cudd::F> there(Cudd &q) { return two(q); }
-static std::pair<Ours::F, Ours::F> there(Ours &p) {
-    static std::vector<uint8_t> left, right;
-    if (left.empty()) {
+// A family of 50,000 parts. Random combinations have an even number of items: half of them are changed by one item, then all by another,
+// so that CUDD, where the family is built, does not hold its even and its odd part yet.
+static const auto mixed = [](auto &p) {
+    return std::vector{p.change(p.unite(random_family(p, 4156, 7), p.change(random_family(p, 4156, 11), 256)), 1)};
+};
+
+static const auto even_and_odd = [](auto &p, auto f) { return std::vector{p.even(f[0]), p.odd(f[0])}; };
+
+// The families before the calls on them are timed: built in CUDD, loaded from files here.
+template <class Build> static auto there(Cudd &q, Build build) { return build(q); }
+template <class Build> static auto there(Ours &p, Build build) {
+    static std::vector<std::vector<uint8_t>> files;
+    if (files.empty()) {
         Words words(largest_capacity, 1 << 18);
         Ours source(here, words);
-        auto built = two(source);
-        left = source.file(built.first), right = source.file(built.second);
+        for (auto family : build(source)) files.push_back(source.file(family));
     }
-    std::vector<uint32_t> scratch(6 * std::max(left.size(), right.size()));
-    auto first = p.load(left, scratch);
-    return {first, p.load(right, scratch)};
+    std::vector<Ours::F> families;
+    for (const auto &file : files) {
+        std::vector<uint32_t> scratch(6 * file.size());
+        families.push_back(p.load(file, scratch));
+    }
+    return families;
 }
 
 static int grid_order(int row, int column) { return row * 10 + column + 1; }
 static int bad_order(int row, int column) { return split_order(7, row, column); }
 
-// Every workload: its name, what is there before it, which is not timed, and its calls.
+// Every workload: its name, what is there before it, which is not timed, and its calls, which come to one family or more.
 template <class Visit> static void each_workload(Visit visit) {
     auto build = [&](const char *name, auto work) {
-        visit(name, [](auto &) { return 0; }, [work](auto &p, int) { return work(p); });
+        visit(name, [](auto &) { return 0; }, [work](auto &p, int) { return std::vector{work(p)}; });
     };
     build("2,000 random combinations", [](auto &p) { return random_family(p, 2000, 1); });
     build("10,000 random combinations", [](auto &p) { return random_family(p, 10000, 1); });
@@ -64,7 +70,13 @@ template <class Visit> static void each_workload(Visit visit) {
     build("10 queens", [](auto &p) { return queens(p, 10); });
     build("independent sets, 10 x 10 grid, rows in order", [](auto &p) { return independent_sets(p, 10, grid_order); });
     build("independent sets, 7 x 7 grid, even columns first", [](auto &p) { return independent_sets(p, 7, bad_order); });
-    visit("Union, Intsec, Diff of large families", [](auto &p) { return there(p); }, [](auto &p, auto f) { return three(p, f); });
+    visit("Union, Intsec, Diff of large families", [](auto &p) { return there(p, two); }, three);
+    visit("Even and Odd of a family of 50,000 parts", [](auto &p) { return there(p, mixed); }, even_and_odd);
+}
+
+// Whether a library has the calls of a workload: an earlier one may have no Even and Odd.
+static bool has_calls(const Library &library, const std::string &workload) {
+    return library.even || workload.find("Even") == std::string::npos;
 }
 
 [[noreturn]] static void differ(const std::string &name, const char *what) {
@@ -82,25 +94,29 @@ static void same_words(const std::string &name, const Ours &p, const Ours &q) {
     if (in_c && p.words.cache != q.words.cache) differ(name, "other cache words: is group_of in plain.c and tuned.c the library's?");
 }
 
-// Stops unless all come to the same family in the same words; gives the nodes that the workload makes.
+// Stops unless all come to the same families in the same words; gives the nodes that the workload makes.
 template <class Prepare, class Work>
 static size_t check(const std::string &name, size_t capacity, size_t cache_words, Prepare prepare, Work work) {
     Words words(capacity, cache_words), others(capacity, cache_words);
     Ours p(here, words);
-    auto family = work(p, prepare(p));
+    auto families = work(p, prepare(p));
     for (size_t k = 1; k < libraries.size(); k++) {
+        if (!has_calls(*libraries[k], name)) continue;
         Ours q(*libraries[k], others);
-        auto other = work(q, prepare(q));
-        if (family != other || p.file(family) != q.file(other)) differ(name, "other families");
+        if (work(q, prepare(q)) != families) differ(name, "other handles");
+        for (auto family : families)
+            if (p.file(family) != q.file(family)) differ(name, "other families");
         same_words(name, p, q);
     }
     Cudd q(cudd_cache);
-    auto other = work(q, prepare(q));
-    if (p.size(family) != q.size(other) || p.parts(family) != q.parts(other)) differ(name, "CUDD has another family");
+    auto theirs = work(q, prepare(q));
+    for (size_t k = 0; k < families.size(); k++)
+        if (p.size(families[k]) != q.size(theirs[k]) || p.parts(families[k]) != q.parts(theirs[k]))
+            differ(name, "CUDD has another family");
     return p.store.count;
 }
 
-// One row: all packages in turn, this library and the C store on the same words.
+// One row: all packages in turn, this library and the C store on the same words. A library without the calls has no times.
 template <class Prepare, class Work>
 static Row timed(const char *name, size_t nodes, size_t capacity, size_t cache_words, Prepare prepare, Work work) {
     Words words(capacity, cache_words);
@@ -109,7 +125,8 @@ static Row timed(const char *name, size_t nodes, size_t capacity, size_t cache_w
         return seconds([&] { work(p, given); });
     };
     std::vector<std::function<double()>> runs;
-    for (const Library *library : libraries) runs.push_back([&, library] { return once(Ours(*library, words)); });
+    for (const Library *library : libraries)
+        runs.push_back([&, library] { return has_calls(*library, name) ? once(Ours(*library, words)) : no_time; });
     runs.push_back([&] { return once(Cudd(cudd_cache)); });
     return {name, nodes, rounds(runs)};
 }

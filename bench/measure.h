@@ -35,7 +35,10 @@ struct Times {
     double spread() const { return median() / least() - 1; }
 };
 
-// Rounds for a second, 20 at least and 100 at most: each run once in a round, another one first each time. A run gives its seconds.
+static const double no_time = -1;
+
+// Rounds for a second, 20 at least and 100 at most: each run once in a round, another one first each time. A run gives its seconds, or no
+// time.
 inline std::vector<Times> rounds(const std::vector<std::function<double()>> &runs) {
     std::vector<Times> times(runs.size());
     double spent = 0;
@@ -43,7 +46,8 @@ inline std::vector<Times> rounds(const std::vector<std::function<double()>> &run
         spent += seconds([&] {
             for (size_t k = 0; k < runs.size(); k++) {
                 size_t turn = (i + k) % runs.size();
-                times[turn].all.push_back(runs[turn]());
+                double time = runs[turn]();
+                if (time != no_time) times[turn].all.push_back(time);
             }
         });
     return times;
@@ -81,9 +85,12 @@ struct Table {
     }
     void add(const Row &row) {
         std::printf("| %s | %zu |", row.name.c_str(), row.units);
-        for (const Times &t : row.times) std::printf(" %.2f (%.0f %%) |", 1e3 * t.least(), 100 * t.spread());
+        for (const Times &t : row.times)
+            if (t.all.empty()) std::printf(" - |");
+            else std::printf(" %.2f (%.0f %%) |", 1e3 * t.least(), 100 * t.spread());
         std::printf(" %.2f | %.2f |", row.by_plain(), row.by_tuned());
-        if (libraries.size() > 3) std::printf(" %.2f |", row.ours() / row.times[3].least());
+        if (libraries.size() > 3 && row.times[3].all.empty()) std::printf(" - |");
+        else if (libraries.size() > 3) std::printf(" %.2f |", row.ours() / row.times[3].least());
         if (cudd) std::printf(" %.2f |\n", row.cudd_by_ours());
         else std::printf(" %.1f |\n", 1e9 * row.ours() / double(row.units));
         std::fflush(stdout);

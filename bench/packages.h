@@ -3,6 +3,7 @@
 #pragma once
 #include <cstdio>
 #include <cstdlib>
+#include <polybori/config.h> // the sizes by which CUDD lays out its nodes
 #include <polybori/cudd/cudd.h>
 #include <polybori/cudd/cuddInt.h>
 #include <unordered_map>
@@ -24,6 +25,7 @@ struct Library {
     decltype(&zdd_union) unite;
     decltype(&zdd_intsec) intersect;
     decltype(&zdd_diff) subtract;
+    decltype(&zdd_even) even, odd;
     decltype(&zdd_load) load;
     decltype(&zdd_audit) audit;
     decltype(&zdd_size) size;
@@ -33,13 +35,15 @@ struct Library {
 
 #define LIBRARY(name, p)                                                                                                            \
     Library {                                                                                                                       \
-        name, p##fresh, p##change, p##subset0, p##union, p##intsec, p##diff, p##load, p##audit, p##size, p##has, p##save            \
+        name, p##fresh, p##change, p##subset0, p##union, p##intsec, p##diff, p##even, p##odd, p##load, p##audit, p##size, p##has,   \
+            p##save                                                                                                                 \
     }
 #define DECLARE(p)                                                                                                                  \
     extern "C" {                                                                                                                    \
     decltype(zdd_fresh) p##fresh;                                                                                                   \
     decltype(zdd_change) p##change, p##subset0;                                                                                     \
     decltype(zdd_union) p##union, p##intsec, p##diff;                                                                               \
+    decltype(zdd_even) p##even, p##odd;                                                                                             \
     decltype(zdd_load) p##load;                                                                                                     \
     decltype(zdd_audit) p##audit;                                                                                                   \
     decltype(zdd_size) p##size;                                                                                                     \
@@ -48,7 +52,7 @@ struct Library {
     }
 
 // this tree's library, the stores in plain and in tuned C, and with BEFORE an earlier revision's library, whose names `bench/run`
-// gives a prefix; the plain store has Load, Audit and Size of the tuned one
+// gives a prefix, and which with UNPARTED has no Even and Odd; the plain store has Load, Audit and Size of the tuned one
 DECLARE(plain_)
 DECLARE(tuned_)
 #define plain_load tuned_load
@@ -57,6 +61,10 @@ DECLARE(tuned_)
 static const Library here = LIBRARY("this library", zdd_), plain = LIBRARY("C store", plain_), tuned = LIBRARY("tuned C", tuned_);
 #ifdef BEFORE
 DECLARE(before_zdd_)
+#ifdef UNPARTED
+#define before_zdd_even nullptr
+#define before_zdd_odd nullptr
+#endif
 static const Library before = LIBRARY("earlier", before_zdd_);
 static const std::vector<const Library *> libraries = {&here, &plain, &tuned, &before};
 #else
@@ -102,6 +110,8 @@ struct Ours {
     F unite(F p, F q) { return take("union", library.unite(LENT, p, q)); }
     F intersect(F p, F q) { return take("intsec", library.intersect(LENT, p, q)); }
     F subtract(F p, F q) { return take("diff", library.subtract(LENT, p, q)); }
+    F even(F p) { return take("even", library.even(LENT, p)); }
+    F odd(F p) { return take("odd", library.odd(LENT, p)); }
     F load(const std::vector<uint8_t> &file, std::vector<uint32_t> &scratch) {
         return take("load", library.load(LENT, file.data(), file.size(), scratch.data(), scratch.size()));
     }
@@ -137,6 +147,27 @@ struct Ours {
     }
 };
 
+// Even or Odd on CUDD's diagrams, which have neither: a recursion in the manner of its own ones, with its cache.
+template <bool even> DdNode *cudd_part(pbori_DdManager *m, DdNode *p) {
+    if (p == DD_ZERO(m) || p == DD_ONE(m)) return even ? p : DD_ZERO(m);
+    if (DdNode *known = pbori_cuddCacheLookup1Zdd(m, cudd_part<even>, p)) return known;
+    DdNode *zero = cudd_part<even>(m, cuddE(p));
+    if (!zero) return nullptr;
+    cuddRef(zero);
+    DdNode *one = cudd_part<!even>(m, cuddT(p));
+    if (one) cuddRef(one);
+    DdNode *made = one ? pbori_cuddZddGetNode(m, p->index, one, zero) : nullptr;
+    if (!made) {
+        pbori_Cudd_RecursiveDerefZdd(m, zero);
+        if (one) pbori_Cudd_RecursiveDerefZdd(m, one);
+        return nullptr;
+    }
+    cuddDeref(zero);
+    cuddDeref(one);
+    pbori_cuddCacheInsert1(m, cudd_part<even>, p, made);
+    return made;
+}
+
 struct Cudd {
     using F = DdNode *;
     pbori_DdManager *m;
@@ -156,6 +187,8 @@ struct Cudd {
     F unite(F p, F q) { return keep(pbori_Cudd_zddUnion(m, p, q)); }
     F intersect(F p, F q) { return keep(pbori_Cudd_zddIntersect(m, p, q)); }
     F subtract(F p, F q) { return keep(pbori_Cudd_zddDiff(m, p, q)); }
+    F even(F p) { return keep(cudd_part<true>(m, p)); }
+    F odd(F p) { return keep(cudd_part<false>(m, p)); }
     // members and parts by a walk over the nodes
     uint64_t count(F p, std::unordered_map<F, uint64_t> &seen) {
         if (p == empty()) return 0;

@@ -8,10 +8,11 @@
 __typeof__(zdd_fresh) plain_fresh;
 __typeof__(zdd_change) plain_change, plain_subset0;
 __typeof__(zdd_union) plain_union, plain_intsec, plain_diff;
+__typeof__(zdd_even) plain_even, plain_odd;
 __typeof__(zdd_has) plain_has;
 __typeof__(zdd_save) plain_save;
 
-enum { SUBSET1 = 1, SUBSET0, CHANGE, UNION, INTSEC, DIFF };
+enum { SUBSET1 = 1, SUBSET0, CHANGE, UNION, INTSEC, DIFF, EVEN, ODD };
 
 /* in place of a handle: no room for a node, and words that no sound store has */
 #define FULL (UINT32_MAX - 1)
@@ -213,6 +214,50 @@ static uint32_t expand_families(call c, uint32_t bound, WORDS) {
     return made;
 }
 
+/* ---- Even and Odd ---- */
+
+static uint32_t expand_even(uint32_t p, uint32_t level, WORDS);
+static uint32_t expand_odd(uint32_t p, uint32_t level, WORDS);
+
+/* The level is the top of p: {} and {{}} are their own even part, and have no odd one. */
+static uint32_t even_part(uint32_t p, uint32_t level, WORDS) { return level == 0 ? p : expand_even(p, level, HAND_ON); }
+
+static uint32_t odd_part(uint32_t p, uint32_t level, WORDS) { return level == 0 ? 0 : expand_odd(p, level, HAND_ON); }
+
+/* The top is an item: the cache, else the even part of the without-side, the odd part of the with-side, and their node. */
+static uint32_t expand_even(uint32_t p, uint32_t level, WORDS) {
+    call c = {EVEN, p, 0};
+    size_t group = group_of(c, cache);
+    uint32_t known = recall(cache, group, *count, c);
+    if (known < FULL) return known;
+    sides s = sides_at(nodes, *count, p, level);
+    if (s.broken) return DAMAGED;
+    uint32_t zero = even_part(s.zero, s.ztop, HAND_ON);
+    if (FULL <= zero) return zero;
+    uint32_t one = odd_part(s.one, s.otop, HAND_ON);
+    if (FULL <= one) return one;
+    uint32_t made = node_of(capacity, count, nodes, lookup, level, zero, one);
+    keep(cache, group, c, made);
+    return made;
+}
+
+/* The same with the two parts swapped. */
+static uint32_t expand_odd(uint32_t p, uint32_t level, WORDS) {
+    call c = {ODD, p, 0};
+    size_t group = group_of(c, cache);
+    uint32_t known = recall(cache, group, *count, c);
+    if (known < FULL) return known;
+    sides s = sides_at(nodes, *count, p, level);
+    if (s.broken) return DAMAGED;
+    uint32_t zero = odd_part(s.zero, s.ztop, HAND_ON);
+    if (FULL <= zero) return zero;
+    uint32_t one = even_part(s.one, s.otop, HAND_ON);
+    if (FULL <= one) return one;
+    uint32_t made = node_of(capacity, count, nodes, lookup, level, zero, one);
+    keep(cache, group, c, made);
+    return made;
+}
+
 /* ---- the calls that place a family ---- */
 
 #define STORE zdd_store s, uint32_t *nodes_at, size_t node_words, uint32_t *lookup_at, size_t lookup_words
@@ -258,6 +303,17 @@ static zdd_placed family_call(uint32_t op, STORE, CACHE, uint32_t p, uint32_t q)
     return finish(s, held, result, nodes, lookup, cache);
 }
 
+static zdd_placed parity_call(bool even, STORE, CACHE, uint32_t p) {
+    if (!fits(s, node_words, lookup_words)) return refused(s, ZDD_DAMAGED);
+    if (!holds(s, p)) return refused(s, ZDD_HANDLE);
+    LENT;
+    uint32_t held = s.count, level = top_of(nodes, p), result;
+    if (s.limit < level) return refused(s, ZDD_DAMAGED);
+    if (even) result = even_part(p, level, s.capacity, &held, nodes, lookup, cache);
+    else result = odd_part(p, level, s.capacity, &held, nodes, lookup, cache);
+    return finish(s, held, result, nodes, lookup, cache);
+}
+
 #define CALL(name, kind, op)                                                                             \
     zdd_placed name(STORE, CACHE, uint32_t p, uint32_t q) {                                              \
         return kind(op, s, nodes_at, node_words, lookup_at, lookup_words, cache_at, cache_words, p, q); \
@@ -267,6 +323,14 @@ CALL(plain_change, item_call, CHANGE)
 CALL(plain_union, family_call, UNION)
 CALL(plain_intsec, family_call, INTSEC)
 CALL(plain_diff, family_call, DIFF)
+
+zdd_placed plain_even(STORE, CACHE, uint32_t p) {
+    return parity_call(true, s, nodes_at, node_words, lookup_at, lookup_words, cache_at, cache_words, p);
+}
+
+zdd_placed plain_odd(STORE, CACHE, uint32_t p) {
+    return parity_call(false, s, nodes_at, node_words, lookup_at, lookup_words, cache_at, cache_words, p);
+}
 
 zdd_freshened plain_fresh(uint32_t *nodes, size_t node_words, uint32_t *lookup, size_t lookup_words, CACHE, uint32_t limit) {
     uint32_t capacity = capacity_of(node_words);

@@ -10,13 +10,14 @@
 __typeof__(zdd_fresh) tuned_fresh;
 __typeof__(zdd_change) tuned_change, tuned_subset0;
 __typeof__(zdd_union) tuned_union, tuned_intsec, tuned_diff;
+__typeof__(zdd_even) tuned_even, tuned_odd;
 __typeof__(zdd_size) tuned_size;
 __typeof__(zdd_has) tuned_has;
 __typeof__(zdd_save) tuned_save;
 __typeof__(zdd_load) tuned_load;
 __typeof__(zdd_audit) tuned_audit;
 
-enum { SUBSET0 = 2, CHANGE, UNION, INTSEC, DIFF };
+enum { SUBSET0 = 2, CHANGE, UNION, INTSEC, DIFF, EVEN, ODD };
 
 /* in place of a handle: no room for a node */
 #define NO_ROOM UINT32_MAX
@@ -160,6 +161,27 @@ static uint32_t family_step(context *c, uint32_t op, uint32_t p, uint32_t q) {
     return made == NO_ROOM ? NO_ROOM : remember(group, op, p, q, made);
 }
 
+static uint32_t parity_step(context *c, uint32_t op, uint32_t p);
+
+/* Even and Odd: {} and {{}} are their own even part, and have no odd one. */
+static inline uint32_t of_parity(context *c, uint32_t op, uint32_t p) {
+    if (p < 2) return op == EVEN ? p : 0;
+    return parity_step(c, op, p);
+}
+
+/* The same part of the without-side, the other one of the with-side. */
+static uint32_t parity_step(context *c, uint32_t op, uint32_t p) {
+    uint32_t *group = group_of(c, op, p, 0);
+    if (recalls(group, op, p, 0)) return group[3];
+    const uint32_t *node = node_at(c, p);
+    uint32_t zero = of_parity(c, op, node[1]);
+    if (zero == NO_ROOM) return NO_ROOM;
+    uint32_t one = of_parity(c, EVEN + ODD - op, node[2]);
+    if (one == NO_ROOM) return NO_ROOM;
+    uint32_t made = get_node(c, node[0], zero, one);
+    return made == NO_ROOM ? NO_ROOM : remember(group, op, p, 0, made);
+}
+
 /* ---- the calls that place a family ---- */
 
 #define STORE zdd_store s, uint32_t *nodes, size_t node_words, uint32_t *lookup, size_t lookup_words
@@ -196,6 +218,14 @@ static inline zdd_placed family_call(uint32_t op, STORE, CACHE, uint32_t p, uint
     return placed(&c, s, of_families(&c, op, p, q), cache, cache_words);
 }
 
+static inline zdd_placed parity_call(uint32_t op, STORE, CACHE, uint32_t p) {
+    if (!fits(s, node_words, lookup_words)) return refused(s, ZDD_DAMAGED);
+    if (!holds(s, p)) return refused(s, ZDD_HANDLE);
+    context c;
+    open_store(&c, s, nodes, lookup, lookup_words, cache, cache_words);
+    return placed(&c, s, of_parity(&c, op, p), cache, cache_words);
+}
+
 #define CALL(name, call, op)                                                                  \
     zdd_placed name(STORE, CACHE, uint32_t p, uint32_t q) {                                   \
         return call(op, s, nodes, node_words, lookup, lookup_words, cache, cache_words, p, q); \
@@ -205,6 +235,14 @@ CALL(tuned_change, item_call, CHANGE)
 CALL(tuned_union, family_call, UNION)
 CALL(tuned_intsec, family_call, INTSEC)
 CALL(tuned_diff, family_call, DIFF)
+
+zdd_placed tuned_even(STORE, CACHE, uint32_t p) {
+    return parity_call(EVEN, s, nodes, node_words, lookup, lookup_words, cache, cache_words, p);
+}
+
+zdd_placed tuned_odd(STORE, CACHE, uint32_t p) {
+    return parity_call(ODD, s, nodes, node_words, lookup, lookup_words, cache, cache_words, p);
+}
 
 zdd_freshened tuned_fresh(uint32_t *nodes, size_t node_words, uint32_t *lookup, size_t lookup_words, CACHE, uint32_t limit) {
     uint32_t capacity = capacity_of(node_words);

@@ -1,5 +1,5 @@
 // The workloads, each written once for any package of diagrams: a package P has a type F of families and
-// empty, base, change, unite, intersect, subtract, lacking (Subset0).
+// empty, base, change, unite, intersect, subtract, lacking (Subset0), even, odd.
 #pragma once
 #include <cstdint>
 #include <vector>

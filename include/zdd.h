@@ -169,6 +169,20 @@ zdd_placed zdd_intsec(zdd_store store, uint32_t *nodes, size_t node_words, uint3
 zdd_placed zdd_diff(zdd_store store, uint32_t *nodes, size_t node_words, uint32_t *lookup, size_t lookup_words,
                     uint32_t *cache, size_t cache_words, uint32_t p, uint32_t q);
 
+/* Even: the members of p with an even number of items; the empty combination is even.
+ * Needs: p at most count + 1.
+ * Leaves: the family placed, as for Subset1. Even and Odd of p share no member, and their union has the handle p.
+ * Refusals: 10, 4, 5. */
+zdd_placed zdd_even(zdd_store store, uint32_t *nodes, size_t node_words, uint32_t *lookup, size_t lookup_words,
+                    uint32_t *cache, size_t cache_words, uint32_t p);
+
+/* Odd: the members of p with an odd number of items.
+ * Needs: p at most count + 1.
+ * Leaves: the family placed, as for Subset1.
+ * Refusals: 10, 4, 5. */
+zdd_placed zdd_odd(zdd_store store, uint32_t *nodes, size_t node_words, uint32_t *lookup, size_t lookup_words,
+                   uint32_t *cache, size_t cache_words, uint32_t p);
+
 /* Size: the number of members of p.
  * Needs: p at most count + 1; scratch_words at least store.count, words of 64 bits.
  * Leaves: scratch[j] has the size of node j + 2, or 18,446,744,073,709,551,615 if that is smaller, for each node held,

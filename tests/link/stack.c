@@ -27,8 +27,8 @@ static void stop(const char *what, uint32_t number) {
 /* ---- the families ---- */
 
 /* All subsets of the items 1 to 512; all but the empty one; all of one item. In the damaged store: p leads to a node of
- * the item 0, q does not. */
-static uint32_t subsets, filled, singles, p, q;
+ * the item 0, q does not, and cut leads to a child that is not held. */
+static uint32_t subsets, filled, singles, p, q, cut;
 
 static uint32_t placed(zdd_placed r) {
     if (r.refusal) stop("a family was refused", r.refusal);
@@ -59,8 +59,9 @@ static uint32_t append(uint32_t item, uint32_t zero, uint32_t one) {
 
 static void build_damaged(void) {
     store = freshened().store;
-    p = append(0, 0, 1), q = 1;
-    for (uint32_t item = 1; item <= ZDD_LARGEST_ITEM; item++) p = append(item, p, 1), q = append(item, q, 1);
+    p = append(0, 0, 1), q = 1, cut = UINT32_MAX;
+    for (uint32_t item = 1; item <= ZDD_LARGEST_ITEM; item++)
+        p = append(item, p, 1), q = append(item, q, 1), cut = append(item, cut, 1);
 }
 
 /* ---- the calls: each gives its refusal ---- */
@@ -76,6 +77,10 @@ static uint32_t intsec(void) { return zdd_intsec(LENT, subsets, filled).refusal;
 static uint32_t intsec_damaged(void) { return zdd_intsec(LENT, p, q).refusal; }
 static uint32_t diff(void) { return zdd_diff(LENT, subsets, singles).refusal; }
 static uint32_t diff_damaged(void) { return zdd_diff(LENT, p, q).refusal; }
+static uint32_t even(void) { return zdd_even(LENT, subsets).refusal; }
+static uint32_t even_damaged(void) { return zdd_even(LENT, cut).refusal; }
+static uint32_t odd(void) { return zdd_odd(LENT, subsets).refusal; }
+static uint32_t odd_damaged(void) { return zdd_odd(LENT, cut).refusal; }
 static uint32_t size(void) { return zdd_size(READ, singles, sizes, CAPACITY).refusal; }
 static uint32_t has(void) { return zdd_has(READ, subsets, (zdd_combination){{0}}).refusal; }
 static uint32_t save(void) { return zdd_save(READ, subsets, scratch, CAPACITY, output, sizeof output).refusal; }
@@ -99,6 +104,10 @@ static const struct job {
     {"Change", change, build, 0},
     {"Subset1", subset1, build, 0},
     {"Subset0", subset0, build, 0},
+    {"Even", even, build, 0},
+    {"Even, damaged words", even_damaged, build_damaged, ZDD_DAMAGED},
+    {"Odd", odd, build, 0},
+    {"Odd, damaged words", odd_damaged, build_damaged, ZDD_DAMAGED},
     {"Save", save, build, 0},
     {"Save, damaged words", save_damaged, build_damaged, ZDD_DAMAGED},
     {"Load", load, build, 0},

@@ -86,6 +86,31 @@ pub fn diff(store: Record, words: Words<'_>, p: u32, q: u32) -> Placed {
     operation(raw::zdd_diff, store, words, p, q)
 }
 
+fn parity(call: raw::Parity, store: Record, w: Words<'_>, p: u32) -> Placed {
+    unsafe {
+        call(
+            store,
+            w.nodes.as_mut_ptr(),
+            w.nodes.len(),
+            w.lookup.as_mut_ptr(),
+            w.lookup.len(),
+            w.cache.as_mut_ptr(),
+            w.cache.len(),
+            p,
+        )
+    }
+}
+
+/// The members of p with an even number of items; the empty combination is even.
+pub fn even(store: Record, words: Words<'_>, p: u32) -> Placed {
+    parity(raw::zdd_even, store, words, p)
+}
+
+/// The members of p with an odd number of items.
+pub fn odd(store: Record, words: Words<'_>, p: u32) -> Placed {
+    parity(raw::zdd_odd, store, words, p)
+}
+
 /// The number of members of p; the scratch then holds the size of every node held.
 pub fn size(store: Record, nodes: &[u32], lookup: &[u32], p: u32, scratch: &mut [u64]) -> Measured {
     unsafe {

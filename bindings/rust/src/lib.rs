@@ -14,6 +14,7 @@
 //! assert_eq!((store.size(both)?, store.added(), store.record().count), (2, 1, 3));
 //! assert!(store.has(both, Combination::of([512])?)?);
 //! assert_eq!(store.change(both, 513), Err(Refusal::Item));
+//! assert_eq!((store.even(both)?, store.odd(both)?), (Store::EMPTY, both));
 //!
 //! let mut pocket = Store::new(100, 64, 64)?;
 //! assert_eq!(pocket.load(&store.save(one)?)?, pocket.change(Store::BASE, 1)?);

@@ -72,12 +72,24 @@ extern "C" {
 pub type Operation =
     unsafe extern "C" fn(Record, *mut u32, usize, *mut u32, usize, *mut u32, usize, u32, u32) -> Placed;
 
+/// The shape of Even and Odd: the record, the words and a family.
+pub type Parity = unsafe extern "C" fn(Record, *mut u32, usize, *mut u32, usize, *mut u32, usize, u32) -> Placed;
+
 macro_rules! operations {
-    ($($name:ident)*) => {
+    ($($name:ident($($operand:ident),*))*) => {
         extern "C" {
-            $(pub fn $name(store: Record, nodes: *mut u32, node_words: usize, lookup: *mut u32, lookup_words: usize, cache: *mut u32, cache_words: usize, p: u32, q: u32) -> Placed;)*
+            $(pub fn $name(store: Record, nodes: *mut u32, node_words: usize, lookup: *mut u32, lookup_words: usize, cache: *mut u32, cache_words: usize, $($operand: u32),*) -> Placed;)*
         }
     };
 }
 
-operations! { zdd_subset1 zdd_subset0 zdd_change zdd_union zdd_intsec zdd_diff }
+operations! {
+    zdd_subset1(p, item)
+    zdd_subset0(p, item)
+    zdd_change(p, item)
+    zdd_union(p, q)
+    zdd_intsec(p, q)
+    zdd_diff(p, q)
+    zdd_even(p)
+    zdd_odd(p)
+}

@@ -93,6 +93,16 @@ impl Store {
         self.placing(|record, words| calls::diff(record, words, p, q))
     }
 
+    /// The members of p with an even number of items; the empty combination is even. Refusals: Handle, Full.
+    pub fn even(&mut self, p: u32) -> Result<u32, Refusal> {
+        self.placing(|record, words| calls::even(record, words, p))
+    }
+
+    /// The members of p with an odd number of items. Refusals: Handle, Full.
+    pub fn odd(&mut self, p: u32) -> Result<u32, Refusal> {
+        self.placing(|record, words| calls::odd(record, words, p))
+    }
+
     /// The number of members of p. Refusals: Handle, Large.
     pub fn size(&self, p: u32) -> Result<u64, Refusal> {
         let mut scratch = vec![0; self.record.count as usize];

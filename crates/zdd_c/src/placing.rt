@@ -1,5 +1,7 @@
-// The six operations.
+// The six operations, Even and Odd.
+ghost use mathlib.Core.Bool.{true, false};
 ghost use Rattle.op_promise.specs.Promise.{OperationCall};
+ghost use Rattle.op_parity.specs.Promise.{ParityCall};
 ghost use Rattle.c_records.specs.Promise.{placedOf};
 ghost use Rattle.zdd_c.specs.Promise.{Exported};
 use c_records::CPlaced;
@@ -10,6 +12,8 @@ use op_families::calls::union;
 use op_items::calls::change;
 use op_items::calls::subset0;
 use op_items::calls::subset1;
+use op_parity::calls::even;
+use op_parity::calls::odd;
 use store::record::Store;
 
 // The members of p with the item, the item taken out.
@@ -100,4 +104,32 @@ pub extern "C" fn zdd_diff(
     ensures { λ r. ⌜ Exported placedOf (λ b. OperationCall 6 p q store (now (nodes .entry)) (now (lookup .entry)) (now (cache .entry)) b (now (nodes .exit)) (now (lookup .exit)) (now (cache .exit))) r ⌝ }
 {
     placed(diff(store, nodes, lookup, cache, p, q))
+}
+
+// The members of p with an even number of items.
+#[no_mangle]
+pub extern "C" fn zdd_even(
+    store: Store,
+    nodes: &mut [u32],
+    lookup: &mut [u32],
+    cache: &mut [u32],
+    p: u32,
+) -> CPlaced
+    ensures { λ r. ⌜ Exported placedOf (λ b. ParityCall true p store (now (nodes .entry)) (now (lookup .entry)) (now (cache .entry)) b (now (nodes .exit)) (now (lookup .exit)) (now (cache .exit))) r ⌝ }
+{
+    placed(even(store, nodes, lookup, cache, p))
+}
+
+// The members of p with an odd number of items.
+#[no_mangle]
+pub extern "C" fn zdd_odd(
+    store: Store,
+    nodes: &mut [u32],
+    lookup: &mut [u32],
+    cache: &mut [u32],
+    p: u32,
+) -> CPlaced
+    ensures { λ r. ⌜ Exported placedOf (λ b. ParityCall false p store (now (nodes .entry)) (now (lookup .entry)) (now (cache .entry)) b (now (nodes .exit)) (now (lookup .exit)) (now (cache .exit))) r ⌝ }
+{
+    placed(odd(store, nodes, lookup, cache, p))
 }

@@ -10,16 +10,17 @@ use crate::random::{limit_of, Random};
 use crate::shelf::Shelf;
 use crate::tally::Tally;
 
-const CACHE: usize = 64;
+/// The cache words that these calls are lent.
+pub const CACHE: usize = 64;
 
-// Any family of these items: of few members, or of most combinations.
-fn some_family(rng: &mut Random, pool: &[u32]) -> Family {
+/// Any family of these items: of few members, or of most combinations.
+pub fn some_family(rng: &mut Random, pool: &[u32]) -> Family {
     let members = 1 + rng.below(2 << pool.len());
     any_family(rng, pool, members)
 }
 
-// Loads a family; gives its handle and the number of its different parts.
-fn load(rng: &mut Random, shelf: &mut Shelf, book: &mut Book, f: &Family, tally: &mut Tally) -> (u32, u32) {
+/// Loads a family; gives its handle and the number of its different parts.
+pub fn load(rng: &mut Random, shelf: &mut Shelf, book: &mut Book, f: &Family, tally: &mut Tally) -> (u32, u32) {
     let file = file_of(f);
     let scratch = 6 * file.len();
     compare(shelf, book, &Call::Load { file, scratch }, CACHE, rng, tally);

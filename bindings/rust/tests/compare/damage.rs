@@ -123,8 +123,15 @@ fn stores(seed: u64, stores: usize, make: fn(&mut Random, u32, &[u32]) -> Shelf)
 }
 
 // A 10 of each kind of call.
-const CERTAIN: &[(&str, &[u32])] =
-    &[("Change", &[10]), ("Union", &[10]), ("Has", &[10]), ("Size", &[10]), ("Save", &[10]), ("Load", &[10])];
+const CERTAIN: &[(&str, &[u32])] = &[
+    ("Change", &[10]),
+    ("Union", &[10]),
+    ("Even", &[10]),
+    ("Has", &[10]),
+    ("Size", &[10]),
+    ("Save", &[10]),
+    ("Load", &[10]),
+];
 
 #[test]
 fn stores_with_faults() {
@@ -138,7 +145,7 @@ fn stores_with_faults() {
     tallies.unsound.close(
         "unsound stores without a certain 10",
         50,
-        &[("Union", &[0, 4]), ("Change", &[0]), ("Has", &[0]), ("Save", &[0])],
+        &[("Union", &[0, 4]), ("Change", &[0]), ("Even", &[0]), ("Odd", &[0]), ("Has", &[0]), ("Save", &[0])],
     );
     tallies.sound.close("stores that the faults left sound", 50, &[("Union", &[0]), ("Save", &[0]), ("Load", &[0])]);
 }
@@ -151,7 +158,11 @@ fn made_up_stores() {
         tallies.audit_yes, tallies.audit_no
     );
     assert!(tallies.audit_yes > 1000 && tallies.audit_no > 5000 && tallies.grown > 1000);
-    tallies.unsound.close("made-up unsound stores", 50, &[("Union", &[0, 10]), ("Change", &[0])]);
+    tallies.unsound.close(
+        "made-up unsound stores",
+        50,
+        &[("Union", &[0, 10]), ("Change", &[0]), ("Even", &[0, 10]), ("Odd", &[0, 10])],
+    );
     tallies.sound.close("made-up sound stores", 50, &[("Union", &[0]), ("Save", &[0]), ("Load", &[0])]);
 }
 

@@ -1,5 +1,6 @@
 //! Random lists of calls from Fresh: short and long, on small and larger stores.
 use crate::observe::compare;
+use crate::parity::parted;
 use crate::plain::book::Book;
 use crate::plain::call::Call;
 use crate::plain::file::file_of;
@@ -36,16 +37,17 @@ pub fn any_call(rng: &mut Random, book: &Book, makings: &Makings) -> Call {
     let count = book.count();
     let held = count as usize;
     let (p, q) = (handle(rng, count), handle(rng, count));
-    match rng.below(16) {
+    match rng.below(18) {
         0..=4 => Call::Operation { op: rng.pick(&[1, 2, 3, 3, 3]), p, q: item(rng, makings) },
         5..=9 => Call::Operation { op: rng.pick(&[4, 4, 4, 5, 6]), p, q },
-        10 => Call::Size { p, scratch: rng.about(held) },
-        11 => Call::Has { p, combination: asked(rng, book, p, makings) },
-        12..=13 => {
+        10..=11 => Call::Operation { op: rng.pick(&[7, 8]), p, q: 0 },
+        12 => Call::Size { p, scratch: rng.about(held) },
+        13 => Call::Has { p, combination: asked(rng, book, p, makings) },
+        14..=15 => {
             let length = book.at(p).map_or(5, |f| file_of(f).len());
             Call::Save { p, scratch: if rng.once_in(4) { rng.about(held) } else { held + 2 }, out: rng.about(length) }
         }
-        14 => {
+        16 => {
             let file = rng.pick(&makings.files);
             let scratch = if rng.once_in(4) { rng.about(6 * file.len()) } else { 6 * file.len() + rng.below(7) };
             Call::Load { file, scratch }
@@ -72,8 +74,8 @@ fn asked(rng: &mut Random, book: &Book, p: u32, makings: &Makings) -> std::colle
     c
 }
 
-// A list of so many calls on a new store, whose added numbers sum to the count; files saved on the way, whole or damaged, are
-// loaded later, in other lists too.
+// A list of so many calls on a new store, whose added numbers sum to the count; where it has Even or Odd of a family, both
+// parts are held to their laws. Files saved on the way, whole or damaged, are loaded later, in other lists too.
 fn list(rng: &mut Random, capacity: usize, calls: usize, makings: &mut Makings, tally: &mut Tally) {
     let lookup = capacity + 1 + rng.below(2 * capacity);
     let cache = rng.pick(&[0, 3, 4, 16, 67, 256]);
@@ -86,6 +88,9 @@ fn list(rng: &mut Random, capacity: usize, calls: usize, makings: &mut Makings, 
         let lent = if rng.once_in(3) { rng.below(cache + 1) } else { cache };
         added += compare(&mut shelf, &mut book, &call, lent, rng, tally);
         assert_eq!(added, shelf.record.count, "the sum of the added numbers after {call:?}");
+        if let Call::Operation { op: 7..=8, p, .. } = call {
+            parted(rng, &shelf, p, lent);
+        }
         let handle = rng.below(book.count() as usize + 2) as u32;
         if rng.once_in(12) {
             let file = file_of(book.at(handle).expect("held"));
@@ -128,6 +133,13 @@ fn stores_of_one_to_three_nodes() {
     lists(3, 1500, 3, 60, 3).close(
         "stores of one to three nodes",
         5,
-        &[("Change", &[0, 3, 4, 5]), ("Subset1", &[0, 5]), ("Union", &[0, 4, 5]), ("Load", &[0, 5, 9, 13])],
+        &[
+            ("Change", &[0, 3, 4, 5]),
+            ("Subset1", &[0, 5]),
+            ("Union", &[0, 4, 5]),
+            ("Even", &[0, 4]),
+            ("Odd", &[0, 4]),
+            ("Load", &[0, 5, 9, 13]),
+        ],
     );
 }

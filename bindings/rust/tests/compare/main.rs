@@ -9,6 +9,7 @@ mod large;
 mod lists;
 mod observe;
 mod owned;
+mod parity;
 mod plain;
 mod random;
 mod shelf;

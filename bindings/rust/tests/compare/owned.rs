@@ -17,7 +17,9 @@ fn call(store: &mut Store, call: &Call) -> Result<Answer, Refusal> {
         Call::Operation { op: 3, p, q } => answer.handle = store.change(*p, *q)?,
         Call::Operation { op: 4, p, q } => answer.handle = store.union(*p, *q)?,
         Call::Operation { op: 5, p, q } => answer.handle = store.intsec(*p, *q)?,
-        Call::Operation { p, q, .. } => answer.handle = store.diff(*p, *q)?,
+        Call::Operation { op: 6, p, q } => answer.handle = store.diff(*p, *q)?,
+        Call::Operation { op: 7, p, .. } => answer.handle = store.even(*p)?,
+        Call::Operation { p, .. } => answer.handle = store.odd(*p)?,
         Call::Size { p, .. } => answer.size = store.size(*p)?,
         Call::Has { p, combination } => answer.yes = store.has(*p, record_of(combination))?,
         Call::Save { p, .. } => answer.file = store.save(*p)?,
@@ -72,7 +74,14 @@ fn lists_on_an_owned_store() {
     tally.close(
         "lists on an owned store",
         10,
-        &[("Union", &[0, 4, 5]), ("Change", &[0, 3, 4, 5]), ("Load", &[0, 9, 13]), ("Save", &[0, 4])],
+        &[
+            ("Union", &[0, 4, 5]),
+            ("Change", &[0, 3, 4, 5]),
+            ("Even", &[0, 4]),
+            ("Odd", &[0, 4]),
+            ("Load", &[0, 9, 13]),
+            ("Save", &[0, 4]),
+        ],
     );
 }
 

@@ -65,7 +65,9 @@ impl Shelf {
             3 => calls::change(record, words, p, q),
             4 => calls::union(record, words, p, q),
             5 => calls::intsec(record, words, p, q),
-            _ => calls::diff(record, words, p, q),
+            6 => calls::diff(record, words, p, q),
+            7 => calls::even(record, words, p),
+            _ => calls::odd(record, words, p),
         }
     }
 

@@ -36,9 +36,13 @@ fn any_cache(rng: &mut Random, book: &Book, pool: &[u32], len: usize) -> Vec<u32
     let mut cache = rng.junk(len);
     for group in cache.chunks_exact_mut(4) {
         group.fill(0);
-        let op = 1 + rng.below(6) as u32;
+        let op = 1 + rng.below(8) as u32;
         let p = rng.below(book.count() as usize + 2) as u32;
-        let q = if op < 4 { rng.pick(pool) } else { rng.below(book.count() as usize + 2) as u32 };
+        let q = match op {
+            1..=3 => rng.pick(pool),
+            4..=6 => rng.below(book.count() as usize + 2) as u32,
+            _ => 0,
+        };
         let (first, second) = (book.at(p).expect("held"), book.at(q).cloned().unwrap_or_default());
         if let Some(result) = book.number(&named(op, first, q, &second)) {
             group.copy_from_slice(&[op, p, q, result]);

@@ -24,6 +24,8 @@ fn deep() -> Result<(), Refusal> {
     assert_eq!(store.intsec(filled, Store::BASE)?, Store::EMPTY);
     let changed = store.change(subsets, 1)?;
     assert_eq!(changed, subsets);
+    let (even, odd) = (store.even(subsets)?, store.odd(subsets)?);
+    assert_eq!(store.union(even, odd)?, subsets);
     let file = store.save(subsets)?;
     assert_eq!(store.load(&file)?, subsets);
     Ok(())

@@ -10,7 +10,8 @@ pub struct Opening {
     pub limit: u32,
 }
 
-/// A call with its arguments; scratch and output by their lengths.
+/// A call with its arguments; scratch and output by their lengths. An operation is as in the cache, by its number: q is an
+/// item or a handle, and 0 for Even and Odd, which do not take it.
 #[derive(Clone, Debug)]
 pub enum Call {
     Operation { op: u32, p: u32, q: u32 },
@@ -33,6 +34,9 @@ pub struct Answer {
     pub file: Vec<u8>,
 }
 
+// The operations by their numbers.
+const NAMES: [&str; 9] = ["", "Subset1", "Subset0", "Change", "Union", "Intsec", "Diff", "Even", "Odd"];
+
 fn refused(refusal: u32) -> Answer {
     Answer { refusal, ..Answer::default() }
 }
@@ -41,7 +45,7 @@ impl Call {
     /// The name, for the tally.
     pub fn name(&self) -> &'static str {
         match self {
-            Call::Operation { op, .. } => ["", "Subset1", "Subset0", "Change", "Union", "Intsec", "Diff"][*op as usize],
+            Call::Operation { op, .. } => NAMES[*op as usize],
             Call::Size { .. } => "Size",
             Call::Has { .. } => "Has",
             Call::Save { .. } => "Save",
@@ -83,14 +87,11 @@ impl Book {
 
     fn operation(&mut self, opening: Opening, op: u32, p: u32, q: u32) -> Answer {
         let Some(first) = self.at(p) else { return refused(4) };
-        let f = if op < 4 {
-            if q == 0 || q > opening.limit {
-                return refused(3);
-            }
-            named(op, first, q, &Family::new())
-        } else {
-            let Some(second) = self.at(q) else { return refused(4) };
-            named(op, first, 0, second)
+        let f = match (op, self.at(q)) {
+            (1..=3, _) if q == 0 || q > opening.limit => return refused(3),
+            (4..=6, None) => return refused(4),
+            (4..=6, Some(second)) => named(op, first, 0, second),
+            _ => named(op, first, q, &Family::new()),
         };
         self.placed(opening.capacity, &f)
     }

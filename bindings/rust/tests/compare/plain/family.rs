@@ -1,4 +1,4 @@
-//! 'Families and their parts', and the six operations of 'Calls'.
+//! 'Families and their parts', the six operations of 'Calls', Even and Odd.
 use std::collections::BTreeSet;
 
 /// A set of items.
@@ -49,7 +49,13 @@ pub fn joined(item: u32, zero: &Family, one: &Family) -> Family {
     zero.iter().cloned().chain(one.iter().map(|c| with(c, item))).collect()
 }
 
-/// The family that an operation names: 1 Subset1, 2 Subset0, 3 Change with an item; 4 Union, 5 Intsec, 6 Diff.
+/// Members with an even number of items, or with an odd one.
+pub fn of_parity(even: bool, f: &Family) -> Family {
+    f.iter().filter(|c| (c.len() % 2 == 0) == even).cloned().collect()
+}
+
+/// The family that an operation names: 1 Subset1, 2 Subset0, 3 Change with an item; 4 Union, 5 Intsec, 6 Diff with a
+/// second family; 7 Even, 8 Odd.
 pub fn named(op: u32, p: &Family, item: u32, q: &Family) -> Family {
     match op {
         1 => subset1(p, item),
@@ -57,7 +63,8 @@ pub fn named(op: u32, p: &Family, item: u32, q: &Family) -> Family {
         3 => change(p, item),
         4 => p.union(q).cloned().collect(),
         5 => p.intersection(q).cloned().collect(),
-        _ => p.difference(q).cloned().collect(),
+        6 => p.difference(q).cloned().collect(),
+        _ => of_parity(op == 7, p),
     }
 }
 

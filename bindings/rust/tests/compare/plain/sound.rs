@@ -55,6 +55,7 @@ fn group_is_true(book: &Book, limit: u32, group: &[u32]) -> bool {
     match op {
         1..=3 => (1..=limit).contains(&q) && *given == named(op, first, q, &Family::new()),
         4..=6 => book.at(q).is_some_and(|second| *given == named(op, first, 0, second)),
+        7..=8 => q == 0 && *given == named(op, first, 0, &Family::new()),
         _ => false,
     }
 }
