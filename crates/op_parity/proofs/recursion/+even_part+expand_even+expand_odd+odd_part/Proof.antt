@@ -5,12 +5,9 @@
 use Prim.Native.Nat.{ℕ, _+_, _*_, _<_}
 use mathlib.Core.Bool.{true, false}
 use native.Mathlib.Omega.{arith}
-use Rattle.store.specs.Inner.{fillOf}
-use Rattle.store.proofs.Codes.{coded-handle, coded-refused}
-use Rattle.store_sides.proofs.Answers.{sides-two, sides-broken}
-use Rattle.op_step.proofs.Steps.{node-asks, step-first, step-second, step-done}
-use Rattle.op_step.proofs.Outcomes.{ran-broken, ran-recalled}
-use Rattle.op_parity.proofs.Splits.{partOf, ran-leaf, split-part, sides-asks, one-asks}
+use Rattle.store_sides.proofs.Answers.{sides-two}
+use Rattle.op_parity.proofs.Splits.{ran-leaf, sides-asks, one-asks}
+use Rattle.op_parity.proofs.Parting.{part-known, part-broken, part-first, part-second, part-node, part-made}
 use borrow.Author.Needs.{needs}
 use borrow.Fn.Kinds.{In}
 use borrow.Fn.PlainCycle.{Measures, is, falls, and}
@@ -111,8 +108,7 @@ expand-even-returns t c =
     let at-handle : expand-even-lts.After-handle (expand-even-claims t) (expand-even-at t) expand-even.Post = search in
     let at-recall : expand-even-lts.After-recall (expand-even-claims t) (expand-even-at t) expand-even.Post = search in
     let at-start : expand-even-lts.Start (expand-even-claims t) (expand-even-at t) expand-even.Post = search in
-    let a = at-start .args in
-    ran-recalled 0 (fillOf (a .capacity) (a .count .now)) (a .nodes .now) (a .lookup .now) (a .cache .now) (at-start .pre .1 .asks .roomy) (partOf true (a .p)) _ (omega arith) (at-handle .handle .given .1) (at-recall .recall .ensures)
+    part-known true (at-start .pre .1) (at-handle .handle .given .1) (at-recall .recall .ensures)
 
 expand-even-sides-at-requires : (t : ℕ) → expand-even-lts.Need-sides-at-requires (expand-even-claims t) (expand-even-at t) expand-even.Post
 expand-even-sides-at-requires t c κs =
@@ -124,18 +120,13 @@ expand-even-returns-2 t c =
     let at-told : expand-even-lts.After-enum-told2 (expand-even-claims t) (expand-even-at t) expand-even.Post = search in
     let at-sides : expand-even-lts.After-sides-at (expand-even-claims t) (expand-even-at t) expand-even.Post = search in
     let at-start : expand-even-lts.Start (expand-even-claims t) (expand-even-at t) expand-even.Post = search in
-    let a = at-start .args in
-    ran-broken 0 (fillOf (a .capacity) (a .count .now)) (a .nodes .now) (a .lookup .now) (a .cache .now) (at-start .pre .1 .asks .roomy) (partOf true (a .p)) (λ l B H. sides-broken (at-told .enum-told2 .given .1) (at-sides .sides-at .ensures) l B (a .lookup .now) H)
+    part-broken true (at-start .pre .1) (at-sides .sides-at .ensures) (at-told .enum-told2 .given .1)
 
 expand-even-returns-3 : (t : ℕ) → expand-even-lts.Need-returns-3 (expand-even-claims t) (expand-even-at t) expand-even.Post
 expand-even-returns-3 t c =
     let at-first : expand-even-lts.After-even-part (expand-even-claims t) (expand-even-at t) expand-even.Post = search in
     let at-p0 : expand-even-lts.After-p0 (expand-even-claims t) (expand-even-at t) expand-even.Post = search in
-    let at-start = even-start t at-p0 in
-    let a = at-start .args in
-    let K = sides-two (at-p0 .p0 .given .1) ((even-split t at-p0) .sides-at .ensures) in
-    let R = coded-refused _ (c .if1 .taken) in
-    step-first (partOf true (a .p)) _ _ (a .level) (fillOf (a .capacity) (a .count .now)) (a .nodes .now) (a .lookup .now) (a .cache .now) (split-part (at-start .pre .1) K true) (at-first .even-part .ensures) (R .0) (R .1)
+    part-first true ((even-start t at-p0) .pre .1) ((even-split t at-p0) .sides-at .ensures) (at-p0 .p0 .given .1) (at-first .even-part .ensures) (c .if1 .taken)
 
 expand-even-returns-4 : (t : ℕ) → expand-even-lts.Need-returns-4 (expand-even-claims t) (expand-even-at t) expand-even.Post
 expand-even-returns-4 t c =
@@ -143,11 +134,7 @@ expand-even-returns-4 t c =
     let at-if1 : expand-even-lts.Else1 (expand-even-claims t) (expand-even-at t) expand-even.Post = search in
     let at-first : expand-even-lts.After-even-part (expand-even-claims t) (expand-even-at t) expand-even.Post = search (at-if1) in
     let at-p0 : expand-even-lts.After-p0 (expand-even-claims t) (expand-even-at t) expand-even.Post = search (at-first) in
-    let at-start = even-start t at-p0 in
-    let a = at-start .args in
-    let K = sides-two (at-p0 .p0 .given .1) ((even-split t at-p0) .sides-at .ensures) in
-    let R = coded-refused _ (c .if2 .taken) in
-    step-second (partOf true (a .p)) _ _ (a .level) (fillOf (a .capacity) (a .count .now)) (a .nodes .now) (a .lookup .now) (a .cache .now) (split-part (at-start .pre .1) K true) (at-first .even-part .ensures) _ (coded-handle _ (at-if1 .if1 .left)) (at-second .odd-part .ensures) (R .0) (R .1)
+    part-second true ((even-start t at-p0) .pre .1) ((even-split t at-p0) .sides-at .ensures) (at-p0 .p0 .given .1) (at-first .even-part .ensures) (at-if1 .if1 .left) (at-second .odd-part .ensures) (c .if2 .taken)
 
 expand-even-node-of-requires : (t : ℕ) → expand-even-lts.Need-node-of-requires (expand-even-claims t) (expand-even-at t) expand-even.Post
 expand-even-node-of-requires t c κs =
@@ -156,8 +143,7 @@ expand-even-node-of-requires t c κs =
     let at-if1 : expand-even-lts.Else1 (expand-even-claims t) (expand-even-at t) expand-even.Post = search in
     let at-first : expand-even-lts.After-even-part (expand-even-claims t) (expand-even-at t) expand-even.Post = search (at-if1) in
     let at-p0 : expand-even-lts.After-p0 (expand-even-claims t) (expand-even-at t) expand-even.Post = search (at-first) in
-    let p = (even-start t at-p0) .pre in
-    let N = node-asks (p .1 .asks .roomy) (at-first .even-part .ensures) (coded-handle _ (at-if1 .if1 .left)) (at-second .odd-part .ensures) (coded-handle _ (at-if2 .if2 .left)) (p .1 .some) (p .1 .asks .level-low) in
+    let N = part-node true ((even-start t at-p0) .pre .1) ((even-split t at-p0) .sides-at .ensures) (at-p0 .p0 .given .1) (at-first .even-part .ensures) (at-if1 .if1 .left) (at-second .odd-part .ensures) (at-if2 .if2 .left) in
     search needs
 
 expand-even-returns-5 : (t : ℕ) → expand-even-lts.Need-returns-5 (expand-even-claims t) (expand-even-at t) expand-even.Post
@@ -165,14 +151,11 @@ expand-even-returns-5 t c =
     let at-keep : expand-even-lts.After-keep (expand-even-claims t) (expand-even-at t) expand-even.Post = search in
     let at-node-of : expand-even-lts.After-node-of (expand-even-claims t) (expand-even-at t) expand-even.Post = search in
     let at-if2 : expand-even-lts.Else2 (expand-even-claims t) (expand-even-at t) expand-even.Post = search in
-    let at-second : expand-even-lts.After-odd-part (expand-even-claims t) (expand-even-at t) expand-even.Post = search (at-if2) in
-    let at-if1 : expand-even-lts.Else1 (expand-even-claims t) (expand-even-at t) expand-even.Post = search (at-if2) in
+    let at-second : expand-even-lts.After-odd-part (expand-even-claims t) (expand-even-at t) expand-even.Post = search in
+    let at-if1 : expand-even-lts.Else1 (expand-even-claims t) (expand-even-at t) expand-even.Post = search (at-second) in
     let at-first : expand-even-lts.After-even-part (expand-even-claims t) (expand-even-at t) expand-even.Post = search (at-if1) in
     let at-p0 : expand-even-lts.After-p0 (expand-even-claims t) (expand-even-at t) expand-even.Post = search (at-first) in
-    let at-start = even-start t at-p0 in
-    let a = at-start .args in
-    let K = sides-two (at-p0 .p0 .given .1) ((even-split t at-p0) .sides-at .ensures) in
-    step-done (partOf true (a .p)) _ _ (a .level) (fillOf (a .capacity) (a .count .now)) (a .nodes .now) (a .lookup .now) (a .cache .now) (split-part (at-start .pre .1) K true) (at-first .even-part .ensures) _ (coded-handle _ (at-if1 .if1 .left)) (at-second .odd-part .ensures) _ (coded-handle _ (at-if2 .if2 .left)) (at-node-of .node-of .ensures) (at-keep .keep .ensures)
+    part-made true ((even-start t at-p0) .pre .1) ((even-split t at-p0) .sides-at .ensures) (at-p0 .p0 .given .1) (at-first .even-part .ensures) (at-if1 .if1 .left) (at-second .odd-part .ensures) (at-if2 .if2 .left) _ (at-node-of .node-of .ensures) (at-keep .keep .ensures)
 
 -- odd
 abbrev odd-part-claims : ℕ → odd-part-lts.Claims
@@ -215,8 +198,7 @@ expand-odd-returns t c =
     let at-handle : expand-odd-lts.After-handle (expand-odd-claims t) (expand-odd-at t) expand-odd.Post = search in
     let at-recall : expand-odd-lts.After-recall (expand-odd-claims t) (expand-odd-at t) expand-odd.Post = search in
     let at-start : expand-odd-lts.Start (expand-odd-claims t) (expand-odd-at t) expand-odd.Post = search in
-    let a = at-start .args in
-    ran-recalled 0 (fillOf (a .capacity) (a .count .now)) (a .nodes .now) (a .lookup .now) (a .cache .now) (at-start .pre .1 .asks .roomy) (partOf false (a .p)) _ (omega arith) (at-handle .handle .given .1) (at-recall .recall .ensures)
+    part-known false (at-start .pre .1) (at-handle .handle .given .1) (at-recall .recall .ensures)
 
 expand-odd-sides-at-requires : (t : ℕ) → expand-odd-lts.Need-sides-at-requires (expand-odd-claims t) (expand-odd-at t) expand-odd.Post
 expand-odd-sides-at-requires t c κs =
@@ -228,18 +210,13 @@ expand-odd-returns-2 t c =
     let at-told : expand-odd-lts.After-enum-told2 (expand-odd-claims t) (expand-odd-at t) expand-odd.Post = search in
     let at-sides : expand-odd-lts.After-sides-at (expand-odd-claims t) (expand-odd-at t) expand-odd.Post = search in
     let at-start : expand-odd-lts.Start (expand-odd-claims t) (expand-odd-at t) expand-odd.Post = search in
-    let a = at-start .args in
-    ran-broken 0 (fillOf (a .capacity) (a .count .now)) (a .nodes .now) (a .lookup .now) (a .cache .now) (at-start .pre .1 .asks .roomy) (partOf false (a .p)) (λ l B H. sides-broken (at-told .enum-told2 .given .1) (at-sides .sides-at .ensures) l B (a .lookup .now) H)
+    part-broken false (at-start .pre .1) (at-sides .sides-at .ensures) (at-told .enum-told2 .given .1)
 
 expand-odd-returns-3 : (t : ℕ) → expand-odd-lts.Need-returns-3 (expand-odd-claims t) (expand-odd-at t) expand-odd.Post
 expand-odd-returns-3 t c =
     let at-first : expand-odd-lts.After-odd-part (expand-odd-claims t) (expand-odd-at t) expand-odd.Post = search in
     let at-p0 : expand-odd-lts.After-p0 (expand-odd-claims t) (expand-odd-at t) expand-odd.Post = search in
-    let at-start = odd-start t at-p0 in
-    let a = at-start .args in
-    let K = sides-two (at-p0 .p0 .given .1) ((odd-split t at-p0) .sides-at .ensures) in
-    let R = coded-refused _ (c .if1 .taken) in
-    step-first (partOf false (a .p)) _ _ (a .level) (fillOf (a .capacity) (a .count .now)) (a .nodes .now) (a .lookup .now) (a .cache .now) (split-part (at-start .pre .1) K false) (at-first .odd-part .ensures) (R .0) (R .1)
+    part-first false ((odd-start t at-p0) .pre .1) ((odd-split t at-p0) .sides-at .ensures) (at-p0 .p0 .given .1) (at-first .odd-part .ensures) (c .if1 .taken)
 
 expand-odd-returns-4 : (t : ℕ) → expand-odd-lts.Need-returns-4 (expand-odd-claims t) (expand-odd-at t) expand-odd.Post
 expand-odd-returns-4 t c =
@@ -247,11 +224,7 @@ expand-odd-returns-4 t c =
     let at-if1 : expand-odd-lts.Else1 (expand-odd-claims t) (expand-odd-at t) expand-odd.Post = search in
     let at-first : expand-odd-lts.After-odd-part (expand-odd-claims t) (expand-odd-at t) expand-odd.Post = search (at-if1) in
     let at-p0 : expand-odd-lts.After-p0 (expand-odd-claims t) (expand-odd-at t) expand-odd.Post = search (at-first) in
-    let at-start = odd-start t at-p0 in
-    let a = at-start .args in
-    let K = sides-two (at-p0 .p0 .given .1) ((odd-split t at-p0) .sides-at .ensures) in
-    let R = coded-refused _ (c .if2 .taken) in
-    step-second (partOf false (a .p)) _ _ (a .level) (fillOf (a .capacity) (a .count .now)) (a .nodes .now) (a .lookup .now) (a .cache .now) (split-part (at-start .pre .1) K false) (at-first .odd-part .ensures) _ (coded-handle _ (at-if1 .if1 .left)) (at-second .even-part .ensures) (R .0) (R .1)
+    part-second false ((odd-start t at-p0) .pre .1) ((odd-split t at-p0) .sides-at .ensures) (at-p0 .p0 .given .1) (at-first .odd-part .ensures) (at-if1 .if1 .left) (at-second .even-part .ensures) (c .if2 .taken)
 
 expand-odd-node-of-requires : (t : ℕ) → expand-odd-lts.Need-node-of-requires (expand-odd-claims t) (expand-odd-at t) expand-odd.Post
 expand-odd-node-of-requires t c κs =
@@ -260,8 +233,7 @@ expand-odd-node-of-requires t c κs =
     let at-if1 : expand-odd-lts.Else1 (expand-odd-claims t) (expand-odd-at t) expand-odd.Post = search in
     let at-first : expand-odd-lts.After-odd-part (expand-odd-claims t) (expand-odd-at t) expand-odd.Post = search (at-if1) in
     let at-p0 : expand-odd-lts.After-p0 (expand-odd-claims t) (expand-odd-at t) expand-odd.Post = search (at-first) in
-    let p = (odd-start t at-p0) .pre in
-    let N = node-asks (p .1 .asks .roomy) (at-first .odd-part .ensures) (coded-handle _ (at-if1 .if1 .left)) (at-second .even-part .ensures) (coded-handle _ (at-if2 .if2 .left)) (p .1 .some) (p .1 .asks .level-low) in
+    let N = part-node false ((odd-start t at-p0) .pre .1) ((odd-split t at-p0) .sides-at .ensures) (at-p0 .p0 .given .1) (at-first .odd-part .ensures) (at-if1 .if1 .left) (at-second .even-part .ensures) (at-if2 .if2 .left) in
     search needs
 
 expand-odd-returns-5 : (t : ℕ) → expand-odd-lts.Need-returns-5 (expand-odd-claims t) (expand-odd-at t) expand-odd.Post
@@ -269,14 +241,11 @@ expand-odd-returns-5 t c =
     let at-keep : expand-odd-lts.After-keep (expand-odd-claims t) (expand-odd-at t) expand-odd.Post = search in
     let at-node-of : expand-odd-lts.After-node-of (expand-odd-claims t) (expand-odd-at t) expand-odd.Post = search in
     let at-if2 : expand-odd-lts.Else2 (expand-odd-claims t) (expand-odd-at t) expand-odd.Post = search in
-    let at-second : expand-odd-lts.After-even-part (expand-odd-claims t) (expand-odd-at t) expand-odd.Post = search (at-if2) in
-    let at-if1 : expand-odd-lts.Else1 (expand-odd-claims t) (expand-odd-at t) expand-odd.Post = search (at-if2) in
+    let at-second : expand-odd-lts.After-even-part (expand-odd-claims t) (expand-odd-at t) expand-odd.Post = search in
+    let at-if1 : expand-odd-lts.Else1 (expand-odd-claims t) (expand-odd-at t) expand-odd.Post = search (at-second) in
     let at-first : expand-odd-lts.After-odd-part (expand-odd-claims t) (expand-odd-at t) expand-odd.Post = search (at-if1) in
     let at-p0 : expand-odd-lts.After-p0 (expand-odd-claims t) (expand-odd-at t) expand-odd.Post = search (at-first) in
-    let at-start = odd-start t at-p0 in
-    let a = at-start .args in
-    let K = sides-two (at-p0 .p0 .given .1) ((odd-split t at-p0) .sides-at .ensures) in
-    step-done (partOf false (a .p)) _ _ (a .level) (fillOf (a .capacity) (a .count .now)) (a .nodes .now) (a .lookup .now) (a .cache .now) (split-part (at-start .pre .1) K false) (at-first .odd-part .ensures) _ (coded-handle _ (at-if1 .if1 .left)) (at-second .even-part .ensures) _ (coded-handle _ (at-if2 .if2 .left)) (at-node-of .node-of .ensures) (at-keep .keep .ensures)
+    part-made false ((odd-start t at-p0) .pre .1) ((odd-split t at-p0) .sides-at .ensures) (at-p0 .p0 .given .1) (at-first .odd-part .ensures) (at-if1 .if1 .left) (at-second .even-part .ensures) (at-if2 .if2 .left) _ (at-node-of .node-of .ensures) (at-keep .keep .ensures)
 
 pub +even-part+expand-even+expand-odd+odd-part-spec : {M : Type 1} → statement M
 +even-part+expand-even+expand-odd+odd-part-spec = close μ-even-part μ-expand-even μ-expand-odd μ-odd-part (λ t. even-part-lts.spec (even-part-claims t)
