@@ -11,7 +11,7 @@ use Rattle.op_families.specs.Inner.{Forked}
 use Rattle.store.proofs.Naming.{named-families, families-step, families-within}
 use Rattle.store.specs.Inner.{Fill}
 use Rattle.op_families.specs.Inner.{FamilyCall, ApplyAsks}
-use Rattle.op_step.proofs.Steps.{of, Taken, Split}
+use Rattle.op_step.proofs.Steps.{Taken, Split}
 use Rattle.store.proofs.Held.{top-at, within, low-at}
 use Rattle.store_sides.proofs.Splitting.{low-now}
 

@@ -3,11 +3,10 @@
 -- Each is the step's law of that way, for the split of the part by the two sides.
 use Prim.Native.Nat.{ℕ, _≤_, _<_}
 use mathlib.Core.Path.{_≡_}
-use mathlib.Core.Bool.{Bool, true, false, not}
+use mathlib.Core.Bool.{Bool, not}
 use mathlib.Core.List.{List}
 use native.Mathlib.Omega.{arith}
 use Rattle.store.specs.Coded.{fullNumber, damagedNumber, answerOf, reachedAs}
-use Rattle.store.specs.Operations.{parityNumber}
 use Rattle.store.specs.Inner.{Fill, fillOf, Ran}
 use Rattle.store.proofs.Codes.{coded-handle, coded-refused}
 use Rattle.store_node.specs.Inner.{NodeAsks, NodeIt}
@@ -22,15 +21,11 @@ use Rattle.op_step.specs.Inner.{RememberedAnswer}
 use Rattle.op_step.proofs.Steps.{of, node-asks, step-first, step-second, step-done}
 use Rattle.op_step.proofs.Outcomes.{ran-broken, ran-recalled}
 use Rattle.op_parity.specs.Inner.{PartStepAsks}
-use Rattle.op_parity.proofs.Splits.{partOf, split-part}
+use Rattle.op_parity.proofs.Splits.{partOf, part-number, split-part}
 
 module _ (even : Bool) {p level : ℕ} {s : Fill} {nodes lookup cache : List ℕ} (E : PartStepAsks p level s nodes lookup) where
   pub part-known : {h : ℕ} {x : Recalled} → x ≡ Hit h → RecallOf cache (s .count) (partOf even p) x → Ran 0 (of (partOf even p)) s nodes lookup cache (reachedAs (s .capacity) (s .count) h) nodes lookup cache
-  part-known {h} e C = ran-recalled 0 s nodes lookup cache (E .asks .roomy) (partOf even p) h (some even) e C
-    where
-      some : (even : Bool) → 1 ≤ parityNumber even
-      some true = omega arith
-      some false = omega arith
+  part-known {h} e C = ran-recalled 0 s nodes lookup cache (E .asks .roomy) (partOf even p) h (omega (arith, part-number even)) e C
 
   module _ {x : Sides} (S : SidesOf nodes (s .count) p level x) where
     pub part-broken : x ≡ Broken → Ran 0 (of (partOf even p)) s nodes lookup cache (reachedAs (s .capacity) (s .count) damagedNumber) nodes lookup cache

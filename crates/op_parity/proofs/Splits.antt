@@ -27,14 +27,14 @@ use Rattle.op_parity.specs.Inner.{PartAsks, PartStepAsks}
 abbrev pub partOf : Bool → ℕ → Call
 partOf even p = callOf (parityNumber even) p 0
 
+pub part-number : (even : Bool) → (7 ≤ parityNumber even) × (parityNumber even ≤ 8)
+part-number true = (omega arith, omega arith)
+part-number false = (omega arith, omega arith)
+
 taken-part : (even : Bool) (n p : ℕ) → p ≤ n + 1 → Taken 0 (partOf even p) n
 taken-part even n p h =
-    let l = number even in
+    let l = part-number even in
     record { operation = (omega arith, omega arith); first = omega arith; second = (λ k. absurd (omega arith), λ k. omega arith, λ k. refl) }
-  where
-    number : (even : Bool) → (7 ≤ parityNumber even) × (parityNumber even ≤ 8)
-    number true = (omega arith, omega arith)
-    number false = (omega arith, omega arith)
 
 -- a top of 0: the even part is the family, the odd part is {}
 module _ (even : Bool) {p level : ℕ} {s : Fill} {nodes lookup : List ℕ} (A : PartAsks p level s nodes lookup) where

@@ -3,7 +3,6 @@
 use Prim.Native.Nat.{_≤_}
 use mathlib.Core.Path.{_≡_, refl, sym, ap, _∙_}
 use mathlib.Core.Logic.{inl, inr}
-use native.Mathlib.Omega.{arith}
 use Rattle.family.specs.Operation.{combine}
 use Rattle.family.specs.Book.{at}
 use Rattle.store.specs.Operations.{rule}
