@@ -124,9 +124,8 @@ expand-even-returns-2 t c =
 
 expand-even-returns-3 : (t : ℕ) → expand-even-lts.Need-returns-3 (expand-even-claims t) (expand-even-at t) expand-even.Post
 expand-even-returns-3 t c =
-    let at-first : expand-even-lts.After-even-part (expand-even-claims t) (expand-even-at t) expand-even.Post = search in
     let at-p0 : expand-even-lts.After-p0 (expand-even-claims t) (expand-even-at t) expand-even.Post = search in
-    part-first true ((even-start t at-p0) .pre .1) ((even-split t at-p0) .sides-at .ensures) (at-p0 .p0 .given .1) (at-first .even-part .ensures) (c .if1 .taken)
+    part-first true ((even-start t at-p0) .pre .1) ((even-split t at-p0) .sides-at .ensures) (at-p0 .p0 .given .1) (search) (c .if1 .taken)
 
 expand-even-returns-4 : (t : ℕ) → expand-even-lts.Need-returns-4 (expand-even-claims t) (expand-even-at t) expand-even.Post
 expand-even-returns-4 t c =
@@ -214,9 +213,8 @@ expand-odd-returns-2 t c =
 
 expand-odd-returns-3 : (t : ℕ) → expand-odd-lts.Need-returns-3 (expand-odd-claims t) (expand-odd-at t) expand-odd.Post
 expand-odd-returns-3 t c =
-    let at-first : expand-odd-lts.After-odd-part (expand-odd-claims t) (expand-odd-at t) expand-odd.Post = search in
     let at-p0 : expand-odd-lts.After-p0 (expand-odd-claims t) (expand-odd-at t) expand-odd.Post = search in
-    part-first false ((odd-start t at-p0) .pre .1) ((odd-split t at-p0) .sides-at .ensures) (at-p0 .p0 .given .1) (at-first .odd-part .ensures) (c .if1 .taken)
+    part-first false ((odd-start t at-p0) .pre .1) ((odd-split t at-p0) .sides-at .ensures) (at-p0 .p0 .given .1) (search) (c .if1 .taken)
 
 expand-odd-returns-4 : (t : ℕ) → expand-odd-lts.Need-returns-4 (expand-odd-claims t) (expand-odd-at t) expand-odd.Post
 expand-odd-returns-4 t c =
