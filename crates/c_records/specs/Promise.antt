@@ -7,6 +7,8 @@ use Rattle.query_size.specs.declared.Measured.{Measured}
 use Rattle.query_has.specs.declared.Asked.{Asked}
 use Rattle.query_size.specs.Promise.{sizeGivenBy}
 use Rattle.query_has.specs.Promise.{hasGivenBy}
+use Rattle.query_weight.specs.declared.answer.Weighed.{Weighed}
+use Rattle.query_weight.specs.Promise.{weightGivenBy}
 use Rattle.file_save.specs.declared.Saved.{Saved}
 use Rattle.file_save.specs.Promise.{saveGivenBy}
 use Rattle.store_audit.specs.declared.audit.Audited.{Audited}
@@ -14,6 +16,7 @@ use Rattle.c_records.specs.declared.CFreshened.{CFreshened}
 use Rattle.c_records.specs.declared.CPlaced.{CPlaced}
 use Rattle.c_records.specs.declared.CMeasured.{CMeasured}
 use Rattle.c_records.specs.declared.CAsked.{CAsked}
+use Rattle.c_records.specs.declared.CWeighed.{CWeighed}
 use Rattle.c_records.specs.declared.CSaved.{CSaved}
 use Rattle.c_records.specs.declared.CAudited.{CAudited}
 
@@ -30,6 +33,9 @@ measuredOf b = record { store = b .store; refusal = sizeGivenBy (b .answer) .ref
 
 abbrev pub askedOf : Asked → CAsked
 askedOf b = record { store = b .store; refusal = hasGivenBy (b .answer) .refusal; member = hasGivenBy (b .answer) .member }
+
+abbrev pub weighedOf : Weighed → CWeighed
+weighedOf b = record { store = b .store; refusal = weightGivenBy (b .answer) .refusal; sum = weightGivenBy (b .answer) .sum }
 
 abbrev pub savedOf : Saved → CSaved
 savedOf b = record { store = b .store; refusal = saveGivenBy (b .answer) .refusal; length = saveGivenBy (b .answer) .fileLength }

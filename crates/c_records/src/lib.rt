@@ -1,13 +1,15 @@
 // The answers as C sees them. The record is the same for C.
 ghost use mathlib.Core.Path.{_≡_};
 ghost use Rattle.store.specs.Refusals.{refusalNumber};
-ghost use Rattle.c_records.specs.Promise.{freshenedOf, placedOf, measuredOf, askedOf, savedOf, auditedOf};
+ghost use Rattle.c_records.specs.Promise.{freshenedOf, placedOf, measuredOf, askedOf, weighedOf, savedOf, auditedOf};
 use file_save::SaveAnswer;
 use file_save::Saved;
 use query_has::Asked;
 use query_has::HasAnswer;
 use query_size::Measured;
 use query_size::SizeAnswer;
+use query_weight::answer::WeightAnswer;
+use query_weight::answer::Weighed;
 use store::record::PlaceAnswer;
 use store::record::Placed;
 use store::record::Refusal;
@@ -48,6 +50,14 @@ pub struct CAsked {
     pub member: bool,
 }
 
+// What a sum of weights gives back; the sum is 0 where it is refused.
+#[repr(C)]
+pub struct CWeighed {
+    pub store: Store,
+    pub refusal: u32,
+    pub sum: u64,
+}
+
 // What Save gives back; the length is 0 where it is refused.
 #[repr(C)]
 pub struct CSaved {
@@ -78,6 +88,7 @@ pub fn number(refusal: Refusal) -> u32
         Refusal::Output => 8,
         Refusal::NoFile => 9,
         Refusal::Damaged => 10,
+        Refusal::Weights => 11,
         Refusal::AboveLimit => 13,
     }
 }
@@ -163,6 +174,26 @@ pub fn asked(behind: Asked) -> CAsked
             store: store,
             refusal: number(refusal),
             member: false,
+        },
+    }
+}
+
+// What a sum of weights gave.
+pub fn weighed(behind: Weighed) -> CWeighed
+    ensures { λ r. ⌜ r ≡ weighedOf behind ⌝ }
+{
+    let store = behind.store;
+    let answer = behind.answer;
+    match answer {
+        WeightAnswer::Sum(sum) => CWeighed {
+            store: store,
+            refusal: 0,
+            sum: sum,
+        },
+        WeightAnswer::Refused(refusal) => CWeighed {
+            store: store,
+            refusal: number(refusal),
+            sum: 0,
         },
     }
 }

@@ -2,6 +2,7 @@ pub mod Family
 pub mod Combination
 pub mod Operation
 pub mod Parity
+pub mod Weights
 pub mod Finite
 pub mod Book
 pub mod Parts

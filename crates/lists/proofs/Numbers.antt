@@ -23,7 +23,8 @@ use Rattle.store.proofs.Testing.{passes}
 use Rattle.query_has.specs.Promise.{hasRefusal}
 use Rattle.op_promise.specs.Promise.{operationRefusal}
 use Rattle.op_parity.specs.Promise.{parityRefusal}
-use Rattle.query_sizes.specs.NodeSizes.{most, sizesOf}
+use Rattle.words.specs.Words.{most}
+use Rattle.query_sizes.specs.NodeSizes.{sizesOf}
 use Rattle.query_size.specs.declared.SizeAnswer.the-variants.{Members, Refused as SizeRefused}
 use Rattle.query_size.specs.Promise.{sizeGivenBy, sizeRefusal, sizeAnswer, sizeScratch}
 use Rattle.file_save.specs.declared.SaveAnswer.the-variants.{Length, Refused as SaveRefused}

@@ -20,7 +20,7 @@ use Rattle.store.specs.Scratch.{scratchTests}
 use Rattle.store.specs.Tests.{isItem, testsOf}
 use Rattle.op_promise.specs.Promise.{operationRefusal, numberOf}
 use Rattle.op_parity.specs.Promise.{parityRefusal}
-use Rattle.query_sizes.specs.NodeSizes.{most}
+use Rattle.words.specs.Words.{most}
 use Rattle.query_size.specs.Promise.{sizeRefusal, sizeAnswer}
 use Rattle.query_has.specs.Promise.{hasAnswer, hasRefusal}
 use Rattle.file_save.specs.Promise.{saveRefusal}

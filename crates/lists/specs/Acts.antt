@@ -17,9 +17,10 @@ use Rattle.op_promise.specs.Promise.{operationRefusal, numberOf}
 use Rattle.op_parity.specs.Promise.{parityRefusal}
 use Rattle.query_size.specs.Promise.{SizeGiven, sizeAnswer}
 use Rattle.query_has.specs.Promise.{HasGiven, hasAnswer}
+use Rattle.query_weight.specs.Promise.{WeightGiven, weightAnswer}
 use Rattle.file_save.specs.Promise.{SaveGiven, saveRefusal}
 use Rattle.file_load.specs.Promise.{loadRefusal, loadFamily}
-use Rattle.lists.specs.Calls.{Call, Operate, Parity, Size, Has, Save, Load, Audit, Fact, Number, Says, Handle, Tells, Writes, Answer}
+use Rattle.lists.specs.Calls.{Call, Operate, Parity, Size, Has, Weigh, Save, Load, Audit, Fact, Number, Says, Handle, Tells, Writes, Answer}
 
 -- the answers, by what the calls return
 abbrev pub placeReturns : Given → Answer
@@ -30,6 +31,9 @@ sizeReturns g = record { refusal = g .refusal; value = Tells (Number (g .size)) 
 
 abbrev pub hasReturns : HasGiven → Answer
 hasReturns g = record { refusal = g .refusal; value = Tells (Says (g .member)) }
+
+abbrev pub weightReturns : WeightGiven → Answer
+weightReturns g = record { refusal = g .refusal; value = Tells (Number (g .sum)) }
 
 -- Save's file is the front of the output, as long as Save says
 abbrev pub saveReturns : SaveGiven → List ℕ → Answer
@@ -56,6 +60,7 @@ actOf limit B (Operate op p q) = Places (operationRefusal (numberOf op) limit (c
 actOf limit B (Parity even p) = Places (parityRefusal (count B) p) (parity even (at B p))
 actOf limit B (Size p scratch) = Gives (sizeAnswer B p scratch .refusal) (Number (sizeAnswer B p scratch .size))
 actOf limit B (Has p combination) = Gives (hasAnswer B p (itemsOf combination) .refusal) (Says (hasAnswer B p (itemsOf combination) .member))
+actOf limit B (Weigh way p weights scratch) = Gives (weightAnswer way B p weights scratch .refusal) (Number (weightAnswer way B p weights scratch .sum))
 actOf limit B (Save p scratch output) = Saves (saveRefusal B p scratch output) (at B p)
 actOf limit B (Load file scratch) = Places (loadRefusal limit file scratch) (loadFamily file)
 actOf limit B Audit = Gives 0 (Says true)

@@ -5,5 +5,6 @@ pub mod Books
 pub mod Runs
 pub mod Demand3
 pub mod Parted
+pub mod Sums
 pub mod Witness
 pub mod Worked

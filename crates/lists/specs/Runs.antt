@@ -18,14 +18,16 @@ use Rattle.query_size.specs.declared.Measured.{Measured}
 use Rattle.query_has.specs.declared.Asked.{Asked}
 use Rattle.query_size.specs.Promise.{sizeGivenBy, SizeCall}
 use Rattle.query_has.specs.Promise.{hasGivenBy, HasCall}
+use Rattle.query_weight.specs.declared.answer.Weighed.{Weighed}
+use Rattle.query_weight.specs.Promise.{Way, weightGivenBy, WeightCall}
 use Rattle.file_save.specs.declared.Saved.{Saved}
 use Rattle.file_save.specs.Promise.{saveGivenBy, SaveCall}
 use Rattle.file_load.specs.Promise.{LoadCall}
 use Rattle.store_audit.specs.declared.audit.Audited.{Audited}
 use Rattle.store_audit.specs.Promise.{AuditCall}
 use Rattle.op_promise.specs.declared.Operation.{Operation}
-use Rattle.lists.specs.Calls.{Call, Operate, Parity, Size, Has, Save, Load, Audit, Answer}
-use Rattle.lists.specs.Acts.{placeReturns, sizeReturns, hasReturns, saveReturns, auditReturns}
+use Rattle.lists.specs.Calls.{Call, Operate, Parity, Size, Has, Weigh, Save, Load, Audit, Answer}
+use Rattle.lists.specs.Acts.{placeReturns, sizeReturns, hasReturns, weightReturns, saveReturns, auditReturns}
 use Rattle.lists.specs.Books.{Bounds}
 
 -- what a call comes to and leaves: the record last given back, and Fresh's words
@@ -59,6 +61,9 @@ pub data Step (x : State) : Call → Answer → State → Type 0 where
   asks : {p : ℕ} {combination : List ℕ} {r : Asked}
       → HasCall (x .store) (x .nodes) (x .lookup) p (itemsOf combination) r
       → Step x (Has p combination) (hasReturns (hasGivenBy (r .answer))) (sameWords x (r .store))
+  weighs : {way : Way} {p : ℕ} {weights scratch scratch′ : List ℕ} {r : Weighed}
+      → WeightCall way (x .store) (x .nodes) (x .lookup) p weights scratch r scratch′
+      → Step x (Weigh way p weights (length scratch)) (weightReturns (weightGivenBy (r .answer))) (sameWords x (r .store))
   saves : {p : ℕ} {scratch out scratch′ out′ : List ℕ} {r : Saved}
       → SaveCall (x .store) (x .nodes) (x .lookup) p scratch out r scratch′ out′
       → Step x (Save p (length scratch) (length out)) (saveReturns (saveGivenBy (r .answer)) out′) (sameWords x (r .store))

@@ -23,7 +23,7 @@ use Rattle.store.proofs.Decoding.{sound-holds}
 use Rattle.store.proofs.Calls.{refusal-some, sound-fits}
 use Rattle.query_size.specs.declared.SizeAnswer.the-variants.{Members, Refused}
 use Rattle.query_size.specs.declared.Measured.{Measured}
-use Rattle.query_sizes.specs.NodeSizes.{most}
+use Rattle.words.specs.Words.{most}
 use Rattle.query_size.specs.Promise.{sizeGivenBy, sizeRefusal, sizeAnswer, sizeScratch, SizeCall}
 use Rattle.query_sizes.specs.Inner.{Filled, Exceeding}
 use Rattle.query_sizes.proofs.Summing.{size-known, filled-is}

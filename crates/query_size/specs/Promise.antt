@@ -17,7 +17,8 @@ use Rattle.store.specs.Sound.{Sound}
 use Rattle.query_size.specs.declared.SizeAnswer.{SizeAnswer}
 use Rattle.query_size.specs.declared.SizeAnswer.the-variants.{Members, Refused}
 use Rattle.query_size.specs.declared.Measured.{Measured}
-use Rattle.query_sizes.specs.NodeSizes.{most, sizesOf}
+use Rattle.words.specs.Words.{most}
+use Rattle.query_sizes.specs.NodeSizes.{sizesOf}
 
 -- what Size gives besides the record: the refusal's number, 0 where there is none, and the size, 0 where it is refused
 pub record SizeGiven : Type 0 where

@@ -15,7 +15,7 @@ use Rattle.words.proofs.Cases.{by-lt}
 use Rattle.store.specs.Words.{wordOf}
 use Rattle.store.specs.Inner.{Entry, Holds}
 use Rattle.store.proofs.Held.{at-0, at-1, at-node, within}
-use Rattle.query_sizes.specs.NodeSizes.{most}
+use Rattle.words.specs.Words.{most}
 use Rattle.query_sizes.specs.Inner.{Exceeding}
 use Rattle.query_sizes.proofs.Summing.{size-known}
 

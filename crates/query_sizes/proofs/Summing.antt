@@ -11,7 +11,8 @@ use Rattle.family.specs.Book.{at}
 use Rattle.words.proofs.Cases.{by-lt, by-eq}
 use Rattle.store.specs.Inner.{Holds}
 use Rattle.store.proofs.Held.{at-0, at-1}
-use Rattle.query_sizes.specs.NodeSizes.{most, sizesOf}
+use Rattle.words.specs.Words.{most}
+use Rattle.query_sizes.specs.NodeSizes.{sizesOf}
 use Rattle.store.specs.Words.{wordOf}
 use Rattle.query_sizes.specs.Inner.{Filled}
 use Rattle.store.proofs.Handles.{word-leaf, word-node}

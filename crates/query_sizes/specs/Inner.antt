@@ -8,7 +8,7 @@ use lib.ListN.{length, getD}
 use Rattle.family.specs.Family.{Family, size}
 use Rattle.family.specs.Book.{at}
 use Rattle.store.specs.Inner.{Holds}
-use Rattle.query_sizes.specs.NodeSizes.{most}
+use Rattle.words.specs.Words.{most}
 
 -- the words of the nodes held, and a word for each
 pub record FillAsks (nodes sizes : List ℕ) (count : ℕ) : Type 0 where

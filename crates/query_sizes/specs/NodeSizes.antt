@@ -3,10 +3,7 @@ use Prim.Native.Nat.{ℕ, min}
 use mathlib.Core.List.{List, map}
 use lib.ListN.{drop}
 use Rattle.family.specs.Family.{Family, size}
-
--- the largest number of 64 bits
-abbrev pub most : ℕ
-most = 18446744073709551615
+use Rattle.words.specs.Words.{most}
 
 -- "word j then holds the size of node j + 2, or 18,446,744,073,709,551,615 if that is smaller"
 unfoldable pub sizesOf : List Family → List ℕ

@@ -2,7 +2,7 @@
 ghost use mathlib.Core.Path.{_≡_};
 ghost use Prim.Native.Nat.{_+_, _*_, min};
 ghost use Rattle.store.specs.Inner.{HandleAsks};
-ghost use Rattle.query_sizes.specs.NodeSizes.{most};
+ghost use Rattle.words.specs.Words.{most};
 ghost use Rattle.store.specs.Words.{wordOf};
 ghost use Rattle.query_sizes.specs.Inner.{FillAsks, Filled, Exceeding};
 

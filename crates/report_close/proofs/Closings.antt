@@ -30,7 +30,7 @@ use Rattle.store.proofs.Tested.{tests-passed}
 use Rattle.op_promise.specs.Promise.{OperationCall}
 use Rattle.query_size.specs.declared.SizeAnswer.the-variants.{Members, Refused as NoSize}
 use Rattle.query_size.specs.declared.Measured.{Measured}
-use Rattle.query_sizes.specs.NodeSizes.{most}
+use Rattle.words.specs.Words.{most}
 use Rattle.query_size.specs.Promise.{sizeGivenBy, sizeRefusal, sizeAnswer, SizeCall}
 use Rattle.family.specs.Combination.{itemsOf}
 use Rattle.report_line.specs.declared.Side.{Side}

@@ -15,7 +15,7 @@ use Rattle.family.specs.Finite.{single}
 use Rattle.family.proofs.Falling.{insert-falling}
 use Rattle.family.proofs.Laws.{union-within}
 use Rattle.family.proofs.Finite.{single-falls, single-size}
-use Rattle.query_sizes.specs.NodeSizes.{most}
+use Rattle.words.specs.Words.{most}
 use Rattle.report_line.specs.declared.Side.{Side}
 use Rattle.report_line.specs.declared.Side.the-variants.{Passed, Returned}
 use Rattle.report_tally.specs.declared.Ending.{Ending}

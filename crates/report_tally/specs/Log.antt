@@ -3,7 +3,7 @@ use Prim.Native.Nat.{ℕ, min}
 use mathlib.Core.List.{List}
 use Rattle.family.specs.Family.{Family, empty}
 use Rattle.family.specs.Book.{start}
-use Rattle.query_sizes.specs.NodeSizes.{most}
+use Rattle.words.specs.Words.{most}
 use Rattle.report_tally.specs.declared.Ending.{Ending}
 use Rattle.report_tally.specs.declared.Ending.the-variants.{Going}
 use Rattle.report_line.specs.Line.{LineState, begin}

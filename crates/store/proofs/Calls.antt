@@ -49,6 +49,7 @@ refusal-some x e = go x e
     go Refusal.Output e = omega arith
     go Refusal.NoFile e = omega arith
     go Refusal.Damaged e = omega arith
+    go Refusal.Weights e = omega arith
     go Refusal.AboveLimit e = omega arith
 
 pub sound-fits : {s : Store} {nodes lookup cache : List ℕ} → Sound s nodes lookup cache → fitting s (length nodes) (length lookup) ≡ true

@@ -97,6 +97,7 @@ only-damaged Refusal.Scratch e = absurd (omega arith)
 only-damaged Refusal.Output e = absurd (omega arith)
 only-damaged Refusal.NoFile e = absurd (omega arith)
 only-damaged Refusal.Damaged e = refl
+only-damaged Refusal.Weights e = absurd (omega arith)
 only-damaged Refusal.AboveLimit e = absurd (omega arith)
 
 -- the tests that passed, where nothing refuses

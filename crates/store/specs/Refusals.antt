@@ -1,8 +1,8 @@
--- The refusals by document 01's numbers, and the values of an answer: document 01, 'Numbers and trade words'; 13 and
--- the number added are document 02's.
+-- The refusals by document 01's numbers, and the values of an answer: document 01, 'Numbers and trade words'; 11, 13
+-- and the number added are document 02's.
 use Prim.Native.Nat.{ℕ}
 use Rattle.store.specs.declared.record.Refusal.{Refusal}
-use Rattle.store.specs.declared.record.Refusal.the-variants.{Tiny, ShortLookup, Item, Handle as NoHandle, Full, Large, Scratch, Output, NoFile, Damaged, AboveLimit}
+use Rattle.store.specs.declared.record.Refusal.the-variants.{Tiny, ShortLookup, Item, Handle as NoHandle, Full, Large, Scratch, Output, NoFile, Damaged, Weights, AboveLimit}
 use Rattle.store.specs.declared.record.PlaceAnswer.{PlaceAnswer}
 use Rattle.store.specs.declared.record.PlaceAnswer.the-variants.{Handle, Refused}
 
@@ -18,6 +18,7 @@ refusalNumber Scratch = 7
 refusalNumber Output = 8
 refusalNumber NoFile = 9
 refusalNumber Damaged = 10
+refusalNumber Weights = 11
 refusalNumber AboveLimit = 13
 
 -- What a call that places gives besides the record: the refusal's number, 0 where there is none, the handle, and "the

@@ -1,4 +1,5 @@
--- The tests before a call, in the order of document 01, 'Numbers and trade words': 10, 4, 3, 7.
+-- The tests before a call, in the order of document 01, 'Numbers and trade words': 10, 4, 3, 7; 11 of document 02 is
+-- "directly after 4".
 use Prim.Native.Nat.{ℕ, _+_}
 use mathlib.Core.Path.{_≡_}
 use mathlib.Core.Bool.{Bool, cond, _&&_}
@@ -21,7 +22,7 @@ isItem limit v = ltb 0 v && leb v limit
 abbrev pub itemTest : ℕ → ℕ → ℕ
 itemTest limit v = cond (isItem limit v) 0 3
 
--- 4: "a handle above count + 1", of two handles; then what the call finds by its own test, as 3; then 7: "scratch
+-- 4: "a handle above count + 1", of two handles; then what the call finds by its own test, 3 or 11; then 7: "scratch
 -- shorter than stated". 0 where nothing refuses the call.
 -- A call with one handle or none has 0 for the others, which is always held; one without scratch needs none.
 unfoldable pub testsOf : ℕ → ℕ → ℕ → ℕ → ℕ → ℕ → ℕ

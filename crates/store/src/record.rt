@@ -5,7 +5,7 @@ ghost use Prim.Native.Nat.{_+_};
 ghost use lib.Dec.{leb};
 ghost use Rattle.store.specs.Capacity.{capacityOf, isLimit, fitting, counting};
 
-// The refusals, numbered 1 to 10 in this order, and 13.
+// The refusals, numbered 1 to 11 in this order, and 13.
 pub enum Refusal {
     Tiny,
     ShortLookup,
@@ -17,6 +17,7 @@ pub enum Refusal {
     Output,
     NoFile,
     Damaged,
+    Weights,
     AboveLimit,
 }
 

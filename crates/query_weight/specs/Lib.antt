@@ -1,0 +1,3 @@
+-- What the contracts of `query_weight` cite.
+pub mod Promise
+pub mod Inner

@@ -1,0 +1,70 @@
+// The sum of weights member by member: one way down for each member.
+ghost use Rattle.query_weight.specs.Promise.{WeightCall, byMembers};
+ghost use Rattle.query_weight.specs.Inner.{WalkAsks, Walked};
+use crate::answer::WeightAnswer;
+use crate::answer::Weighed;
+use crate::kept::Kept;
+use crate::kept::kept_sum;
+use crate::weights::answered;
+use crate::weights::weight_at;
+use crate::weights::weight_tested;
+use store::record::Store;
+use store::tests::Test;
+
+// The sum so far, and the weight of each member of a handle whose top is below the bound; `carried` is the weight of
+// the items on the way down to it. A way that comes to {{}} is a member. A sum above the largest number stays above it.
+fn add_members(
+    nodes: &[u32],
+    weights: &[u32],
+    count: u32,
+    p: u32,
+    bound: u32,
+    carried: u64,
+    sum: Kept,
+) -> Kept
+    requires { ⌜ WalkAsks (now nodes) count bound carried ⌝ }
+    ensures { λ r. ⌜ Walked (now (nodes .entry)) (now (weights .entry)) count p bound carried sum r ⌝ }
+{
+    if p == 0 {
+        return sum;
+    }
+    if p == 1 {
+        return kept_sum(sum, Kept { low: carried, above: false });
+    }
+    if sum.above {
+        return sum;
+    }
+    if count + 1 < p {
+        return sum;
+    }
+    let base = 3 * (p - 2) as usize;
+    let item = nodes[base];
+    if bound <= item {
+        return sum;
+    }
+    let lacking = add_members(nodes, weights, count, nodes[base + 1], item, carried, sum);
+    let more = carried + weight_at(weights, item);
+    add_members(nodes, weights, count, nodes[base + 2], item, more, lacking)
+}
+
+// The sum of weights of p, member by member. It is lent scratch as the sum by nodes is, and writes none of it.
+pub fn weight_by_members(
+    store: Store,
+    nodes: &[u32],
+    lookup: &[u32],
+    p: u32,
+    weights: &[u32],
+    scratch: &mut [u64],
+) -> Weighed
+    ensures { λ r. ⌜ WeightCall byMembers store (now (nodes .entry)) (now (lookup .entry)) p (now (weights .entry)) (now (scratch .entry)) r (now (scratch .exit)) ⌝ }
+{
+    let found = weight_tested(store, nodes.len(), lookup.len(), p, weights.len(), scratch.len());
+    if let Test::Refuses(refusal) = found {
+        return Weighed {
+            store: store,
+            answer: WeightAnswer::Refused(refusal),
+        };
+    }
+    let none = Kept { low: 0, above: false };
+    answered(store, add_members(nodes, weights, store.count, p, 513, 0, none))
+}
