@@ -76,8 +76,18 @@ pub type Operation =
 pub type Parity = unsafe extern "C" fn(Record, *mut u32, usize, *mut u32, usize, *mut u32, usize, u32) -> Placed;
 
 /// The shape of the two sums of weights: the record, the words, a family, the weights and the scratch.
-pub type Weighing =
-    unsafe extern "C" fn(Record, *const u32, usize, *const u32, usize, u32, *const u32, usize, *mut u64, usize) -> Weighed;
+pub type Weighing = unsafe extern "C" fn(
+    Record,
+    *const u32,
+    usize,
+    *const u32,
+    usize,
+    u32,
+    *const u32,
+    usize,
+    *mut u64,
+    usize,
+) -> Weighed;
 
 macro_rules! weighings {
     ($($name:ident)*) => {

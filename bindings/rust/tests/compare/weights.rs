@@ -151,6 +151,41 @@ fn weightless_members_under_an_item() -> Result<(), Refusal> {
     Ok(())
 }
 
+// The subsets of two numbers of items, those of one under the items 100 and 101, those of the other under 102 to 104: sums whose parts
+// are far below 2^64, just below it or above.
+#[test]
+fn by_nodes_of_middling_sizes() -> Result<(), Refusal> {
+    let mut rng = Random::new(99);
+    let mut tally = Tally::default();
+    let mut store = Store::new(2000, 1024, 512)?;
+    let all = all_subsets(&mut store, 36);
+    let numbers = [0, 27, 28, 29, 30, 31, 32, 33, 34, 36];
+    let mut families = Vec::new();
+    for (m, n) in numbers.into_iter().flat_map(|m| numbers.map(|n| (m, n))) {
+        let mut sides = [all[m], all[n]];
+        for (side, item) in [(0, 100), (0, 101), (1, 102), (1, 103), (1, 104)] {
+            sides[side] = store.change(sides[side], item)?;
+        }
+        families.push((m, n, store.union(sides[0], sides[1])?));
+    }
+    let shelf = shelf_of(&store);
+    for (m, n, p) in families {
+        for _ in 0..100 {
+            let mut weights = vec![0; 512];
+            for weight in &mut weights[99..104] {
+                let any = rng.word() | 1 << 31;
+                *weight = rng.pick(&[any, any >> 1, u32::MAX, u32::MAX >> 1, 1 << 31, 1, 0]);
+            }
+            let under = |items: &[u32]| items.iter().map(|weight| u128::from(*weight)).sum::<u128>();
+            let sum = (under(&weights[99..101]) << m) + (under(&weights[101..104]) << n);
+            expect(&mut rng, &shelf, true, p, &weights, sum);
+            tally.add("Weights by nodes", weighed(sum).refusal);
+        }
+    }
+    tally.close("sums of weights of middling sizes", 1000, &[("Weights by nodes", &[0, 6])]);
+    Ok(())
+}
+
 // All subsets of the first so many items, each with the item of the block's own, for every block.
 fn blocks(store: &mut Store, items: &[u32], blocks: &[(usize, u32)]) -> Result<u32, Refusal> {
     let mut all = vec![Store::BASE];
@@ -180,7 +215,7 @@ fn share(weights: &mut [u32], blocks: &[(usize, u32)], mut left: u128) {
 fn by_nodes_about_2_to_the_64() -> Result<(), Refusal> {
     let mut rng = Random::new(94);
     let mut above = 0;
-    for k in 0..60 {
+    for k in 0..400 {
         let items = rng.pool(65, 512);
         let own: Vec<_> = [60, 45, 30, 15, 0].into_iter().zip(items[60..].iter().copied()).collect();
         let mut store = Store::new(2000, 1024, 512)?;
@@ -347,7 +382,7 @@ fn any_words(rng: &mut Random, most: usize) -> Shelf {
 fn calls_on_any_words() {
     let mut rng = Random::new(98);
     let mut tally = Tally::default();
-    for k in 0..6000 {
+    for k in 0..40_000 {
         let shelf = any_words(&mut rng, if k % 20 == 0 { 400 } else { 16 });
         let held = shelf.record.count as usize;
         for by_nodes in WAYS {
