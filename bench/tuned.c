@@ -363,7 +363,7 @@ static inline unsigned mark_of(const uint64_t *marks, uint32_t p, pair a) {
     return p < 2 || (a.size != UINT64_MAX && a.sum != UINT64_MAX) ? 0 : (unsigned)marks[p - 2];
 }
 
-/* Size and sum of node k + 2, one of which does not fit or just fits: 2^64 stands for every number above. */
+/* Size and sum of node k + 2 where they may not fit: 2^64 stands for every number above. */
 static void put_large(uint64_t *words, uint64_t *marks, size_t k, uint64_t weight, uint32_t zero, uint32_t one) {
     pair a = pair_of(words, zero), b = pair_of(words, one);
     unsigned of_a = mark_of(marks, zero, a), of_b = mark_of(marks, one, b);
@@ -384,9 +384,8 @@ zdd_weighed tuned_weight_by_nodes(READ, uint32_t p, const uint32_t *weights, siz
         uint64_t weight = weights[nodes[3 * k] - 1];
         uint32_t zero = nodes[3 * k + 1], one = nodes[3 * k + 2];
         pair a = pair_of(words, zero), b = pair_of(words, one);
-        unsigned __int128 size = (unsigned __int128)a.size + b.size, sum = (unsigned __int128)weight * b.size + a.sum + b.sum;
-        words[2 * k] = (uint64_t)size, words[2 * k + 1] = (uint64_t)sum;
-        if (UINT64_MAX <= size || UINT64_MAX <= sum) put_large(words, marks, k, weight, zero, one);
+        if ((a.size | b.size) >> 31 | (a.sum | b.sum) >> 62) put_large(words, marks, k, weight, zero, one);
+        else words[2 * k] = a.size + b.size, words[2 * k + 1] = a.sum + b.sum + weight * b.size;
     }
     pair of_p = pair_of(words, p);
     return mark_of(marks, p, of_p) & 2 ? (zdd_weighed){s, ZDD_LARGE, 0} : (zdd_weighed){s, 0, of_p.sum};
