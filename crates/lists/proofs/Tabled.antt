@@ -2,7 +2,7 @@
 -- Both go by the same tests in document 01's order; each case of the tests is one line.
 use Prim.Native.Nat.{ℕ, _+_, _*_}
 use mathlib.Core.Path.{_≡_, refl, sym, _∙_}
-use mathlib.Core.Bool.{Bool, true, false, cond, not}
+use mathlib.Core.Bool.{Bool, true, cond, not}
 use mathlib.Core.List.{List}
 use mathlib.Core.Option.{Option, none, some}
 use lib.Dec.{eqb, ltb}
@@ -55,29 +55,24 @@ module _ (bounds : Bounds) (B : List Family) where
       by-file none = refl
       by-file (some F) = by-test (ltb (bounds .limit) (top F)) (λ t. rw t) (λ t. rw t)
 
-  -- a call of one handle that is lent scratch: its own test, which may refuse with 11, and one more after the scratch's
-  scratch-table : (p : ℕ) (own : Bool) (scratch need : ℕ) (last : Bool) (m : ℕ)
+  -- a call of one handle: after it the call's own test, which may refuse with 11, that of the scratch, and one more
+  handle-table : (p : ℕ) (own : Bool) (scratch need : ℕ) (last : Bool) (m : ℕ)
       → cond (eqb (testsOf (count B) p 0 (cond own 0 11) scratch need) 0) (cond last m 0) (testsOf (count B) p 0 (cond own 0 11) scratch need)
       ≡ cond (above B p) 4 (cond (not own) 11 (cond (ltb scratch need) 7 (cond last m 0)))
   unfolding testsOf
-  scratch-table p own scratch need last m = rw (le-ltb (count B + 1) 0 (omega arith)) (in-turn (above B p) own (ltb scratch need))
-    where
-      in-turn : (a o s : Bool) → cond (eqb (cond a 4 (cond (eqb (cond o 0 11) 0) (cond s 7 0) (cond o 0 11))) 0) (cond last m 0) (cond a 4 (cond (eqb (cond o 0 11) 0) (cond s 7 0) (cond o 0 11)))
-          ≡ cond a 4 (cond (not o) 11 (cond s 7 (cond last m 0)))
-      in-turn true o s = refl
-      in-turn false false s = refl
-      in-turn false true true = refl
-      in-turn false true false = refl
+  handle-table p own scratch need last m =
+      by-test (above B p) (λ a. rw a)
+      (λ a. rw (a, le-ltb (count B + 1) 0 (omega arith)) (by-test own (λ o. rw o (by-test (ltb scratch need) (λ s. rw s) (λ s. rw s))) (λ o. rw o)))
 
   pub tabled : (call : Call) → bookAnswer bounds B call .refusal ≡ refusalOf bounds B call
   unfolding bookAnswer refusalOf sizeAnswer sizeRefusal weightAnswer weightRefusal weightTests saveRefusal scratchTests hasAnswer hasRefusal testsOf
   tabled (Operate op p q) = place-refusal (operationRefusal (numberOf op) (bounds .limit) (count B) p q) (named (numberOf op) B p q) ∙ sym (operate-table op p q)
   tabled (Parity even p) =
       place-refusal (parityRefusal (count B) p) (parity even (at B p))
-      ∙ by-test (above B p) (λ a. rw a) (λ a. rw (a, le-ltb (count B + 1) 0 (omega arith)))
-  tabled (Size p scratch) = scratch-table p true scratch (count B) (ltb most (size (at B p))) 6
+      ∙ handle-table p true 0 0 (tooLarge (bounds .capacity) B (parity even (at B p))) 5
+  tabled (Size p scratch) = handle-table p true scratch (count B) (ltb most (size (at B p))) 6
   tabled (Has p combination) = by-test (above B p) (λ a. rw a) (λ a. rw (a, le-ltb (count B + 1) 0 (omega arith)))
-  tabled (Weigh way p weights scratch) = scratch-table p (eqb (length weights) largestItem) scratch (3 * count B) (ltb most (sumBy way weights (at B p))) 6
-  tabled (Save p scratch output) = scratch-table p true scratch (count B) (ltb output (length (fileOf (at B p)))) 8
+  tabled (Weigh way p weights scratch) = handle-table p (eqb (length weights) largestItem) scratch (3 * count B) (ltb most (sumBy way weights (at B p))) 6
+  tabled (Save p scratch output) = handle-table p true scratch (count B) (ltb output (length (fileOf (at B p)))) 8
   tabled (Load file scratch) = place-refusal (loadRefusal (bounds .limit) file scratch) (loadFamily file) ∙ sym (load-table file scratch)
   tabled Audit = refl
