@@ -2,5 +2,6 @@
 pub mod answer;
 pub mod by_members;
 pub mod by_nodes;
-mod kept;
-mod weights;
+pub mod kept;
+pub mod numbers;
+pub mod weights;

@@ -5,13 +5,20 @@ ghost use Prim.Native.Nat.{_*_, _≤_, _<_};
 ghost use Rattle.family.specs.Weights.{itemWeight};
 ghost use Rattle.store.specs.Tests.{testNumber, Found};
 ghost use Rattle.query_weight.specs.Promise.{weightsTest};
-use crate::answer::WeightAnswer;
 use crate::answer::Weighed;
+use crate::answer::WeightAnswer;
 use crate::kept::Kept;
 use store::record::Refusal;
 use store::record::Store;
 use store::tests::Test;
 use store::tests::tested;
+
+// A number of 32 bits in a word.
+fn wide(n: u32) -> u64
+    ensures { λ r. ⌜ (r ≡ n) × (r ≤ 4294967295) ⌝ }
+{
+    n as u64
+}
 
 // The weight of an item, which stands one before the item's number; 0 where there is none.
 pub fn weight_at(weights: &[u32], item: u32) -> u64
@@ -22,7 +29,7 @@ pub fn weight_at(weights: &[u32], item: u32) -> u64
     }
     let k = (item - 1) as usize;
     if k < weights.len() {
-        return weights[k] as u64;
+        return wide(weights[k]);
     }
     0
 }
