@@ -12,7 +12,7 @@ use Rattle.family.specs.Family.{Family}
 use Rattle.family.specs.Book.{start, at}
 use Rattle.store.proofs.Testing.{passes}
 use Rattle.query_weight.specs.Promise.{Way, sumBy, weightsTest, weightTests, weightRefusal, weightAnswer}
-use Rattle.query_weight.proofs.Agreeing.{ways-agree}
+use Rattle.query_weight.proofs.Agreeing.{ways-agree, answers-agree}
 use Rattle.lists.specs.Calls.{Call, Weigh, Answer, tells, Answered}
 use Rattle.lists.specs.Acts.{weightReturns, count}
 use Rattle.lists.specs.Books.{Bounds, bookAnswer, bookFrom}
@@ -54,16 +54,12 @@ sum-after : {bounds : Bounds} {slots : ℕ} {calls : List Call} {answers : List 
     → {way : Way} {p : ℕ} {weights : List ℕ} {scratch sum : ℕ} → Answered (Weigh way p weights scratch) (tells sum) calls answers → sum ≡ sumBy way weights (at (bookFrom bounds start calls) p)
 sum-after {bounds} R found = sum-in (between bounds start found (R .answered))
 
--- what the book answers, refused or not
-answers-agree : (bounds : Bounds) (C : List Family) (way other : Way) (p : ℕ) (weights : List ℕ) (scratch : ℕ) → bookAnswer bounds C (Weigh way p weights scratch) ≡ bookAnswer bounds C (Weigh other p weights scratch)
-unfolding bookAnswer weightAnswer weightRefusal
-answers-agree bounds C way other p weights scratch = rw (ways-agree way other weights (at C p))
-
 pub one-sum : OneSumClaim
+unfolding bookAnswer
 one-sum opening calls answers x run =
     let R = reached run in
     let C = bookFrom (boundsOf opening) start calls in
     record {
       same = λ way other p weights scratch more sum its first second. sum-after R first ∙ ways-agree way other weights (at C p) ∙ sym (sum-after R second);
-      alike = λ way other p weights scratch s t. step (R .inv) s .answer-is ∙ answers-agree (boundsOf opening) C way other p weights scratch ∙ sym (step (R .inv) t .answer-is);
+      alike = λ way other p weights scratch s t. step (R .inv) s .answer-is ∙ ap weightReturns (answers-agree way other C p weights scratch) ∙ sym (step (R .inv) t .answer-is);
     }
