@@ -3,12 +3,12 @@ ghost use Rattle.query_weight.specs.Promise.{WeightCall, byMembers};
 ghost use Rattle.query_weight.specs.Inner.{WalkAsks, Walked};
 use crate::answer::Weighed;
 use crate::answer::WeightAnswer;
-use crate::kept::Kept;
-use crate::kept::exact;
-use crate::kept::kept_sum;
-use crate::weights::answered;
-use crate::weights::weight_at;
-use crate::weights::weight_tested;
+use crate::tests::answered;
+use crate::tests::weight_tested;
+use query_sums::kept::Kept;
+use query_sums::kept::exact;
+use query_sums::kept::kept_sum;
+use query_sums::weights::weight_at;
 use store::record::Store;
 use store::tests::Test;
 

@@ -2,6 +2,4 @@
 pub mod answer;
 pub mod by_members;
 pub mod by_nodes;
-pub mod kept;
-pub mod numbers;
-pub mod weights;
+pub mod tests;

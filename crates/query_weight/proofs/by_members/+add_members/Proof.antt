@@ -9,9 +9,9 @@ use borrow.Fn.PlainCycle.{Measures, is, falls, and}
 use Rattle.query_weight.proofs.by_members.add_members.Reads as walk
 use Rattle.query_weight.proofs.by_members.add_members.Kinds as kinds
 use Rattle.query_weight.proofs.by_members.+add_members.Lts-add_members as lts
-use Rattle.query_weight.proofs.kept.exact.Reads as exact-reads
-use Rattle.query_weight.proofs.kept.kept_sum.Reads as kept-sum-reads
-use Rattle.query_weight.proofs.weights.weight_at.Reads as weight-at-reads
+use Rattle.query_sums.proofs.kept.exact.Reads as exact-reads
+use Rattle.query_sums.proofs.kept.kept_sum.Reads as kept-sum-reads
+use Rattle.query_sums.proofs.weights.weight_at.Reads as weight-at-reads
 use Rattle.query_weight.proofs.by_members.+add_members.{statement}
 use Rattle.query_weight.proofs.by_members.+add_members.Tie.{close}
 

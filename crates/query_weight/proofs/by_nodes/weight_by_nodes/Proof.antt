@@ -6,7 +6,7 @@ use native.Mathlib.Omega.{arith}
 use Rattle.store.proofs.Testing.{Tested, tested-clear}
 use lib.ListN.{length}
 use Rattle.query_weight.specs.Promise.{byNodes, weightsTest}
-use Rattle.query_weight.proofs.Filling.{filled-sum, filled-rest}
+use Rattle.query_sums.proofs.Filling.{filled-sum, filled-rest}
 use Rattle.query_weight.proofs.Answering.{weigh-refused, weigh-answered}
 use borrow.Author.Needs.{needs}
 use Rattle.query_weight.proofs.by_nodes.weight_by_nodes.Statement.{statement}
