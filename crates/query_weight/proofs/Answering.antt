@@ -26,12 +26,12 @@ use Rattle.store.proofs.Decoding.{sound-holds}
 use Rattle.store.proofs.Calls.{refusal-some, sound-fits}
 use Rattle.store.proofs.Tested.{count-is}
 use Rattle.store.proofs.Testing.{Tested, tested-refuses}
-use Rattle.query_weight.specs.declared.kept.Kept.{Kept}
+use Rattle.query_sums.specs.declared.kept.Kept.{Kept}
 use Rattle.query_weight.specs.declared.answer.WeightAnswer.the-variants.{Sum, Refused}
 use Rattle.query_weight.specs.declared.answer.Weighed.{Weighed}
 use Rattle.query_weight.specs.Promise.{Way, sumBy, weightGivenBy, weightsTest, weightTests, weightRefusal, weightAnswer, WeightCall}
-use Rattle.query_weight.specs.Inner.{Keeps}
-use Rattle.query_weight.proofs.Keeping.{kept-exact, kept-above}
+use Rattle.query_sums.specs.Inner.{Keeps}
+use Rattle.query_sums.proofs.Keeping.{kept-exact, kept-above}
 
 -- the test of a list of weights
 pub list-refused : (n : ℕ) → (n ≡ 512 → ⊥) → 11 ≡ weightsTest n

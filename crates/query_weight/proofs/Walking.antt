@@ -15,9 +15,10 @@ use Rattle.family.specs.Weights.{itemWeight, sumByMembers, sumByNodes}
 use Rattle.family.proofs.Weights.{sums-agree}
 use Rattle.store.specs.Inner.{Entry, Holds}
 use Rattle.store.proofs.Held.{at-0, at-1, at-node, entry, within}
-use Rattle.query_weight.specs.declared.kept.Kept.{Kept}
-use Rattle.query_weight.specs.Inner.{Keeps, Added, sumBelow, Walked}
-use Rattle.query_weight.proofs.Keeping.{keeps-exact, keeps-larger}
+use Rattle.query_sums.specs.declared.kept.Kept.{Kept}
+use Rattle.query_sums.specs.Inner.{Keeps, Added}
+use Rattle.query_weight.specs.Inner.{sumBelow, Walked}
+use Rattle.query_sums.proofs.Keeping.{keeps-exact, keeps-larger}
 
 below-nodes : (weights : List ℕ) (n : ℕ) (F : Family) → sumBelow weights n F ≡ sumByNodes weights F + n * size F
 below-nodes weights n empty = rw (mul-zero n)
