@@ -4,8 +4,8 @@ ghost use Rattle.c_records.specs.Promise.{weighedOf};
 ghost use Rattle.zdd_c.specs.Promise.{Exported};
 use c_records::CWeighed;
 use c_records::weighed;
-use query_weight::by_members::weight_by_members;
-use query_weight::by_nodes::weight_by_nodes;
+use query_weight::calls::weight_by_members;
+use query_weight::calls::weight_by_nodes;
 use store::record::Store;
 
 // The sum of item weights over the members of p, added member by member.
