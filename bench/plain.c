@@ -493,15 +493,16 @@ static void weigh_large(uint64_t *numbers, uint32_t count, uint32_t j, uint64_t 
 /* Whether the sum of a node over two such handles fits a word, whatever its weight. */
 static bool is_small(pair a) { return a.size <= INT32_MAX && a.sum <= INT64_MAX / 2; }
 
-static void weigh_node(uint64_t *numbers, uint32_t count, uint32_t j, uint64_t weight, uint32_t zero, uint32_t one) {
-    pair without = pair_at(numbers, count, zero), with = pair_at(numbers, count, one);
-    if (!is_small(without) || !is_small(with)) {
-        weigh_large(numbers, count, j, weight, zero, one);
-        return;
-    }
+static void put_small(uint64_t *numbers, uint32_t j, uint64_t weight, pair without, pair with) {
     size_t k = 2 * (size_t)j;
     numbers[k] = without.size + with.size;
     numbers[k + 1] = without.sum + with.sum + weight * with.size;
+}
+
+static void weigh_node(uint64_t *numbers, uint32_t count, uint32_t j, uint64_t weight, uint32_t zero, uint32_t one) {
+    pair without = pair_at(numbers, count, zero), with = pair_at(numbers, count, one);
+    if (is_small(without) && is_small(with)) put_small(numbers, j, weight, without, with);
+    else weigh_large(numbers, count, j, weight, zero, one);
 }
 
 zdd_weighed plain_weight_by_nodes(READ, uint32_t p, const uint32_t *weights, size_t weight_count, uint64_t *scratch,
