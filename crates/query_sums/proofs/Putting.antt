@@ -1,22 +1,20 @@
 -- The numbers of a node in its words: how they are read, and what is put by either way, plain or kept.
 -- Words of small numbers are the numbers; kept sums and products tell which of them are above the largest word.
-use Prim.Native.Nat.{ℕ, _+_, _*_, _-_, _%_, _≤_, _<_, min}
+use Prim.Native.Nat.{ℕ, _+_, _*_, _-_, _≤_, _<_}
 use mathlib.Core.Path.{_≡_, refl, sym, ap, _∙_}
 use mathlib.Core.Bool.{Bool, true, false}
 use mathlib.Core.List.{List}
 use native.Mathlib.Omega.{arith}
 use native.Mathlib.Nat.{mul-le-mul}
-use lib.Dec.{ltb}
 use lib.ListN.{length, getD, set, length-set}
 use lib.Seq.{getD-set-same, getD-set-other}
 use borrow.Author.Tests.{lt-ltb, le-ltb}
-use Rattle.words.specs.Words.{most}
-use Rattle.family.specs.Family.{Family, empty, base, node, size}
+use Rattle.family.specs.Family.{Family, node, size}
 use Rattle.family.specs.Weights.{itemWeight, sumByNodes}
 use Rattle.query_sums.specs.declared.kept.Kept.{Kept}
 use Rattle.query_sums.specs.declared.numbers.Pair.{Pair}
 use Rattle.query_sums.specs.declared.numbers.Both.{Both}
-use Rattle.query_sums.specs.Inner.{Keeps, Added, Multiplied, sizeWord, sumWord, markWord, markOf, sizeMark, sumMark, Carries, Stands, Paired, Told, BothKept, Small, putSmall, putNumbers, NodePut}
+use Rattle.query_sums.specs.Inner.{Keeps, Added, Multiplied, sizeWord, sumWord, markWord, markOf, sizeMark, sumMark, Carries, Paired, Told, BothKept, Small, putSmall, putNumbers, NodePut}
 use Rattle.query_sums.proofs.Keeping.{told-keeps}
 
 module _ (words : List ℕ) (n p : ℕ) where

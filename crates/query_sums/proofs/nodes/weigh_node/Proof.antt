@@ -1,7 +1,6 @@
 -- `weigh_node` puts the numbers of a node.
 -- Those of small children are worked out as they stand, others as kept numbers.
 use native.Mathlib.Omega.{arith}
-use lib.ListN.{length-set}
 use Rattle.query_sums.proofs.Putting.{put-small}
 use borrow.Author.Needs.{needs}
 use Rattle.query_sums.proofs.nodes.weigh_node.Statement.{statement}
