@@ -1,6 +1,7 @@
 // The comparison runs' other side: draws the same lists of calls as the crate `run_replay` and works out every answer from
 // documents 01 and 02 alone. The families are CUDD's zero-suppressed diagrams; nothing of this library is used.
 #include "crafting.h"
+#include "weights.h"
 
 // Even and Odd of p, then Intsec and Union of what they gave.
 static void parity_calls(u32 p, size_t cache) {
@@ -21,10 +22,10 @@ static u32 second_operand(u32 op, u32 x, u32 items) {
     return op < 4 ? drawn_item(x, items) : op < 7 ? drawn_handle(x) : 0;
 }
 
-// One turn: a drawn call, or both parts of the newest family or of a drawn one.
+// One turn: a drawn call, both parts of the newest family or of a drawn one, or Size and both sums of weights.
 static void turn(u32 items, bool whole, size_t cache) {
     Drawn drawn = draw();
-    u32 kind = drawn.kind % 46;
+    u32 kind = drawn.kind % 50;
     Lent lent = lend(drawn.d);
     if (kind < 27) {
         u32 op = operation_of(kind), q = second_operand(op, drawn.b, items);
@@ -47,33 +48,59 @@ static void turn(u32 items, bool whole, size_t cache) {
         audit_call(drawn, lent, cache_part(drawn.c, whole, cache));
     } else if (kind < 45) {
         craft(drawn, 1 + drawn.a % 6, 0);
-    } else {
+    } else if (kind < 46) {
         damage(drawn);
+    } else {
+        u32 p = drawn_handle(drawn.a);
+        bool few = size_call(p, lent, 1100) <= 4096;
+        weight_calls(few, p, drawn_making(drawn, items), lent, scratch(drawn.c, 3 * count(), 3300));
     }
 }
 
-// An operation with all words lent, and the size of what it gives.
-static u32 measured_operation(u32 op, u32 p, u32 q, size_t cache) {
+// An operation with all words lent, the size of what it gives, and where an item is given the sums of its weights.
+static u32 measured_operation(u32 op, u32 p, u32 q, size_t cache, u32 item) {
     u32 handle = operation(op, p, q, lend(63), cache);
-    size_call(handle, lend(63), 1100);
+    if (item == 0) size_call(handle, lend(63), 1100);
+    else every_weight(handle, item);
     return handle;
 }
 
-// All subsets of 1 to 64 items, families of 2^64 - 1 members and of one more, and two parts of 2^63 members each.
+// All subsets of 1 to 65 items, families of 2^64 - 1 members and of one more, two parts of 2^63 members each, and 2^32 + 1
+// members that hold an item; sums of their weights from 63 items on, and of every fourth number of items.
 static void subsets(size_t cache) {
-    u32 all = 1;
+    u32 all = 1, half = 1;
     for (u32 item = 1; item <= 64; item++) {
-        u32 changed = measured_operation(3, all, item, cache);
-        all = measured_operation(4, all, changed, cache);
+        u32 changed = measured_operation(3, all, item, cache, 63 < item ? item : 0);
+        all = measured_operation(4, all, changed, cache, 62 < item || item % 4 == 0 ? item : 0);
+        if (item == 32) half = all;
     }
-    u32 less = measured_operation(6, all, 1, cache);
-    measured_operation(3, less, 65, cache);
-    measured_operation(3, all, 65, cache);
-    u32 single = measured_operation(3, 1, 65, cache);
-    measured_operation(4, less, single, cache);
-    measured_operation(7, all, 0, cache);
-    measured_operation(8, all, 0, cache);
+    u32 less = measured_operation(6, all, 1, cache, 65);
+    measured_operation(3, less, 65, cache, 65);
+    u32 changed = measured_operation(3, all, 65, cache, 65);
+    measured_operation(4, all, changed, cache, 65);
+    u32 single = measured_operation(3, 1, 65, cache, 65);
+    measured_operation(4, less, single, cache, 65);
+    measured_operation(7, all, 0, cache, 65);
+    measured_operation(8, all, 0, cache, 65);
+    u32 other = measured_operation(3, 1, 33, cache, 65);
+    u32 more = measured_operation(4, half, other, cache, 65);
+    measured_operation(3, more, 65, cache, 65);
     parity_calls(less, cache);
+}
+
+// The family of the crafted file, and it without {270}: with all weights 2^32 - 1 the latter's sum is 2^64 - 1, and with
+// 270 at 1 the former's is one more.
+static void heavy(size_t cache) {
+    craft_heavy();
+    load_call(file_length, lend(63), cache, 12400);
+    u32 p = count() + 1;
+    Making making = {2, 1, 0, 0, 512};
+    size_call(p - 1, lend(63), 1100);
+    weight_calls(true, p - 1, making, lend(63), 3300);
+    making.item = 270;
+    making.value = 1;
+    weight_calls(true, p, making, lend(63), 3300);
+    every_weight(p, 270);
 }
 
 // Fresh: a book with {} and {{}} alone.
@@ -120,11 +147,13 @@ static void load_carried(size_t cache) {
     load_call(n, lend(63), cache, 12400);
 }
 
-// Even and Odd of a family of 200 parts.
+// The sums of weights of a family of 200 parts, and its Even and Odd.
 static void tall(size_t cache) {
     craft(draw(), 200, 56);
     load_call(file_length, lend(63), cache, 12400);
-    parity_calls(count() + 1, cache);
+    u32 p = count() + 1;
+    every_weight(p, 200);
+    parity_calls(p, cache);
 }
 
 // The newest family, with the limit among its items if there is room, is saved for the next list.
@@ -138,6 +167,7 @@ static void make_carried(size_t cache) {
 static void calls_of_list(size_t cache, u32 items, u32 calls) {
     load_carried(cache);
     if (items == 70) subsets(cache);
+    if (items == 270) heavy(cache);
     if (items == 512) tall(cache);
     for (u32 k = 0; k < calls; k++) turn(items, 16 < items, cache);
     make_carried(cache);
@@ -177,6 +207,7 @@ static const u32 LISTS[][6] = {
     {12, 7, 0, 512, 2, 130},
     {2701, 907, 4099, 512, 512, 280},
     {240, 83, 64, 511, 3, 320},
+    {901, 307, 1021, 270, 270, 60},
     {3002, 2053, 4096, 70, 70, 270},
     {151, 53, 29, 64, 3, 310},
     {75, 64, 0, 33, 2, 250},

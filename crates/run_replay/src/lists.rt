@@ -2,6 +2,7 @@
 use crate::carried;
 use crate::draw::at_most;
 use crate::draw::draw;
+use crate::heavy;
 use crate::output::answer;
 use crate::output::length;
 use crate::output::record;
@@ -89,8 +90,8 @@ fn turns(
     state
 }
 
-// What comes before the drawn calls: Load of the file of the list before; in the list with 70 items all subsets of 64,
-// in the one with 512 a family of 200 parts.
+// What comes before the drawn calls: Load of the file of the list before; in the list with 70 items all subsets of 65,
+// in the one with 270 families whose weights come to 2^64 - 1 and to 2^64, in the one with 512 a family of 200 parts.
 fn opening(
     items: u32,
     state: State,
@@ -102,6 +103,9 @@ fn opening(
     let loaded = carried::loaded(state, nodes, lookup, cache, file);
     if items == 70 {
         return subsets::lines(loaded, nodes, lookup, cache);
+    }
+    if items == 270 {
+        return heavy::lines(loaded, nodes, lookup, cache, file);
     }
     if items == 512 {
         return tall::lines(loaded, nodes, lookup, cache, file);
@@ -204,7 +208,7 @@ fn list(
     )
 }
 
-// The list of this number: of a set setting, or from 16 on of a drawn one.
+// The list of this number: of a set setting, or from 17 on of a drawn one.
 fn numbered_list(
     k: u32,
     state: State,
@@ -213,7 +217,7 @@ fn numbered_list(
     cache: &mut [u32],
     file: &mut [u8],
 ) -> State {
-    if k < 16 {
+    if k < 17 {
         return list(numbered(k), state, nodes, lookup, cache, file);
     }
     let drawn = draw(state.draw);
@@ -230,7 +234,7 @@ fn lists(nodes: &mut [u32], lookup: &mut [u32], cache: &mut [u32], file: &mut [u
         length: 0,
     };
     let mut k: u32 = 0;
-    while k < 56 {
+    while k < 57 {
         state = numbered_list(k, state, nodes, lookup, cache, file);
         k = k + 1;
     }

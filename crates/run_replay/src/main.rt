@@ -3,6 +3,7 @@ mod audits;
 mod carried;
 mod craft;
 mod draw;
+mod heavy;
 mod lend;
 mod lists;
 mod loads;
@@ -19,6 +20,8 @@ mod subsets;
 mod sums;
 mod tall;
 mod turn;
+mod weighing;
+mod weights;
 
 fn main() {
     lists::all();
