@@ -68,17 +68,17 @@ static void craft(const Drawn &drawn, u32 parts, u32 mask) {
     tally["file drawn"]++;
 }
 
-// Puts the file of a family: of the items 1 to 24 all subsets, each with the items 25 to 268; besides these {269}; besides
-// these {270}.
-static void craft_heavy() {
+// Puts the file of a family: of the items up to `free` all subsets, each with the items up to `fixed`; besides these each
+// item up to `single` alone; and in each of all these the items up to `all`.
+static void craft_shape(u32 free, u32 fixed, u32 single, u32 all) {
     put(0, 1);
-    put_field(1, true, 4, 270);
+    put_field(1, true, 4, all);
     size_t at = 5;
-    for (u32 item = 1; item <= 270; item++) {
-        bool free = item <= 24, single = 268 < item;
-        put(at, 2 * (free || single) + 4 * single);
-        at = put_field(at + 1, free || single, 4, item);
-        at = put_field(at, single, 4, 1);
+    for (u32 item = 1; item <= all; item++) {
+        bool alone = fixed < item && item <= single, both = item <= free || alone;
+        put(at, 2 * both + 4 * alone);
+        at = put_field(at + 1, both, 4, item);
+        at = put_field(at, alone, 4, 1);
     }
     tell_file(at);
 }

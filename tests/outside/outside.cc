@@ -22,10 +22,10 @@ static u32 second_operand(u32 op, u32 x, u32 items) {
     return op < 4 ? drawn_item(x, items) : op < 7 ? drawn_handle(x) : 0;
 }
 
-// One turn: a drawn call, both parts of the newest family or of a drawn one, or Size and both sums of weights.
+// One turn: a drawn call, or both parts of the newest family or of a drawn one.
 static void turn(u32 items, bool whole, size_t cache) {
     Drawn drawn = draw();
-    u32 kind = drawn.kind % 50;
+    u32 kind = drawn.kind % 46;
     Lent lent = lend(drawn.d);
     if (kind < 27) {
         u32 op = operation_of(kind), q = second_operand(op, drawn.b, items);
@@ -48,59 +48,67 @@ static void turn(u32 items, bool whole, size_t cache) {
         audit_call(drawn, lent, cache_part(drawn.c, whole, cache));
     } else if (kind < 45) {
         craft(drawn, 1 + drawn.a % 6, 0);
-    } else if (kind < 46) {
-        damage(drawn);
     } else {
-        u32 p = drawn_handle(drawn.a);
-        bool few = size_call(p, lent, 1100) <= 4096;
-        weight_calls(few, p, drawn_making(drawn, items), lent, scratch(drawn.c, 3 * count(), 3300));
+        damage(drawn);
     }
 }
 
-// An operation with all words lent, the size of what it gives, and where an item is given the sums of its weights.
-static u32 measured_operation(u32 op, u32 p, u32 q, size_t cache, u32 item) {
+// An operation with all words lent, and the size of what it gives.
+static u32 measured_operation(u32 op, u32 p, u32 q, size_t cache) {
     u32 handle = operation(op, p, q, lend(63), cache);
-    if (item == 0) size_call(handle, lend(63), 1100);
-    else every_weight(handle, item);
+    size_call(handle, lend(63), 1100);
     return handle;
 }
 
-// All subsets of 1 to 65 items, families of 2^64 - 1 members and of one more, two parts of 2^63 members each, and 2^32 + 1
-// members that hold an item; sums of their weights from 63 items on, and of every fourth number of items.
+// An operation with all words lent, and the size and the sums of weights of what it gives.
+static u32 weighed_operation(u32 op, u32 p, u32 q, size_t cache) {
+    u32 handle = operation(op, p, q, lend(63), cache);
+    every_weight(handle, 65);
+    return handle;
+}
+
+// All subsets of 1 to 64 items, families of 2^64 - 1 members and of one more, and two parts of 2^63 members each; the sums
+// of weights of the latter.
 static void subsets(size_t cache) {
-    u32 all = 1, half = 1;
+    u32 all = 1;
     for (u32 item = 1; item <= 64; item++) {
-        u32 changed = measured_operation(3, all, item, cache, 63 < item ? item : 0);
-        all = measured_operation(4, all, changed, cache, 62 < item || item % 4 == 0 ? item : 0);
-        if (item == 32) half = all;
+        u32 changed = measured_operation(3, all, item, cache);
+        all = measured_operation(4, all, changed, cache);
     }
-    u32 less = measured_operation(6, all, 1, cache, 65);
-    measured_operation(3, less, 65, cache, 65);
-    u32 changed = measured_operation(3, all, 65, cache, 65);
-    measured_operation(4, all, changed, cache, 65);
-    u32 single = measured_operation(3, 1, 65, cache, 65);
-    measured_operation(4, less, single, cache, 65);
-    measured_operation(7, all, 0, cache, 65);
-    measured_operation(8, all, 0, cache, 65);
-    u32 other = measured_operation(3, 1, 33, cache, 65);
-    u32 more = measured_operation(4, half, other, cache, 65);
-    measured_operation(3, more, 65, cache, 65);
+    u32 less = weighed_operation(6, all, 1, cache);
+    weighed_operation(3, less, 65, cache);
+    weighed_operation(3, all, 65, cache);
+    u32 single = weighed_operation(3, 1, 65, cache);
+    weighed_operation(4, less, single, cache);
+    weighed_operation(7, all, 0, cache);
+    weighed_operation(8, all, 0, cache);
     parity_calls(less, cache);
 }
 
-// The family of the crafted file, and it without {270}: with all weights 2^32 - 1 the latter's sum is 2^64 - 1, and with
-// 270 at 1 the former's is one more.
-static void heavy(size_t cache) {
-    craft_heavy();
-    load_call(file_length, lend(63), cache, 12400);
-    u32 p = count() + 1;
-    Making making = {2, 1, 0, 0, 512};
-    size_call(p - 1, lend(63), 1100);
-    weight_calls(true, p - 1, making, lend(63), 3300);
-    making.item = 270;
-    making.value = 1;
-    weight_calls(true, p, making, lend(63), 3300);
-    every_weight(p, 270);
+// All subsets of 63, 64 and 65 items; 2^64 and 2^32 + 1 members that hold an item; members that hold 2^32 + 1 items in all,
+// and these with one member more.
+static const u32 SHAPES[][4] = {
+    {63, 63, 63, 63},
+    {64, 64, 64, 64},
+    {65, 65, 65, 65},
+    {64, 64, 64, 65},
+    {32, 32, 33, 34},
+    {24, 268, 269, 269},
+    {24, 268, 270, 270},
+};
+
+// The sums of weights of these families, the last in one scratch word too few and in just enough; of the last two families,
+// of some 2^24 members, also by members. With all weights 2^32 - 1 but item 270 at 1 theirs are 2^64 - 1 and 2^64.
+static void shapes(size_t cache) {
+    for (const u32 *s : SHAPES) {
+        craft_shape(s[0], s[1], s[2], s[3]);
+        load_call(file_length, lend(63), cache, 12400);
+        u32 p = count() + 1;
+        Making edge = {2, 1, 270, 1, 512};
+        every_weight(p, s[3]);
+        weight_calls(false, p, edge, lend(63), 3 * count() - 1);
+        weight_calls(s[0] == 24, p, edge, lend(63), 3 * count());
+    }
 }
 
 // Fresh: a book with {} and {{}} alone.
@@ -162,14 +170,17 @@ static void make_carried(size_t cache) {
     save_calls(count() + 1, lend(63), 1100, buffer.size());
 }
 
-// The calls of a list; the last make the file for the next list. One with more than 16 items always lends its whole
-// cache.
+// The calls of a list, after every seventh the sums of weights of a drawn family; the last make the file for the next list.
+// One with more than 16 items always lends its whole cache.
 static void calls_of_list(size_t cache, u32 items, u32 calls) {
     load_carried(cache);
     if (items == 70) subsets(cache);
-    if (items == 270) heavy(cache);
+    if (items == 270) shapes(cache);
     if (items == 512) tall(cache);
-    for (u32 k = 0; k < calls; k++) turn(items, 16 < items, cache);
+    for (u32 left = calls; 0 < left; left--) {
+        turn(items, 16 < items, cache);
+        if (left % 7 == 0) drawn_weights(items);
+    }
     make_carried(cache);
 }
 
@@ -207,7 +218,6 @@ static const u32 LISTS[][6] = {
     {12, 7, 0, 512, 2, 130},
     {2701, 907, 4099, 512, 512, 280},
     {240, 83, 64, 511, 3, 320},
-    {901, 307, 1021, 270, 270, 60},
     {3002, 2053, 4096, 70, 70, 270},
     {151, 53, 29, 64, 3, 310},
     {75, 64, 0, 33, 2, 250},
@@ -227,6 +237,7 @@ int main(int argc, char **argv) {
     all_lookup.assign(2060, 2779096485u);
     for (const u32 *l : LISTS) list(l[0], l[1], l[2], l[3], l[4], l[5]);
     for (int k = 0; k < 40; k++) drawn_list();
+    list(1051, 359, 1021, 270, 270, 60);
     if (argc == 2 && std::strcmp(argv[1], "--tally") == 0) {
         for (const std::pair<const std::string, int> &t : tally) std::printf("%s: %d\n", t.first.c_str(), t.second);
         return 0;

@@ -29,7 +29,7 @@ static u32 weight_of(u32 way, u32 x) {
     case 2: return 4294967295u;
     case 3: return x % 10;
     case 4: return x;
-    default: return x % 16 == 0 ? x : 0;
+    default: return x % 4 == 0 ? x : 0;
     }
 }
 
@@ -157,4 +157,13 @@ static void weight_calls(bool few, u32 p, const Making &making, const Lent &lent
 static void every_weight(u32 p, u32 item) {
     bool few = size_call(p, lend(63), 1100) <= 4096;
     for (u32 k = 0; k < 8; k++) weight_calls(few, p, making_of(k, item, state, 512), lend(63), 3300);
+}
+
+// Size and both sums of a drawn family. These are drawn apart, so that the calls are drawn as they would be without them.
+static void drawn_weights(u32 items) {
+    Drawn drawn = draw_from(state ^ 2779096485u);
+    Lent lent = lend(drawn.d);
+    u32 p = drawn_handle(drawn.a);
+    bool few = size_call(p, lent, 1100) <= 4096;
+    weight_calls(few, p, drawn_making(drawn, items), lent, scratch(drawn.c, 3 * count(), 3300));
 }

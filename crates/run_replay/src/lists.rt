@@ -2,7 +2,6 @@
 use crate::carried;
 use crate::draw::at_most;
 use crate::draw::draw;
-use crate::heavy;
 use crate::output::answer;
 use crate::output::length;
 use crate::output::record;
@@ -14,6 +13,7 @@ use crate::placing::words;
 use crate::settings::Setting;
 use crate::settings::drawn_setting;
 use crate::settings::numbered;
+use crate::shapes;
 use crate::state::State;
 use crate::state::with_file;
 use crate::state::with_fresh;
@@ -24,6 +24,7 @@ use crate::sums::spare;
 use crate::tall;
 use crate::turn::Manner;
 use crate::turn::turn;
+use crate::weighing;
 use store::record::Store;
 use store_fresh::FreshAnswer;
 use store_fresh::Freshened;
@@ -71,6 +72,13 @@ fn fresh_line(limit: u32, nodes: &mut [u32], lookup: &mut [u32], cache: &mut [u3
     freshened
 }
 
+// After every seventh call, the sums of weights of a drawn family.
+fn sums_after(left: u32, items: u32, state: State, nodes: &[u32], lookup: &[u32]) {
+    if left % 7 == 0 {
+        weighing::drawn_lines(items, state, nodes, lookup);
+    }
+}
+
 // So many drawn calls.
 fn turns(
     calls: u32,
@@ -85,13 +93,14 @@ fn turns(
     let mut left = calls;
     while 0 < left {
         state = turn(manner, state, nodes, lookup, cache, file);
+        sums_after(left, manner.items, state, nodes, lookup);
         left = left - 1;
     }
     state
 }
 
-// What comes before the drawn calls: Load of the file of the list before; in the list with 70 items all subsets of 65,
-// in the one with 270 families whose weights come to 2^64 - 1 and to 2^64, in the one with 512 a family of 200 parts.
+// What comes before the drawn calls: Load of the file of the list before; in the list with 70 items all subsets of 64,
+// in the one with 270 families of simple shapes, in the one with 512 a family of 200 parts.
 fn opening(
     items: u32,
     state: State,
@@ -105,7 +114,7 @@ fn opening(
         return subsets::lines(loaded, nodes, lookup, cache);
     }
     if items == 270 {
-        return heavy::lines(loaded, nodes, lookup, cache, file);
+        return shapes::lines(loaded, nodes, lookup, cache, file);
     }
     if items == 512 {
         return tall::lines(loaded, nodes, lookup, cache, file);
@@ -208,7 +217,7 @@ fn list(
     )
 }
 
-// The list of this number: of a set setting, or from 17 on of a drawn one.
+// The list of this number: of a set setting, or from 16 on, but for the last, of a drawn one.
 fn numbered_list(
     k: u32,
     state: State,
@@ -217,8 +226,11 @@ fn numbered_list(
     cache: &mut [u32],
     file: &mut [u8],
 ) -> State {
-    if k < 17 {
+    if k < 16 {
         return list(numbered(k), state, nodes, lookup, cache, file);
+    }
+    if k == 56 {
+        return list(numbered(16), state, nodes, lookup, cache, file);
     }
     let drawn = draw(state.draw);
     let start = with_file(state, drawn.d, state.length);

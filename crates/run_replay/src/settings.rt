@@ -25,7 +25,7 @@ fn of(nodes: usize, lookup: usize, cache: usize, limit: u32, items: u32, calls: 
 }
 
 // The setting of a list by its number. The first six are refused by Fresh; the limits of the others fall, so that the
-// file of most has an item above the next one's limit.
+// file of most has an item above the next one's limit. That of number 16 comes after the drawn ones.
 pub fn numbered(list: u32) -> Setting {
     match list {
         0 => of(2, 5, 8, 0, 3, 12),
@@ -37,14 +37,14 @@ pub fn numbered(list: u32) -> Setting {
         6 => of(12, 7, 0, 512, 2, 130),
         7 => of(2701, 907, 4099, 512, 512, 280),
         8 => of(240, 83, 64, 511, 3, 320),
-        9 => of(901, 307, 1021, 270, 270, 60),
-        10 => of(3002, 2053, 4096, 70, 70, 270),
-        11 => of(151, 53, 29, 64, 3, 310),
-        12 => of(75, 64, 0, 33, 2, 250),
-        13 => of(43, 15, 4, 32, 2, 220),
-        14 => of(600, 211, 255, 31, 5, 320),
-        15 => of(14, 5, 3, 2, 2, 130),
-        _ => of(3, 2, 0, 1, 1, 80),
+        9 => of(3002, 2053, 4096, 70, 70, 270),
+        10 => of(151, 53, 29, 64, 3, 310),
+        11 => of(75, 64, 0, 33, 2, 250),
+        12 => of(43, 15, 4, 32, 2, 220),
+        13 => of(600, 211, 255, 31, 5, 320),
+        14 => of(14, 5, 3, 2, 2, 130),
+        15 => of(3, 2, 0, 1, 1, 80),
+        _ => of(1051, 359, 1021, 270, 270, 60),
     }
 }
 

@@ -1,4 +1,4 @@
-// One turn of a list: draws a call, both parts of a family or both sums of its weights, runs it and writes its lines.
+// One turn of a list: draws a call, or both parts of a family, runs it and writes its lines.
 use crate::audits;
 use crate::craft;
 use crate::craft::put;
@@ -28,8 +28,6 @@ use crate::state::State;
 use crate::state::newest;
 use crate::state::with_file;
 use crate::state::with_placed;
-use crate::weighing;
-use crate::weights::drawn_weights;
 use store::record::Store;
 
 // How the calls of a list are drawn: the items, and whether the cache is always lent whole.
@@ -69,18 +67,6 @@ fn size(drawn: Drawn, state: State, nodes: &[u32], lookup: &[u32]) -> State {
     let lent = lend(0, drawn.d, true, store, lookup.len(), 0);
     let words = scratch(drawn.c, store.count as usize, 1100);
     sizes::line(p, words, lent, nodes, lookup);
-    state
-}
-
-// Size, and both sums of weights, by members only of few.
-fn weigh(drawn: Drawn, manner: Manner, state: State, nodes: &[u32], lookup: &[u32]) -> State {
-    let store = state.store;
-    let p = handle(drawn.a, store.count);
-    let lent = lend(0, drawn.d, true, store, lookup.len(), 0);
-    let weights = drawn_weights(drawn, manner.items, store.limit);
-    let words = scratch(drawn.c, 3 * store.count as usize, 3300);
-    let few = sizes::few(p, lent, nodes, lookup);
-    weighing::lines(few, p, words, weights, lent, nodes, lookup);
     state
 }
 
@@ -266,7 +252,7 @@ fn writing(kind: u32, drawn: Drawn, state: State, file: &mut [u8]) -> State {
     damaged(drawn, state, file)
 }
 
-// Draws a call, both parts of a family or both sums of its weights, runs it and writes its lines.
+// Draws a call, or both parts of a family, runs it and writes its lines.
 pub fn turn(
     manner: Manner,
     state: State,
@@ -277,7 +263,7 @@ pub fn turn(
 ) -> State {
     let drawn = draw(state.draw);
     let now = with_file(state, drawn.d, state.length);
-    let kind = drawn.kind % 50;
+    let kind = drawn.kind % 46;
     if kind < 29 {
         return operating(kind, drawn, manner, now, nodes, lookup, cache);
     }
@@ -290,8 +276,5 @@ pub fn turn(
     if kind < 42 {
         return audit(drawn, manner, now, nodes, lookup, cache);
     }
-    if kind < 46 {
-        return writing(kind, drawn, now, file);
-    }
-    weigh(drawn, manner, now, nodes, lookup)
+    writing(kind, drawn, now, file)
 }

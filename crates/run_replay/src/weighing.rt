@@ -1,6 +1,10 @@
 // The lines of the two sums of weights.
 use crate::draw::at_most;
+use crate::draw::draw;
+use crate::draw::handle;
 use crate::lend::Lent;
+use crate::lend::lend;
+use crate::lend::scratch;
 use crate::output::answer;
 use crate::output::lent_three;
 use crate::output::number;
@@ -10,9 +14,12 @@ use crate::output::text;
 use crate::output::word;
 use crate::saves::free_until;
 use crate::sizes;
+use crate::state::State;
+use crate::sums::MARK;
 use crate::sums::WIDE_MARK;
 use crate::sums::wide_kept;
 use crate::weights::Weights;
+use crate::weights::drawn_weights;
 use crate::weights::made_text;
 use crate::weights::make;
 use crate::weights::numbered;
@@ -158,4 +165,17 @@ pub fn every(p: u32, item: u32, draw: u32, lent: Lent, nodes: &[u32], lookup: &[
         lines(few, p, 3300, weights, lent, nodes, lookup);
         k = k + 1;
     }
+}
+
+// Measures a drawn family, asks for both sums and writes the lines. These are drawn apart, so that the calls are drawn as
+// they would be without them.
+pub fn drawn_lines(items: u32, state: State, nodes: &[u32], lookup: &[u32]) {
+    let drawn = draw(state.draw ^ MARK);
+    let store = state.store;
+    let p = handle(drawn.a, store.count);
+    let lent = lend(0, drawn.d, true, store, lookup.len(), 0);
+    let weights = drawn_weights(drawn, items, store.limit);
+    let words = scratch(drawn.c, 3 * store.count as usize, 3300);
+    let few = sizes::few(p, lent, nodes, lookup);
+    lines(few, p, words, weights, lent, nodes, lookup);
 }

@@ -63,9 +63,9 @@ pub fn drawn_weights(drawn: Drawn, items: u32, limit: u32) -> Weights {
     numbered(drawn.b % 8, apart, drawn.b, long_of(drawn.c / 8))
 }
 
-// The number itself, once in sixteen times; else 0.
+// The number itself where it is a multiple of four, else 0.
 fn seldom(x: u32) -> u32 {
-    if x % 16 == 0 {
+    if x % 4 == 0 {
         return x;
     }
     0

@@ -1,5 +1,5 @@
 -- `steps` is safe and ends: the measure is the number of steps that are left.
--- Each turn keeps the lengths of the lent words, and the step stays below 140.
+-- Each turn keeps the lengths of the lent words, and the step stays below 136.
 use mathlib.Core.Path.{_≡_}
 use Prim.Native.Nat.{_-_, _≤_}
 use lib.ListN.{length}
@@ -8,10 +8,10 @@ use Rattle.run_replay.proofs.subsets.steps.Statement.{statement}
 use Rattle.run_replay.proofs.subsets.steps.Tie as tie
 
 abbrev Inv-loop : tie.InvT-loop
-Inv-loop nodes₀ lookup₀ cache₀ built₀ step₀ nodes lookup cache built step = (length nodes ≡ length nodes₀) × (length lookup ≡ length lookup₀) × (length cache ≡ length cache₀) × (step ≤ 139)
+Inv-loop nodes₀ lookup₀ cache₀ built₀ step₀ nodes lookup cache built step = (length nodes ≡ length nodes₀) × (length lookup ≡ length lookup₀) × (length cache ≡ length cache₀) × (step ≤ 135)
 
 abbrev μ-loop : tie.MeasureT-loop
-μ-loop nodes₀ lookup₀ cache₀ built₀ step₀ nodes lookup cache built step = 139 - step
+μ-loop nodes₀ lookup₀ cache₀ built₀ step₀ nodes lookup cache built step = 135 - step
 
 loop-holds : tie.Need-loop-holds Inv-loop μ-loop
 loop-holds c = search needs
