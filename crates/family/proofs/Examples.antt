@@ -1,14 +1,16 @@
--- Worked examples of the definitions, computed by the checker: document 01's families, their numbers, its files, and
--- parts of either parity.
+-- Worked examples of the definitions, computed by the checker: document 01's families, their numbers, its files,
+-- parts of either parity, and sums of weights.
 -- Each holds by computation alone.
 use Prim.Native.Nat.{ℕ, zero, suc, _*_, _^_}
 use mathlib.Core.Path.{_≡_, refl}
 use mathlib.Core.Bool.{true, false, decide}
-use mathlib.Core.List.{[], _∷_}
+use mathlib.Core.List.{List, [], _∷_, _++_}
 use mathlib.Core.Option.{none, some}
+use lib.ListN.{replicate}
 use Rattle.family.specs.Family.{Family, empty, base, node, members, size, parts}
 use Rattle.family.specs.Operation.{subset1, subset0, change, union, intsec, diff, combine}
 use Rattle.family.specs.Parity.{parity}
+use Rattle.family.specs.Weights.{sumByMembers, sumByNodes}
 use Rattle.family.specs.Book.{start, same, add, place}
 use Rattle.family.specs.Parts.{partCount}
 use Rattle.family.specs.Record.{mapOf, recordBytes, readFields, readRecord}
@@ -94,6 +96,26 @@ even-all = refl
 
 odd-all : members (parity false (all 2)) ≡ (1 ∷ []) ∷ (2 ∷ []) ∷ []
 odd-all = refl
+
+-- weights 10, 20 and 40: item 1's is the first, and each item is in four of the eight subsets of three
+weigh-one : sumByMembers (10 ∷ 20 ∷ 40 ∷ []) one ≡ 10
+unfolding sumByMembers
+weigh-one = refl
+
+weigh-all : sumByMembers (10 ∷ 20 ∷ 40 ∷ []) (all 3) ≡ 280
+unfolding sumByMembers
+weigh-all = refl
+
+weigh-nodes : sumByNodes (10 ∷ 20 ∷ 40 ∷ []) (all 3) ≡ 280
+weigh-nodes = refl
+
+-- all subsets of 64 items of weight 0 under an item of weight 1: the size of the with-side, 2^64, is what they sum to
+weigh-above : sumByNodes (replicate 64 0 ++ (1 ∷ [])) (node 65 empty (all 64)) ≡ 2 ^ 64
+weigh-above = refl
+
+-- and without that item they sum to 0, though Size cannot count them
+weigh-weightless : sumByNodes (replicate 64 0) (all 64) ≡ 0
+weigh-weightless = refl
 
 -- "Save of 2", "Save of 4", and the files that get 9
 save-one : fileOf one ≡ 0x01 ∷ 0x01 ∷ 0x00 ∷ 0x00 ∷ 0x00 ∷ 0x00 ∷ []

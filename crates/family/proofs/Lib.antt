@@ -6,6 +6,7 @@ pub mod Combine
 pub mod Parity
 pub mod Restrict
 pub mod Members
+pub mod Weights
 pub mod Books
 pub mod Placing
 pub mod Different

@@ -1,13 +1,14 @@
 // The sum of weights member by member: one way down for each member.
 ghost use Rattle.query_weight.specs.Promise.{WeightCall, byMembers};
 ghost use Rattle.query_weight.specs.Inner.{WalkAsks, Walked};
-use crate::answer::WeightAnswer;
 use crate::answer::Weighed;
-use crate::kept::Kept;
-use crate::kept::kept_sum;
-use crate::weights::answered;
-use crate::weights::weight_at;
-use crate::weights::weight_tested;
+use crate::answer::WeightAnswer;
+use crate::tests::answered;
+use crate::tests::weight_tested;
+use query_sums::kept::Kept;
+use query_sums::kept::exact;
+use query_sums::kept::kept_sum;
+use query_sums::weights::weight_at;
 use store::record::Store;
 use store::tests::Test;
 
@@ -29,7 +30,7 @@ fn add_members(
         return sum;
     }
     if p == 1 {
-        return kept_sum(sum, Kept { low: carried, above: false });
+        return kept_sum(sum, exact(carried));
     }
     if sum.above {
         return sum;
@@ -58,13 +59,20 @@ pub fn weight_by_members(
 ) -> Weighed
     ensures { λ r. ⌜ WeightCall byMembers store (now (nodes .entry)) (now (lookup .entry)) p (now (weights .entry)) (now (scratch .entry)) r (now (scratch .exit)) ⌝ }
 {
-    let found = weight_tested(store, nodes.len(), lookup.len(), p, weights.len(), scratch.len());
+    let found = weight_tested(
+        store,
+        nodes.len(),
+        lookup.len(),
+        p,
+        weights.len(),
+        scratch.len(),
+    );
     if let Test::Refuses(refusal) = found {
         return Weighed {
             store: store,
             answer: WeightAnswer::Refused(refusal),
         };
     }
-    let none = Kept { low: 0, above: false };
-    answered(store, add_members(nodes, weights, store.count, p, 513, 0, none))
+    let sum = add_members(nodes, weights, store.count, p, 513, 0, exact(0));
+    answered(store, sum)
 }

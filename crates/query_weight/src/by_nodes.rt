@@ -1,47 +1,40 @@
-// The sum of weights node by node, from the smallest number up. Words 2k and 2k + 1 of the scratch then hold the size and
-// the sum of node k + 2, each at most 2^64 - 1; where one of them is that, word 2n + k, n being the count, is the node's
-// mark: it tells which of the two is above it.
-ghost use mathlib.Core.Path.{_≡_};
+// The sum of weights node by node, from the smallest number up.
 ghost use Rattle.query_weight.specs.Promise.{WeightCall, byNodes};
-ghost use Rattle.query_weight.specs.Inner.{markOf, FillAsks, NodeAsks, Filled, Paired, Marked, BothKept, Put};
-use crate::answer::WeightAnswer;
 use crate::answer::Weighed;
-use crate::kept::Kept;
-use crate::kept::kept_product;
-use crate::kept::kept_sum;
-use crate::weights::answered;
-use crate::weights::weight_at;
-use crate::weights::weight_tested;
+use crate::answer::WeightAnswer;
+use crate::tests::answered;
+use crate::tests::weight_tested;
+use query_sums::nodes::weigh_nodes;
+use query_sums::numbers::both_at;
 use store::record::Store;
 use store::tests::Test;
 
-// The size and the sum of a handle as its words have them.
-pub struct Pair {
-    pub size: u64,
-    pub sum: u64,
-}
-
-// The size and the sum of a handle.
-pub struct Both {
-    pub size: Kept,
-    pub sum: Kept,
-}
-
-// The words of a handle; {} and {{}} have none, and their sum is 0.
-fn pair_at(words: &[u64], count: u32, p: u32) -> Pair
+// The sum of weights of p, node by node.
+pub fn weight_by_nodes(
+    store: Store,
+    nodes: &[u32],
+    lookup: &[u32],
+    p: u32,
+    weights: &[u32],
+    scratch: &mut [u64],
+) -> Weighed
+    ensures { λ r. ⌜ WeightCall byNodes store (now (nodes .entry)) (now (lookup .entry)) p (now (weights .entry)) (now (scratch .entry)) r (now (scratch .exit)) ⌝ }
 {
-    if p < 2 {
-        return Pair {
-            size: p as u64,
-            sum: 0,
+    let found = weight_tested(
+        store,
+        nodes.len(),
+        lookup.len(),
+        p,
+        weights.len(),
+        scratch.len(),
+    );
+    if let Test::Refuses(refusal) = found {
+        return Weighed {
+            store: store,
+            answer: WeightAnswer::Refused(refusal),
         };
     }
-    if count <= p - 2 {
-        return Pair { size: 0, sum: 0 };
-    }
-    let k = 2 * (p - 2) as usize;
-    Pair {
-        size: words[k],
-        sum: words[k + 1],
-    }
+    weigh_nodes(nodes, weights, scratch, store.count, p);
+    let both = both_at(scratch, store.count, p);
+    answered(store, both.sum)
 }

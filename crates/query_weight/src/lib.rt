@@ -2,5 +2,4 @@
 pub mod answer;
 pub mod by_members;
 pub mod by_nodes;
-mod kept;
-mod weights;
+pub mod tests;

@@ -1,31 +1,16 @@
-// What both calls share: the weight of an item, the tests, and the answer.
+// What both calls share: the tests and the answer.
 ghost use mathlib.Core.Path.{_≡_};
 ghost use mathlib.Core.Bool.{cond};
-ghost use Prim.Native.Nat.{_*_, _≤_, _<_};
-ghost use Rattle.family.specs.Weights.{itemWeight};
+ghost use Prim.Native.Nat.{_*_};
 ghost use Rattle.store.specs.Tests.{testNumber, Found};
 ghost use Rattle.query_weight.specs.Promise.{weightsTest};
-use crate::answer::WeightAnswer;
 use crate::answer::Weighed;
-use crate::kept::Kept;
+use crate::answer::WeightAnswer;
+use query_sums::kept::Kept;
 use store::record::Refusal;
 use store::record::Store;
 use store::tests::Test;
 use store::tests::tested;
-
-// The weight of an item, which stands one before the item's number; 0 where there is none.
-pub fn weight_at(weights: &[u32], item: u32) -> u64
-    ensures { λ r. ⌜ (r ≤ 4294967295) × (0 < item → r ≡ itemWeight (now (weights .entry)) item) ⌝ }
-{
-    if item == 0 {
-        return 0;
-    }
-    let k = (item - 1) as usize;
-    if k < weights.len() {
-        return weights[k] as u64;
-    }
-    0
-}
 
 // The test of a list of weights.
 fn weights_test(long: usize) -> Test

@@ -1,10 +1,22 @@
 // Numbers of any size: each as a word and whether it is above what a word holds.
-ghost use Rattle.query_weight.specs.Inner.{Added, Multiplied};
+ghost use mathlib.Core.Path.{_≡_};
+ghost use mathlib.Core.Bool.{false};
+ghost use Rattle.query_sums.specs.Inner.{Added, Multiplied};
 
 // A number, at most 2^64 - 1, and whether it is above that.
 pub struct Kept {
     pub low: u64,
     pub above: bool,
+}
+
+// A number that fits a word.
+pub fn exact(n: u64) -> Kept
+    ensures { λ r. ⌜ (r .low ≡ n) × (r .above ≡ false) ⌝ }
+{
+    Kept {
+        low: n,
+        above: false,
+    }
 }
 
 // The sum of two numbers.
@@ -23,10 +35,7 @@ pub fn kept_sum(a: Kept, b: Kept) -> Kept
             above: true,
         };
     }
-    Kept {
-        low: a.low + b.low,
-        above: false,
-    }
+    exact(a.low + b.low)
 }
 
 // A weight times a number: a weight of 0 makes 0 of any number.
@@ -34,10 +43,7 @@ pub fn kept_product(weight: u64, a: Kept) -> Kept
     ensures { λ r. ⌜ Multiplied weight a r ⌝ }
 {
     if weight == 0 {
-        return Kept {
-            low: 0,
-            above: false,
-        };
+        return exact(0);
     }
     if a.above {
         return a;
@@ -48,8 +54,5 @@ pub fn kept_product(weight: u64, a: Kept) -> Kept
             above: true,
         };
     }
-    Kept {
-        low: weight * a.low,
-        above: false,
-    }
+    exact(weight * a.low)
 }

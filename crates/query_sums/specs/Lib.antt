@@ -1,0 +1,2 @@
+-- What the contracts of `query_sums` cite.
+pub mod Inner
