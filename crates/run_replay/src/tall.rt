@@ -14,6 +14,18 @@ fn crafted(state: State, file: &mut [u8]) -> State {
     craft::line(made, state, file)
 }
 
+// Loads the family.
+fn loaded(
+    start: State,
+    nodes: &mut [u32],
+    lookup: &mut [u32],
+    cache: &mut [u32],
+    file: &mut [u8],
+) -> State {
+    let made = crafted(start, file);
+    load(made.length, 12400, made, nodes, lookup, cache, file)
+}
+
 // The sums of p.
 fn sums(p: u32, state: State, nodes: &[u32], lookup: &[u32]) {
     let lent = everything(state.store, lookup.len(), 0);
@@ -28,9 +40,8 @@ pub fn lines(
     cache: &mut [u32],
     file: &mut [u8],
 ) -> State {
-    let made = crafted(start, file);
-    let loaded = load(made.length, 12400, made, nodes, lookup, cache, file);
-    let p = newest(loaded.store);
-    sums(p, loaded, nodes, lookup);
-    parity::lines(p, cache.len(), loaded, nodes, lookup, cache)
+    let state = loaded(start, nodes, lookup, cache, file);
+    let p = newest(state.store);
+    sums(p, state, nodes, lookup);
+    parity::lines(p, cache.len(), state, nodes, lookup, cache)
 }

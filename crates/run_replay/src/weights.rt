@@ -83,18 +83,7 @@ fn weight(way: u32, x: u32) -> u32 {
     }
 }
 
-// Fills a list with the weights of a way.
-fn fill(way: u32, start: u32, list: &mut [u32]) {
-    let mut draw = start;
-    let mut at: usize = 0;
-    while at < list.len() {
-        draw = step(draw);
-        list[at] = weight(way, draw);
-        at = at + 1;
-    }
-}
-
-// Sets the weight of an item.
+// Sets the weight of an item, if the list reaches so far.
 fn put(list: &mut [u32], item: u32, value: u32) {
     if item == 0 {
         return;
@@ -102,6 +91,17 @@ fn put(list: &mut [u32], item: u32, value: u32) {
     let at = (item - 1) as usize;
     if at < list.len() {
         list[at] = value;
+    }
+}
+
+// Sets the weights of the items 1 to 513 by a way.
+fn fill(way: u32, start: u32, list: &mut [u32]) {
+    let mut draw = start;
+    let mut item: u32 = 1;
+    while item < 514 {
+        draw = step(draw);
+        put(list, item, weight(way, draw));
+        item = item + 1;
     }
 }
 

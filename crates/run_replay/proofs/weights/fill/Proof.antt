@@ -1,17 +1,17 @@
--- `fill` is safe and ends: the measure is the number of weights that are left.
--- Each turn keeps the length of the list.
+-- `fill` is safe and ends: the measure is the number of items that are left.
+-- Each turn keeps the length of the list, and the item stays below 515.
 use mathlib.Core.Path.{_≡_}
-use Prim.Native.Nat.{_-_}
+use Prim.Native.Nat.{_-_, _≤_}
 use lib.ListN.{length}
 use borrow.Author.Needs.{needs}
 use Rattle.run_replay.proofs.weights.fill.Statement.{statement}
 use Rattle.run_replay.proofs.weights.fill.Tie as tie
 
 abbrev Inv-loop : tie.InvT-loop
-Inv-loop way start list₀ draw₀ at₀ list draw at = length list ≡ length list₀
+Inv-loop way start list₀ draw₀ item₀ list draw item = (length list ≡ length list₀) × (item ≤ 514)
 
 abbrev μ-loop : tie.MeasureT-loop
-μ-loop way start list₀ draw₀ at₀ list draw at = length list - at
+μ-loop way start list₀ draw₀ item₀ list draw item = 514 - item
 
 loop-holds : tie.Need-loop-holds Inv-loop μ-loop
 loop-holds c = search needs
@@ -22,8 +22,11 @@ step-requires c κs = search needs
 weight-requires : tie.Need-weight-requires Inv-loop μ-loop
 weight-requires c κs = search needs
 
-add-at : tie.Need-add-at Inv-loop μ-loop
-add-at c = search needs
+put-requires : tie.Need-put-requires Inv-loop μ-loop
+put-requires c κs = search needs
+
+add-item : tie.Need-add-item Inv-loop μ-loop
+add-item c = search needs
 
 loop-less : tie.Need-loop-less Inv-loop μ-loop
 loop-less c = search needs
@@ -46,7 +49,8 @@ fill-spec =
     loop-holds
     step-requires
     weight-requires
-    add-at
+    put-requires
+    add-item
     loop-less
     loop-again
     same-length
