@@ -1,5 +1,6 @@
 // The lists: Fresh, then so many drawn calls.
 use crate::carried;
+use crate::draw::Drawn;
 use crate::draw::at_most;
 use crate::draw::draw;
 use crate::output::answer;
@@ -11,8 +12,8 @@ use crate::output::text;
 use crate::output::word;
 use crate::placing::words;
 use crate::settings::Setting;
-use crate::settings::drawn_setting;
-use crate::settings::numbered;
+use crate::settings::is_drawn;
+use crate::settings::setting_of;
 use crate::shapes;
 use crate::state::State;
 use crate::state::with_file;
@@ -217,7 +218,15 @@ fn list(
     )
 }
 
-// The list of this number: of a set setting, or from 16 on, but for the last, of a drawn one.
+// The state before a list: what its setting is drawn from is used up.
+fn start_of(k: u32, drawn: Drawn, state: State) -> State {
+    if is_drawn(k) {
+        return with_file(state, drawn.d, state.length);
+    }
+    state
+}
+
+// The list of this number.
 fn numbered_list(
     k: u32,
     state: State,
@@ -226,15 +235,10 @@ fn numbered_list(
     cache: &mut [u32],
     file: &mut [u8],
 ) -> State {
-    if k < 16 {
-        return list(numbered(k), state, nodes, lookup, cache, file);
-    }
-    if k == 56 {
-        return list(numbered(16), state, nodes, lookup, cache, file);
-    }
     let drawn = draw(state.draw);
-    let start = with_file(state, drawn.d, state.length);
-    list(drawn_setting(drawn), start, nodes, lookup, cache, file)
+    let setting = setting_of(k, drawn);
+    let start = start_of(k, drawn, state);
+    list(setting, start, nodes, lookup, cache, file)
 }
 
 // All lists, one after the other on the same words.
