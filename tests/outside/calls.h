@@ -96,8 +96,8 @@ static u32 operation(u32 op, u32 p, u32 q, const Lent &lent, size_t cache) {
     return handle;
 }
 
-// Size; the scratch is summed whole.
-static void size_call(u32 p, const Lent &lent, size_t words) {
+// Size; the scratch is summed whole. Gives the number of members, 0 where Size is refused whatever that is.
+static Size size_call(u32 p, const Lent &lent, size_t words) {
     called("Size");
     text("Size");
     num(p);
@@ -106,6 +106,7 @@ static void size_call(u32 p, const Lent &lent, size_t words) {
     num(words);
     text(":");
     std::vector<u64> lent_sizes(1100, 12297829382473034410ull);
+    Size members = 0;
     if (damaged(lent)) refused(10);
     else if (!held(p)) refused(4);
     else if (words < count()) refused(7);
@@ -114,14 +115,16 @@ static void size_call(u32 p, const Lent &lent, size_t words) {
             Size s = size_of(book[j + 2]);
             lent_sizes[j] = MOST < s ? MOST : (u64)s;
         }
-        if (MOST < size_of(book[p])) refused(6);
-        else num((u64)size_of(book[p]));
+        members = size_of(book[p]);
+        if (MOST < members) refused(6);
+        else num((u64)members);
     }
     record(lent.n, lent.room, lent.limit);
     u32 s = 1;
     for (size_t k = 0; k < lent_sizes.size(); k++) s = sum_word(sum_word(s, (u32)lent_sizes[k]), (u32)(lent_sizes[k] >> 32));
     sum(s);
     text("\n");
+    return members;
 }
 
 // A member of p that the draw picks; the empty combination where p is not held.

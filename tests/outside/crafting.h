@@ -36,6 +36,14 @@ static u32 craft_one(u32 x, u32 local) {
     return local - 1;
 }
 
+// Writes the file in the buffer.
+static void tell_file(size_t length) {
+    file_length = length;
+    text("Craft");
+    bytes(buffer, length);
+    text("\n");
+}
+
 // Puts a drawn file of so many records at the front of the buffer. The mask goes into every draw: with 0 the records
 // are mostly near to those of a true file; with 56 the file is true, each item the next and each one child the record
 // before.
@@ -56,11 +64,23 @@ static void craft(const Drawn &drawn, u32 parts, u32 mask) {
         item = next;
         state = d;
     }
-    file_length = way == 3 ? at + 1 : at;
-    text("Craft");
-    bytes(buffer, file_length);
-    text("\n");
+    tell_file(way == 3 ? at + 1 : at);
     tally["file drawn"]++;
+}
+
+// Puts the file of a family: of the items up to `free` all subsets, each with the items up to `fixed`; besides these each
+// item up to `single` alone; and in each of all these the items up to `all`.
+static void craft_shape(u32 free, u32 fixed, u32 single, u32 all) {
+    put(0, 1);
+    put_field(1, true, 4, all);
+    size_t at = 5;
+    for (u32 item = 1; item <= all; item++) {
+        bool alone = fixed < item && item <= single, both = item <= free || alone;
+        put(at, 2 * both + 4 * alone);
+        at = put_field(at + 1, both, 4, item);
+        at = put_field(at, alone, 4, 1);
+    }
+    tell_file(at);
 }
 
 // Puts a drawn byte into the file in the buffer.

@@ -26,14 +26,20 @@ static void sum_of_words() {
 
 struct Drawn { u32 kind, a, b, c, d; };
 
-// The five numbers drawn for a call.
-static Drawn draw() {
+// The five numbers drawn from a number.
+static Drawn draw_from(u32 x) {
     Drawn drawn;
-    drawn.kind = step(state);
+    drawn.kind = step(x);
     drawn.a = step(drawn.kind);
     drawn.b = step(drawn.a);
     drawn.c = step(drawn.b);
     drawn.d = step(drawn.c);
+    return drawn;
+}
+
+// The five numbers drawn for a call.
+static Drawn draw() {
+    Drawn drawn = draw_from(state);
     state = drawn.d;
     return drawn;
 }

@@ -1,6 +1,7 @@
 // The comparison runs' other side: draws the same lists of calls as the crate `run_replay` and works out every answer from
 // documents 01 and 02 alone. The families are CUDD's zero-suppressed diagrams; nothing of this library is used.
 #include "crafting.h"
+#include "weights.h"
 
 // Even and Odd of p, then Intsec and Union of what they gave.
 static void parity_calls(u32 p, size_t cache) {
@@ -59,21 +60,55 @@ static u32 measured_operation(u32 op, u32 p, u32 q, size_t cache) {
     return handle;
 }
 
-// All subsets of 1 to 64 items, families of 2^64 - 1 members and of one more, and two parts of 2^63 members each.
+// An operation with all words lent, and the size and the sums of weights of what it gives.
+static u32 weighed_operation(u32 op, u32 p, u32 q, size_t cache) {
+    u32 handle = operation(op, p, q, lend(63), cache);
+    every_weight(handle, 65);
+    return handle;
+}
+
+// All subsets of 1 to 64 items, families of 2^64 - 1 members and of one more, and two parts of 2^63 members each; the sums
+// of weights of the latter.
 static void subsets(size_t cache) {
     u32 all = 1;
     for (u32 item = 1; item <= 64; item++) {
         u32 changed = measured_operation(3, all, item, cache);
         all = measured_operation(4, all, changed, cache);
     }
-    u32 less = measured_operation(6, all, 1, cache);
-    measured_operation(3, less, 65, cache);
-    measured_operation(3, all, 65, cache);
-    u32 single = measured_operation(3, 1, 65, cache);
-    measured_operation(4, less, single, cache);
-    measured_operation(7, all, 0, cache);
-    measured_operation(8, all, 0, cache);
+    u32 less = weighed_operation(6, all, 1, cache);
+    weighed_operation(3, less, 65, cache);
+    weighed_operation(3, all, 65, cache);
+    u32 single = weighed_operation(3, 1, 65, cache);
+    weighed_operation(4, less, single, cache);
+    weighed_operation(7, all, 0, cache);
+    weighed_operation(8, all, 0, cache);
     parity_calls(less, cache);
+}
+
+// All subsets of 63, 64 and 65 items; 2^64 and 2^32 + 1 members that hold an item; members that hold 2^32 + 1 items in all,
+// and these with one member more.
+static const u32 SHAPES[][4] = {
+    {63, 63, 63, 63},
+    {64, 64, 64, 64},
+    {65, 65, 65, 65},
+    {64, 64, 64, 65},
+    {32, 32, 33, 34},
+    {24, 268, 269, 269},
+    {24, 268, 270, 270},
+};
+
+// The sums of weights of these families, the last in one scratch word too few and in just enough; of the last two families,
+// of some 2^24 members, also by members. With all weights 2^32 - 1 but item 270 at 1 theirs are 2^64 - 1 and 2^64.
+static void shapes(size_t cache) {
+    for (const u32 *s : SHAPES) {
+        craft_shape(s[0], s[1], s[2], s[3]);
+        load_call(file_length, lend(63), cache, 12400);
+        u32 p = count() + 1;
+        Making edge = {2, 1, 270, 1, 512};
+        every_weight(p, s[3]);
+        weight_calls(false, p, edge, lend(63), 3 * count() - 1);
+        weight_calls(s[0] == 24, p, edge, lend(63), 3 * count());
+    }
 }
 
 // Fresh: a book with {} and {{}} alone.
@@ -120,11 +155,13 @@ static void load_carried(size_t cache) {
     load_call(n, lend(63), cache, 12400);
 }
 
-// Even and Odd of a family of 200 parts.
+// The sums of weights of a family of 200 parts, and its Even and Odd.
 static void tall(size_t cache) {
     craft(draw(), 200, 56);
     load_call(file_length, lend(63), cache, 12400);
-    parity_calls(count() + 1, cache);
+    u32 p = count() + 1;
+    every_weight(p, 200);
+    parity_calls(p, cache);
 }
 
 // The newest family, with the limit among its items if there is room, is saved for the next list.
@@ -133,13 +170,17 @@ static void make_carried(size_t cache) {
     save_calls(count() + 1, lend(63), 1100, buffer.size());
 }
 
-// The calls of a list; the last make the file for the next list. One with more than 16 items always lends its whole
-// cache.
+// The calls of a list, after every seventh the sums of weights of a drawn family; the last make the file for the next list.
+// One with more than 16 items always lends its whole cache.
 static void calls_of_list(size_t cache, u32 items, u32 calls) {
     load_carried(cache);
     if (items == 70) subsets(cache);
+    if (items == 270) shapes(cache);
     if (items == 512) tall(cache);
-    for (u32 k = 0; k < calls; k++) turn(items, 16 < items, cache);
+    for (u32 left = calls; 0 < left; left--) {
+        turn(items, 16 < items, cache);
+        if (left % 7 == 0) drawn_weights(items);
+    }
     make_carried(cache);
 }
 
@@ -196,6 +237,7 @@ int main(int argc, char **argv) {
     all_lookup.assign(2060, 2779096485u);
     for (const u32 *l : LISTS) list(l[0], l[1], l[2], l[3], l[4], l[5]);
     for (int k = 0; k < 40; k++) drawn_list();
+    list(1051, 359, 1021, 270, 270, 60);
     if (argc == 2 && std::strcmp(argv[1], "--tally") == 0) {
         for (const std::pair<const std::string, int> &t : tally) std::printf("%s: %d\n", t.first.c_str(), t.second);
         return 0;

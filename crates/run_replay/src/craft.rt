@@ -16,11 +16,11 @@ struct Crafted {
 }
 
 // A record's three numbers, and its bit map byte.
-struct Fields {
-    bits: u32,
-    item: u32,
-    zero: u32,
-    one: u32,
+pub struct Fields {
+    pub bits: u32,
+    pub item: u32,
+    pub zero: u32,
+    pub one: u32,
 }
 
 // Puts the low byte of a number at a place, if the file reaches so far.
@@ -51,7 +51,7 @@ fn put_field(file: &mut [u8], at: usize, stands: bool, four: bool, number: u32) 
 }
 
 // Puts a record; gives the next place.
-fn put_fields(file: &mut [u8], at: usize, fields: Fields) -> usize {
+pub fn put_fields(file: &mut [u8], at: usize, fields: Fields) -> usize {
     put(file, at, fields.bits);
     let bits = fields.bits;
     let first = put_field(file, past(at, 1), bits % 2 == 1, false, fields.item);
@@ -193,7 +193,7 @@ fn named_parts(way: u32, parts: u32) -> u32 {
 }
 
 // Puts the first five bytes.
-fn put_head(file: &mut [u8], way: u32, other: u32, parts: u32) {
+pub fn put_head(file: &mut [u8], way: u32, other: u32, parts: u32) {
     put(file, 0, first_byte(way, other));
     put_field(file, 1, true, true, named_parts(way, parts));
 }

@@ -1,5 +1,6 @@
 // The lists: Fresh, then so many drawn calls.
 use crate::carried;
+use crate::draw::Drawn;
 use crate::draw::at_most;
 use crate::draw::draw;
 use crate::output::answer;
@@ -11,8 +12,9 @@ use crate::output::text;
 use crate::output::word;
 use crate::placing::words;
 use crate::settings::Setting;
-use crate::settings::drawn_setting;
-use crate::settings::numbered;
+use crate::settings::is_drawn;
+use crate::settings::setting_of;
+use crate::shapes;
 use crate::state::State;
 use crate::state::with_file;
 use crate::state::with_fresh;
@@ -23,6 +25,7 @@ use crate::sums::spare;
 use crate::tall;
 use crate::turn::Manner;
 use crate::turn::turn;
+use crate::weighing;
 use store::record::Store;
 use store_fresh::FreshAnswer;
 use store_fresh::Freshened;
@@ -70,6 +73,13 @@ fn fresh_line(limit: u32, nodes: &mut [u32], lookup: &mut [u32], cache: &mut [u3
     freshened
 }
 
+// After every seventh call, the sums of weights of a drawn family.
+fn sums_after(left: u32, items: u32, state: State, nodes: &[u32], lookup: &[u32]) {
+    if left % 7 == 0 {
+        weighing::drawn_lines(items, state, nodes, lookup);
+    }
+}
+
 // So many drawn calls.
 fn turns(
     calls: u32,
@@ -84,13 +94,14 @@ fn turns(
     let mut left = calls;
     while 0 < left {
         state = turn(manner, state, nodes, lookup, cache, file);
+        sums_after(left, manner.items, state, nodes, lookup);
         left = left - 1;
     }
     state
 }
 
 // What comes before the drawn calls: Load of the file of the list before; in the list with 70 items all subsets of 64,
-// in the one with 512 a family of 200 parts.
+// in the one with 270 families of simple shapes, in the one with 512 a family of 200 parts.
 fn opening(
     items: u32,
     state: State,
@@ -102,6 +113,9 @@ fn opening(
     let loaded = carried::loaded(state, nodes, lookup, cache, file);
     if items == 70 {
         return subsets::lines(loaded, nodes, lookup, cache);
+    }
+    if items == 270 {
+        return shapes::lines(loaded, nodes, lookup, cache, file);
     }
     if items == 512 {
         return tall::lines(loaded, nodes, lookup, cache, file);
@@ -204,7 +218,15 @@ fn list(
     )
 }
 
-// The list of this number: of a set setting, or from 16 on of a drawn one.
+// The state before a list: what its setting is drawn from is used up.
+fn start_of(k: u32, drawn: Drawn, state: State) -> State {
+    if is_drawn(k) {
+        return with_file(state, drawn.d, state.length);
+    }
+    state
+}
+
+// The list of this number.
 fn numbered_list(
     k: u32,
     state: State,
@@ -213,12 +235,10 @@ fn numbered_list(
     cache: &mut [u32],
     file: &mut [u8],
 ) -> State {
-    if k < 16 {
-        return list(numbered(k), state, nodes, lookup, cache, file);
-    }
     let drawn = draw(state.draw);
-    let start = with_file(state, drawn.d, state.length);
-    list(drawn_setting(drawn), start, nodes, lookup, cache, file)
+    let setting = setting_of(k, drawn);
+    let start = start_of(k, drawn, state);
+    list(setting, start, nodes, lookup, cache, file)
 }
 
 // All lists, one after the other on the same words.
@@ -230,7 +250,7 @@ fn lists(nodes: &mut [u32], lookup: &mut [u32], cache: &mut [u32], file: &mut [u
         length: 0,
     };
     let mut k: u32 = 0;
-    while k < 56 {
+    while k < 57 {
         state = numbered_list(k, state, nodes, lookup, cache, file);
         k = k + 1;
     }

@@ -13,12 +13,15 @@ mod path;
 mod placing;
 mod saves;
 mod settings;
+mod shapes;
 mod sizes;
 mod state;
 mod subsets;
 mod sums;
 mod tall;
 mod turn;
+mod weighing;
+mod weights;
 
 fn main() {
     lists::all();

@@ -36,11 +36,12 @@ pub fn bytes(file: &[u8], count: usize) {
     }
 }
 
-// From where on the scratch must be as before: after 10, 4 and 7 all of it, else what is past the needed words.
+// From where on the scratch must be as before: after 10, 4, 11 and 7 all of it, else what is past the needed words.
 pub fn free_until(refusal: Refusal, needed: usize) -> usize {
     match refusal {
         Refusal::Damaged => 0,
         Refusal::Handle => 0,
+        Refusal::Weights => 0,
         Refusal::Scratch => 0,
         _ => needed,
     }

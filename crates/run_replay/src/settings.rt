@@ -24,9 +24,9 @@ fn of(nodes: usize, lookup: usize, cache: usize, limit: u32, items: u32, calls: 
     }
 }
 
-// The setting of a list by its number. The first six are refused by Fresh; the limits of the others fall, so that the
-// file of most has an item above the next one's limit.
-pub fn numbered(list: u32) -> Setting {
+// The setting of a list that is not drawn, by its number. The first six are refused by Fresh; the limits of the next ten
+// fall, so that the file of most has an item above the next one's limit. The last comes after the drawn ones.
+fn numbered(list: u32) -> Setting {
     match list {
         0 => of(2, 5, 8, 0, 3, 12),
         1 => of(2, 2, 8, 512, 3, 0),
@@ -43,7 +43,8 @@ pub fn numbered(list: u32) -> Setting {
         12 => of(43, 15, 4, 32, 2, 220),
         13 => of(600, 211, 255, 31, 5, 320),
         14 => of(14, 5, 3, 2, 2, 130),
-        _ => of(3, 2, 0, 1, 1, 80),
+        15 => of(3, 2, 0, 1, 1, 80),
+        _ => of(1051, 359, 1021, 270, 270, 60),
     }
 }
 
@@ -62,7 +63,7 @@ fn limit_of(k: u32) -> u32 {
 }
 
 // A drawn setting: a small store and few calls.
-pub fn drawn_setting(drawn: Drawn) -> Setting {
+fn drawn_setting(drawn: Drawn) -> Setting {
     let nodes = (3 + drawn.a % 24) as usize;
     of(
         nodes,
@@ -72,4 +73,20 @@ pub fn drawn_setting(drawn: Drawn) -> Setting {
         1 + drawn.d % 3,
         14,
     )
+}
+
+// Whether the setting of a list is drawn: from number 16 on, but for the last.
+pub fn is_drawn(list: u32) -> bool {
+    if list < 16 {
+        return false;
+    }
+    list < 56
+}
+
+// The setting of a list by its number and what is drawn for it.
+pub fn setting_of(list: u32, drawn: Drawn) -> Setting {
+    if is_drawn(list) {
+        return drawn_setting(drawn);
+    }
+    numbered(list)
 }

@@ -1,4 +1,5 @@
-// All subsets of 1 to 64 items, families of 2^64 - 1 members and of one more, and two parts of 2^63 members each.
+// All subsets of 1 to 64 items, families of 2^64 - 1 members and of one more, and two parts of 2^63 members each; the sums
+// of weights of the latter.
 use crate::lend::everything;
 use crate::parity;
 use crate::placing;
@@ -8,6 +9,7 @@ use crate::placing::of;
 use crate::sizes;
 use crate::state::State;
 use crate::state::with_placed;
+use crate::weighing;
 use store::record::Placed;
 
 // The state; the handles of all subsets so far, of all but the empty one, and of what came last.
@@ -71,10 +73,14 @@ fn run_step(
     placing::line(operation(step, built), lent, nodes, lookup, cache)
 }
 
-// Measures a family.
-fn size_line(handle: u32, state: State, nodes: &[u32], lookup: &[u32]) {
+// Measures what a step gives; from 2^64 - 1 members on, writes the sums of its weights too.
+fn measured(step: u32, handle: u32, state: State, nodes: &[u32], lookup: &[u32]) {
     let lent = everything(state.store, lookup.len(), 0);
-    sizes::line(handle, 1100, lent, nodes, lookup);
+    if step < 128 {
+        sizes::line(handle, 1100, lent, nodes, lookup);
+        return;
+    }
+    weighing::every(handle, 65, state.draw, lent, nodes, lookup);
 }
 
 // Runs the operation of a step, and measures what it gives.
@@ -89,7 +95,7 @@ fn stepped(
     let answer = placed.answer;
     let handle = handle_of(answer);
     let state = with_placed(built.state, placed);
-    size_line(handle, state, nodes, lookup);
+    measured(step, handle, state, nodes, lookup);
     after(step, built, state, handle)
 }
 

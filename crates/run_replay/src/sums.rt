@@ -62,6 +62,18 @@ fn all_are(words: &[u32], value: u32) -> bool {
     true
 }
 
+// Whether all 64-bit words are the same number.
+fn all_sizes_are(sizes: &[u64], value: u64) -> bool {
+    let mut at: usize = 0;
+    while at < sizes.len() {
+        if sizes[at] != value {
+            return false;
+        }
+        at = at + 1;
+    }
+    true
+}
+
 // Whether the whole cache groups are 0.
 pub fn cleared(cache: &[u32]) -> bool {
     let groups = cache.len() / 4 * 4;
@@ -77,6 +89,17 @@ pub fn kept(scratch: &[u32], from: usize) -> bool {
         return true;
     }
     all_are(&scratch[from..], MARK)
+}
+
+// What 64-bit scratch words hold before a call.
+pub const WIDE_MARK: u64 = 12297829382473034410;
+
+// Whether the 64-bit scratch words from a place on hold what they held before the call.
+pub fn wide_kept(scratch: &[u64], from: usize) -> bool {
+    if scratch.len() < from {
+        return true;
+    }
+    all_sizes_are(&scratch[from..], WIDE_MARK)
 }
 
 // The sum of the words past the whole cache groups.

@@ -1,5 +1,5 @@
 -- `lists` is safe and ends: the measure is the number of lists that are left.
--- Each turn keeps the lengths of the lent words, and the number of the list stays below 57.
+-- Each turn keeps the lengths of the lent words, and the number of the list stays below 58.
 use mathlib.Core.Path.{_≡_}
 use Prim.Native.Nat.{_-_, _≤_}
 use lib.ListN.{length}
@@ -8,10 +8,10 @@ use Rattle.run_replay.proofs.lists.lists.Statement.{statement}
 use Rattle.run_replay.proofs.lists.lists.Tie as tie
 
 abbrev Inv-loop : tie.InvT-loop
-Inv-loop nodes₀ lookup₀ cache₀ file₀ state₀ k₀ nodes lookup cache file state k = (length nodes ≡ length nodes₀) × (length lookup ≡ length lookup₀) × (length cache ≡ length cache₀) × (length file ≡ length file₀) × (k ≤ 56)
+Inv-loop nodes₀ lookup₀ cache₀ file₀ state₀ k₀ nodes lookup cache file state k = (length nodes ≡ length nodes₀) × (length lookup ≡ length lookup₀) × (length cache ≡ length cache₀) × (length file ≡ length file₀) × (k ≤ 57)
 
 abbrev μ-loop : tie.MeasureT-loop
-μ-loop nodes₀ lookup₀ cache₀ file₀ state₀ k₀ nodes lookup cache file state k = 56 - k
+μ-loop nodes₀ lookup₀ cache₀ file₀ state₀ k₀ nodes lookup cache file state k = 57 - k
 
 new-requires : tie.Need-new-requires Inv-loop μ-loop
 new-requires c κs = search needs

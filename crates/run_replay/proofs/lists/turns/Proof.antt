@@ -19,6 +19,9 @@ loop-holds c = search needs
 turn-requires : tie.Need-turn-requires Inv-loop μ-loop
 turn-requires c κs = search needs
 
+sums-after-requires : tie.Need-sums-after-requires Inv-loop μ-loop
+sums-after-requires c κs = search needs
+
 sub-left : tie.Need-sub-left Inv-loop μ-loop
 sub-left c = search needs
 
@@ -51,6 +54,7 @@ turns-spec =
     μ-loop
     loop-holds
     turn-requires
+    sums-after-requires
     sub-left
     loop-less
     loop-again
