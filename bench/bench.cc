@@ -74,9 +74,10 @@ template <class Visit> static void each_workload(Visit visit) {
     visit("Even and Odd of a family of 50,000 parts", [](auto &p) { return there(p, mixed); }, even_and_odd);
 }
 
-// Whether a library has the calls of a workload: an earlier one may have no Even and Odd.
-static bool has_calls(const Library &library, const std::string &workload) {
-    return library.even || workload.find("Even") == std::string::npos;
+// Whether a library has the calls of a row: an earlier one may have no Even and Odd, and no sums of weights.
+static bool has_calls(const Library &library, const std::string &row) {
+    if (row.find("Even") != std::string::npos) return library.even;
+    return library.by_nodes || row.find("Weights") == std::string::npos;
 }
 
 [[noreturn]] static void differ(const std::string &name, const char *what) {
@@ -185,17 +186,26 @@ static std::vector<zdd_combination> combinations(int number, int items) {
     return all;
 }
 
+// The weights of the items in minutes, from 1 to 1000.
+static std::vector<uint32_t> minutes() {
+    Random r{17};
+    std::vector<uint32_t> all(ZDD_LARGEST_ITEM);
+    for (uint32_t &weight : all) weight = r.next() % 1000 + 1;
+    return all;
+}
+
 // A store, a family in it, and the lent memory of the calls on it.
 struct Shelf {
     Words words;
     Ours p;
     uint32_t family;
     std::vector<uint32_t> links, scratch;
-    std::vector<uint64_t> sizes;
+    std::vector<uint64_t> sizes, sums;
     std::vector<uint8_t> file, out;
     template <class Build> Shelf(size_t capacity, Build build) : words(capacity, 1 << 18), p(here, words), family(build(p)) {
         file = p.file(family);
         links.resize(p.store.count), sizes.resize(p.store.count), out.resize(11 * size_t(p.store.count) + 5);
+        sums.resize(3 * size_t(p.store.count));
         scratch.resize(6 * file.size());
     }
 };
@@ -212,6 +222,7 @@ struct Calls {
         std::vector<std::function<double()>> runs;
         for (const Library *library : libraries)
             runs.push_back([this, library] {
+                if (!has_calls(*library, name)) return no_time;
                 Ours p = store(*library);
                 return seconds([&] { work(p); });
             });
@@ -224,6 +235,7 @@ struct Calls {
         auto sizes = shelf.sizes;
         auto out = shelf.out;
         for (size_t k = 1; k < libraries.size(); k++) {
+            if (!has_calls(*libraries[k], name)) continue;
             Ours q = store(*libraries[k]);
             if (work(q) != answer || shelf.sizes != sizes || shelf.out != out) differ(name, "other answers");
             same_words(name, Ours(p, words), q);
@@ -244,11 +256,13 @@ static Calls save(const char *name, size_t units, Shelf &s, std::function<Ours(c
     return {name, units, s, store, [&s](Ours &q) { return q.save(s.family, s.links, s.out); }};
 }
 
-// Size, Save, Load, Audit and Has.
+// Size, the sums of weights, Save, Load, Audit and Has.
 static std::vector<Row> time_calls() {
     Shelf s(largest_capacity, [](Ours &p) { return grown(p, 500000); });
     Shelf grid(largest_capacity, [](Ours &p) { return independent_sets(p, 7, bad_order); });
+    Shelf small(10000, [](Ours &p) { return independent_sets(p, 6, grid_order); });
     Shelf deep(2000, all_subsets);
+    const std::vector<uint32_t> weights = minutes();
     size_t nodes = s.p.store.count, parts = s.p.parts(s.family), grid_parts = grid.p.parts(grid.family);
     Words fresh(2 * parts, 0);
     auto at = [](Shelf &shelf) { return [&shelf](const Library &library) { return Ours(library, shelf.p); }; };
@@ -256,6 +270,9 @@ static std::vector<Row> time_calls() {
     auto load = [&](Ours &q) { return q.load(s.file, s.scratch); };
     std::vector<Calls> calls = {
         {"Size", nodes, s, at(s), [&](Ours &q) { return q.size(s.family, s.sizes); }},
+        {"Weights by nodes", nodes, s, at(s), [&](Ours &q) { return q.by_nodes(s.family, weights, s.sums); }},
+        {"Weights by members, 6 x 6 grid", small.p.size(small.family), small, at(small),
+         [&](Ours &q) { return q.by_members(small.family, weights, small.sums); }},
         save("Save", parts, s, at(s)),
         save("Save, 7 x 7 grid", grid_parts, grid, at(grid)),
         {"Load into an empty store", parts, s, empty, load},
@@ -266,7 +283,7 @@ static std::vector<Row> time_calls() {
     };
     for (const Calls &c : calls) c.check();
     std::printf("\n### Calls on a store of %zu nodes\n", nodes);
-    Table table("Call", "nodes, parts or times", false);
+    Table table("Call", "nodes, parts, members or times", false);
     for (const Calls &c : calls) table.add(c.timed());
     return table.rows;
 }
@@ -309,6 +326,8 @@ static void summary(const std::vector<std::vector<Row>> &tables, const std::vect
         Row row = largest(named(calls, call));
         line(std::string(call) + ", largest time by the C store's", "at most 1.05", row.by_plain(), row.name);
     }
+    double by_size = named(calls, "by nodes")[0].each() / named(calls, "Size")[0].each();
+    line("Weights by nodes, time per node by Size's", "at most 2", by_size, "this library");
     line("times CUDD's speed", "at least 1.5", slowest(named(tables[0], "random combinations")), "building from random combinations");
     line("times CUDD's speed", "at least 2", slowest(named(tables[0], "large families")), "Union, Intsec, Diff of large families");
     line("times CUDD's speed", "-", slowest(tables[0]), "the slowest of all workloads");

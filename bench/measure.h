@@ -62,6 +62,7 @@ struct Row {
     double ours() const { return times[0].least(); }
     double plain() const { return times[1].least(); }
     double cudd() const { return times.back().least(); }
+    double each() const { return ours() / double(units); }
     double by_plain() const { return ours() / plain(); }
     double by_tuned() const { return ours() / times[2].least(); }
     double cudd_by_ours() const { return cudd() / ours(); }
@@ -92,7 +93,7 @@ struct Table {
         if (libraries.size() > 3 && row.times[3].all.empty()) std::printf(" - |");
         else if (libraries.size() > 3) std::printf(" %.2f |", row.ours() / row.times[3].least());
         if (cudd) std::printf(" %.2f |\n", row.cudd_by_ours());
-        else std::printf(" %.1f |\n", 1e9 * row.ours() / double(row.units));
+        else std::printf(" %.1f |\n", 1e9 * row.each());
         std::fflush(stdout);
         rows.push_back(row);
     }

@@ -30,13 +30,14 @@ struct Library {
     decltype(&zdd_audit) audit;
     decltype(&zdd_size) size;
     decltype(&zdd_has) has;
+    decltype(&zdd_weight_by_members) by_members, by_nodes;
     decltype(&zdd_save) save;
 };
 
 #define LIBRARY(name, p)                                                                                                            \
     Library {                                                                                                                       \
         name, p##fresh, p##change, p##subset0, p##union, p##intsec, p##diff, p##even, p##odd, p##load, p##audit, p##size, p##has,   \
-            p##save                                                                                                                 \
+            p##weight_by_members, p##weight_by_nodes, p##save                                                                       \
     }
 #define DECLARE(p)                                                                                                                  \
     extern "C" {                                                                                                                    \
@@ -48,11 +49,13 @@ struct Library {
     decltype(zdd_audit) p##audit;                                                                                                   \
     decltype(zdd_size) p##size;                                                                                                     \
     decltype(zdd_has) p##has;                                                                                                       \
+    decltype(zdd_weight_by_members) p##weight_by_members, p##weight_by_nodes;                                                       \
     decltype(zdd_save) p##save;                                                                                                     \
     }
 
 // this tree's library, the stores in plain and in tuned C, and with BEFORE an earlier revision's library, whose names `bench/run`
-// gives a prefix, and which with UNPARTED has no Even and Odd; the plain store has Load, Audit and Size of the tuned one
+// gives a prefix, and which with UNPARTED has no Even and Odd, with UNWEIGHED no sums of weights; the plain store has Load, Audit and
+// Size of the tuned one
 DECLARE(plain_)
 DECLARE(tuned_)
 #define plain_load tuned_load
@@ -64,6 +67,10 @@ DECLARE(before_zdd_)
 #ifdef UNPARTED
 #define before_zdd_even nullptr
 #define before_zdd_odd nullptr
+#endif
+#ifdef UNWEIGHED
+#define before_zdd_weight_by_members nullptr
+#define before_zdd_weight_by_nodes nullptr
 #endif
 static const Library before = LIBRARY("earlier", before_zdd_);
 static const std::vector<const Library *> libraries = {&here, &plain, &tuned, &before};
@@ -124,6 +131,16 @@ struct Ours {
         auto r = library.size(READ, p, scratch.data(), scratch.size());
         if (r.refusal) stop("size", r.refusal);
         return r.size;
+    }
+    uint64_t by_members(F p, const std::vector<uint32_t> &weights, std::vector<uint64_t> &scratch) {
+        return weighed(library.by_members(READ, p, weights.data(), weights.size(), scratch.data(), scratch.size()));
+    }
+    uint64_t by_nodes(F p, const std::vector<uint32_t> &weights, std::vector<uint64_t> &scratch) {
+        return weighed(library.by_nodes(READ, p, weights.data(), weights.size(), scratch.data(), scratch.size()));
+    }
+    static uint64_t weighed(zdd_weighed r) {
+        if (r.refusal) stop("weights", r.refusal);
+        return r.sum;
     }
     bool has(F p, zdd_combination c) { return library.has(READ, p, c).member; }
     size_t save(F p, std::vector<uint32_t> &scratch, std::vector<uint8_t> &out) {

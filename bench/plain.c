@@ -10,6 +10,7 @@ __typeof__(zdd_change) plain_change, plain_subset0;
 __typeof__(zdd_union) plain_union, plain_intsec, plain_diff;
 __typeof__(zdd_even) plain_even, plain_odd;
 __typeof__(zdd_has) plain_has;
+__typeof__(zdd_weight_by_members) plain_weight_by_members, plain_weight_by_nodes;
 __typeof__(zdd_save) plain_save;
 
 enum { SUBSET1 = 1, SUBSET0, CHANGE, UNION, INTSEC, DIFF, EVEN, ODD };
@@ -375,6 +376,145 @@ zdd_asked plain_has(READ, uint32_t p, zdd_combination combination) {
     if (!fits(s, node_words, lookup_words)) return (zdd_asked){s, ZDD_DAMAGED, false};
     if (!holds(s, p)) return (zdd_asked){s, ZDD_HANDLE, false};
     return (zdd_asked){s, 0, is_member(nodes_at, s.count, p, combination.words)};
+}
+
+/* ---- sums of weights ---- */
+
+/* a number, at most 2^64 - 1, and whether it is above that */
+typedef struct {
+    uint64_t low;
+    bool above;
+} kept;
+
+static kept kept_sum(kept a, kept b) {
+    if (a.above) return a;
+    if (b.above) return b;
+    if (UINT64_MAX - b.low < a.low) return (kept){UINT64_MAX, true};
+    return (kept){a.low + b.low, false};
+}
+
+/* A weight of 0 makes 0 of any number. */
+static kept kept_product(uint64_t weight, kept a) {
+    if (weight == 0) return (kept){0, false};
+    if (a.above) return a;
+    if (UINT64_MAX / weight < a.low) return (kept){UINT64_MAX, true};
+    return (kept){weight * a.low, false};
+}
+
+/* lent weights with their number */
+typedef struct {
+    const uint32_t *at;
+    size_t length;
+} list;
+
+static uint64_t weight_at(list weights, uint32_t item) {
+    if (item == 0) return 0;
+    size_t k = item - 1;
+    return k < weights.length ? weights.at[k] : 0;
+}
+
+/* The refusal before the work of either call, 0 where there is none. */
+static uint32_t weight_tested(zdd_store s, size_t node_words, size_t lookup_words, uint32_t p, size_t weight_count,
+                              size_t scratch_words) {
+    if (!fits(s, node_words, lookup_words)) return ZDD_DAMAGED;
+    if (!holds(s, p)) return ZDD_HANDLE;
+    if (weight_count != ZDD_LARGEST_ITEM) return ZDD_WEIGHTS;
+    return scratch_words < 3 * (size_t)s.count ? ZDD_SCRATCH : 0;
+}
+
+static zdd_weighed weight_answer(zdd_store s, kept sum) {
+    return sum.above ? (zdd_weighed){s, ZDD_LARGE, 0} : (zdd_weighed){s, 0, sum.low};
+}
+
+/* The sum so far, and the weight of each member of a handle whose top is below the bound; `carried` is the weight of the
+ * items on the way down to it. */
+static kept add_members(words nodes, list weights, uint32_t count, uint32_t p, uint32_t bound, uint64_t carried, kept sum) {
+    if (p == 0) return sum;
+    if (p == 1) return kept_sum(sum, (kept){carried, false});
+    if (sum.above || count + 1 < p) return sum;
+    const uint32_t *node = nodes.at + 3 * (size_t)(p - 2);
+    uint32_t item = node[0];
+    if (bound <= item) return sum;
+    kept lacking = add_members(nodes, weights, count, node[1], item, carried, sum);
+    return add_members(nodes, weights, count, node[2], item, carried + weight_at(weights, item), lacking);
+}
+
+zdd_weighed plain_weight_by_members(READ, uint32_t p, const uint32_t *weights, size_t weight_count, uint64_t *scratch,
+                                    size_t scratch_words) {
+    (void)lookup_at, (void)scratch;
+    uint32_t refusal = weight_tested(s, node_words, lookup_words, p, weight_count, scratch_words);
+    if (refusal) return (zdd_weighed){s, refusal, 0};
+    words nodes = {(uint32_t *)nodes_at, node_words};
+    return weight_answer(s, add_members(nodes, (list){weights, weight_count}, s.count, p, 513, 0, (kept){0, false}));
+}
+
+/* Size and sum of a handle as its words have them: words 2k and 2k + 1 are those of node k + 2, each at most 2^64 - 1; where
+ * one of them is that, word 2 * count + k is the node's mark: 1 where the size is above it, 2 where the sum is, 3 for both. */
+typedef struct {
+    uint64_t size, sum;
+} pair;
+
+typedef struct {
+    kept size, sum;
+} both;
+
+static pair pair_at(const uint64_t *numbers, uint32_t count, uint32_t p) {
+    if (p < 2) return (pair){p, 0};
+    if (count <= p - 2) return (pair){0, 0};
+    size_t k = 2 * (size_t)(p - 2);
+    return (pair){numbers[k], numbers[k + 1]};
+}
+
+static uint64_t mark_at(const uint64_t *numbers, uint32_t count, uint32_t p) {
+    if (p < 2 || count <= p - 2) return 0;
+    return numbers[2 * (size_t)count + (p - 2)];
+}
+
+static kept kept_of(uint64_t word, bool above) { return (kept){word, word == UINT64_MAX && above}; }
+
+static both both_at(const uint64_t *numbers, uint32_t count, uint32_t p) {
+    pair a = pair_at(numbers, count, p);
+    uint64_t mark = mark_at(numbers, count, p);
+    return (both){kept_of(a.size, mark % 2 == 1), kept_of(a.sum, 1 < mark)};
+}
+
+static void put_both(uint64_t *numbers, uint32_t count, uint32_t j, both a) {
+    size_t k = 2 * (size_t)j;
+    numbers[k] = a.size.low, numbers[k + 1] = a.sum.low;
+    numbers[2 * (size_t)count + j] = (a.size.above ? 1 : 0) + (a.sum.above ? 2 : 0);
+}
+
+static void weigh_large(uint64_t *numbers, uint32_t count, uint32_t j, uint64_t weight, uint32_t zero, uint32_t one) {
+    both without = both_at(numbers, count, zero), with = both_at(numbers, count, one);
+    kept sides = kept_sum(without.sum, with.sum);
+    put_both(numbers, count, j, (both){kept_sum(without.size, with.size), kept_sum(sides, kept_product(weight, with.size))});
+}
+
+/* Whether the sum of a node over two such handles fits a word, whatever its weight. */
+static bool is_small(pair a) { return a.size <= INT32_MAX && a.sum <= INT64_MAX / 2; }
+
+static void put_small(uint64_t *numbers, uint32_t j, uint64_t weight, pair without, pair with) {
+    size_t k = 2 * (size_t)j;
+    numbers[k] = without.size + with.size;
+    numbers[k + 1] = without.sum + with.sum + weight * with.size;
+}
+
+static void weigh_node(uint64_t *numbers, uint32_t count, uint32_t j, uint64_t weight, uint32_t zero, uint32_t one) {
+    pair without = pair_at(numbers, count, zero), with = pair_at(numbers, count, one);
+    if (is_small(without) && is_small(with)) put_small(numbers, j, weight, without, with);
+    else weigh_large(numbers, count, j, weight, zero, one);
+}
+
+zdd_weighed plain_weight_by_nodes(READ, uint32_t p, const uint32_t *weights, size_t weight_count, uint64_t *scratch,
+                                  size_t scratch_words) {
+    (void)lookup_at;
+    uint32_t refusal = weight_tested(s, node_words, lookup_words, p, weight_count, scratch_words);
+    if (refusal) return (zdd_weighed){s, refusal, 0};
+    for (uint32_t j = 0; j + 1 < p; j++) {
+        const uint32_t *node = nodes_at + 3 * (size_t)j;
+        weigh_node(scratch, s.count, j, weight_at((list){weights, weight_count}, node[0]), node[1], node[2]);
+    }
+    return weight_answer(s, both_at(scratch, s.count, p).sum);
 }
 
 /* ---- Save ---- */

@@ -13,6 +13,7 @@ __typeof__(zdd_union) tuned_union, tuned_intsec, tuned_diff;
 __typeof__(zdd_even) tuned_even, tuned_odd;
 __typeof__(zdd_size) tuned_size;
 __typeof__(zdd_has) tuned_has;
+__typeof__(zdd_weight_by_members) tuned_weight_by_members, tuned_weight_by_nodes;
 __typeof__(zdd_save) tuned_save;
 __typeof__(zdd_load) tuned_load;
 __typeof__(zdd_audit) tuned_audit;
@@ -306,6 +307,88 @@ zdd_asked tuned_has(READ, uint32_t p, zdd_combination combination) {
     if (!fits(s, node_words, lookup_words)) return (zdd_asked){s, ZDD_DAMAGED, false};
     if (!holds(s, p)) return (zdd_asked){s, ZDD_HANDLE, false};
     return (zdd_asked){s, 0, is_member(nodes, p, combination.words)};
+}
+
+/* ---- sums of weights ---- */
+
+/* The refusal of either call before its work, 0 where there is none. */
+static inline uint32_t weights_refused(zdd_store s, size_t node_words, size_t lookup_words, uint32_t p, size_t weight_count,
+                                       size_t scratch_words) {
+    if (!fits(s, node_words, lookup_words)) return ZDD_DAMAGED;
+    if (!holds(s, p)) return ZDD_HANDLE;
+    if (weight_count != ZDD_LARGEST_ITEM) return ZDD_WEIGHTS;
+    return scratch_words / 3 < s.count ? ZDD_SCRATCH : 0;
+}
+
+/* The sum so far, and whether it is above the largest number. */
+typedef struct {
+    const uint32_t *nodes, *weights;
+    uint64_t sum;
+    bool above;
+} adding;
+
+/* Adds the weight of each member of p; `carried` is that of the items on the way to it. */
+static void add_members(adding *a, uint32_t p, uint64_t carried) {
+    while (p >= 2 && !a->above) {
+        const uint32_t *node = a->nodes + 3 * (size_t)(p - 2);
+        if (node[1] != 0) add_members(a, node[1], carried);
+        carried += a->weights[node[0] - 1];
+        p = node[2];
+    }
+    if (p == 1) a->above |= __builtin_add_overflow(a->sum, carried, &a->sum);
+}
+
+zdd_weighed tuned_weight_by_members(READ, uint32_t p, const uint32_t *weights, size_t weight_count, uint64_t *scratch,
+                                    size_t scratch_words) {
+    (void)lookup, (void)scratch;
+    uint32_t refusal = weights_refused(s, node_words, lookup_words, p, weight_count, scratch_words);
+    if (refusal) return (zdd_weighed){s, refusal, 0};
+    adding a = {nodes, weights, 0, false};
+    add_members(&a, p, 0);
+    return a.above ? (zdd_weighed){s, ZDD_LARGE, 0} : (zdd_weighed){s, 0, a.sum};
+}
+
+/* Size and sum of a handle, each at most 2^64 - 1; words 2k and 2k + 1 are those of node k + 2. Where one of them is that, word
+ * 2 * count + k is the node's mark: 1 where the size is above it, 2 where the sum is. */
+typedef struct {
+    uint64_t size, sum;
+} pair;
+
+static inline pair pair_of(const uint64_t *words, uint32_t p) {
+    if (p < 2) return (pair){p, 0};
+    return (pair){words[2 * (size_t)(p - 2)], words[2 * (size_t)(p - 2) + 1]};
+}
+
+static inline unsigned mark_of(const uint64_t *marks, uint32_t p, pair a) {
+    return p < 2 || (a.size != UINT64_MAX && a.sum != UINT64_MAX) ? 0 : (unsigned)marks[p - 2];
+}
+
+/* Size and sum of node k + 2 where they may not fit: 2^64 stands for every number above. */
+static void put_large(uint64_t *words, uint64_t *marks, size_t k, uint64_t weight, uint32_t zero, uint32_t one) {
+    pair a = pair_of(words, zero), b = pair_of(words, one);
+    unsigned of_a = mark_of(marks, zero, a), of_b = mark_of(marks, one, b);
+    unsigned __int128 with = (unsigned __int128)b.size + (of_b & 1), size = (unsigned __int128)a.size + (of_a & 1) + with;
+    unsigned __int128 sum = weight * with + a.sum + (of_a >> 1) + b.sum + (of_b >> 1);
+    words[2 * k] = size > UINT64_MAX ? UINT64_MAX : (uint64_t)size;
+    words[2 * k + 1] = sum > UINT64_MAX ? UINT64_MAX : (uint64_t)sum;
+    marks[k] = (size > UINT64_MAX) | (sum > UINT64_MAX) << 1;
+}
+
+zdd_weighed tuned_weight_by_nodes(READ, uint32_t p, const uint32_t *weights, size_t weight_count, uint64_t *words,
+                                  size_t scratch_words) {
+    (void)lookup;
+    uint32_t refusal = weights_refused(s, node_words, lookup_words, p, weight_count, scratch_words);
+    if (refusal) return (zdd_weighed){s, refusal, 0};
+    uint64_t *marks = words + 2 * (size_t)s.count;
+    for (size_t k = 0; k + 1 < p; k++) {
+        uint64_t weight = weights[nodes[3 * k] - 1];
+        uint32_t zero = nodes[3 * k + 1], one = nodes[3 * k + 2];
+        pair a = pair_of(words, zero), b = pair_of(words, one);
+        if ((a.size | b.size) >> 31 | (a.sum | b.sum) >> 62) put_large(words, marks, k, weight, zero, one);
+        else words[2 * k] = a.size + b.size, words[2 * k + 1] = a.sum + b.sum + weight * b.size;
+    }
+    pair of_p = pair_of(words, p);
+    return mark_of(marks, p, of_p) & 2 ? (zdd_weighed){s, ZDD_LARGE, 0} : (zdd_weighed){s, 0, of_p.sum};
 }
 
 /* ---- Save ---- */

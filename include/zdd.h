@@ -13,9 +13,9 @@
  * On any words whatever, sound or not, a call reads and writes nothing but what it is lent, and ends.
  *
  * Refusals. The field `refusal` is 0 where the call is not refused, else a number below. Several at once: 1, 2, 3 for
- * Fresh; else 10, 4, 3, 7, 9, 13, 6, 8, 5. A refusal gives handle, added, size and length 0 and member false, and hands
- * the record back as it came. After 5 the nodes and the lookup are as before and the whole cache groups are 0; otherwise
- * the lent words stay as they were, but for the scratch where a call says so.
+ * Fresh; else 10, 4, 11, 3, 7, 9, 13, 6, 8, 5. A refusal gives handle, added, size, sum and length 0 and member false, and
+ * hands the record back as it came. After 5 the nodes and the lookup are as before and the whole cache groups are 0;
+ * otherwise the lent words stay as they were, but for the scratch where a call says so.
  *
  * Cost. A call that places a family adds a node for each of its different parts not yet held, and gives their number in
  * `added`. The record's count grows by just that, on any words: the numbers since Fresh sum to it. Union, Intsec and Diff
@@ -47,11 +47,12 @@ extern "C" {
 #define ZDD_ITEM 3u         /* item 0 or above the store's limit; Fresh: limit 0 or above 512 */
 #define ZDD_HANDLE 4u       /* a handle above count + 1 */
 #define ZDD_FULL 5u         /* the result's parts not yet held outnumber capacity - count */
-#define ZDD_LARGE 6u        /* size above 18,446,744,073,709,551,615 */
+#define ZDD_LARGE 6u        /* size or sum above 18,446,744,073,709,551,615 */
 #define ZDD_SCRATCH 7u      /* scratch shorter than stated */
 #define ZDD_OUTPUT 8u       /* output shorter than the file */
 #define ZDD_NO_FILE 9u      /* the bytes are the file of no family */
 #define ZDD_DAMAGED 10u     /* see above */
+#define ZDD_WEIGHTS 11u     /* a list of weights that is not 512 long */
 #define ZDD_ABOVE_LIMIT 13u /* Load: a good file holds an item above this store's limit */
 
 #define ZDD_LARGEST_ITEM 512u /* and the largest limit */
@@ -97,6 +98,13 @@ typedef struct {
     uint32_t refusal;
     bool member;
 } zdd_asked;
+
+/* What a sum of weights gives. */
+typedef struct {
+    zdd_store store;
+    uint32_t refusal;
+    uint64_t sum;
+} zdd_weighed;
 
 /* What Save gives. */
 typedef struct {
@@ -198,6 +206,25 @@ zdd_measured zdd_size(zdd_store store, const uint32_t *nodes, size_t node_words,
  * Refusals: 10, 4. */
 zdd_asked zdd_has(zdd_store store, const uint32_t *nodes, size_t node_words,
                   const uint32_t *lookup, size_t lookup_words, uint32_t p, zdd_combination combination);
+
+/* Weights by members: the sum of item weights over every member of p, added member by member. The weight of item i is
+ * weights[i - 1]. It goes through every member, so its time grows with their number; a sum by nodes does not.
+ * Needs: p at most count + 1; weight_count 512, whatever store.limit is; scratch_words at least 3 * store.count, words of
+ *   64 bits, for every handle.
+ * Leaves: the first 3 * store.count scratch words free (after 6 too), later ones untouched; all store words and weights
+ *   stay.
+ * Refusals: 10, 4, 11, 7, 6. A sum of exactly 18,446,744,073,709,551,615 is given, also of a family that Size refuses. */
+zdd_weighed zdd_weight_by_members(zdd_store store, const uint32_t *nodes, size_t node_words,
+                                  const uint32_t *lookup, size_t lookup_words, uint32_t p,
+                                  const uint32_t *weights, size_t weight_count,
+                                  uint64_t *scratch, size_t scratch_words);
+
+/* Weights by nodes: the same sum, added node by node from the smallest number up, in time that grows with store.count.
+ * Needs, leaves and refusals: as for Weights by members; the two give the same number or the same refusal. */
+zdd_weighed zdd_weight_by_nodes(zdd_store store, const uint32_t *nodes, size_t node_words,
+                                const uint32_t *lookup, size_t lookup_words, uint32_t p,
+                                const uint32_t *weights, size_t weight_count,
+                                uint64_t *scratch, size_t scratch_words);
 
 /* Save: writes the file of p to the front of the output, and gives its length. Equal families have equal files, in
  * stores of any size and limit.

@@ -11,7 +11,8 @@
 enum { CAPACITY = 8000, CACHE_WORDS = 65536, STACK_BYTES = 4 << 20, PAINT = 0xA5 };
 
 static uint32_t nodes[3 * CAPACITY], lookup[2 * CAPACITY + 1], cache[CACHE_WORDS], scratch[66 * CAPACITY + 30];
-static uint64_t sizes[CAPACITY];
+static uint64_t sizes[3 * CAPACITY];
+static uint32_t weights[ZDD_LARGEST_ITEM]; /* all 0 */
 static uint8_t file[11 * CAPACITY + 5], output[11 * CAPACITY + 5];
 static size_t file_bytes;
 static zdd_store store;
@@ -26,9 +27,10 @@ static void stop(const char *what, uint32_t number) {
 
 /* ---- the families ---- */
 
-/* All subsets of the items 1 to 512; all but the empty one; all of one item. In the damaged store: p leads to a node of
- * the item 0, q does not, and cut leads to a child that is not held. */
-static uint32_t subsets, filled, singles, p, q, cut;
+/* All subsets of the items 1 to 512; all but the empty one; all of one item; the sets of the largest items, one of each
+ * length. In the damaged store: p leads to a node of the item 0, q does not, cut leads to a child that is not held, and
+ * deep leads to p by with-sides. */
+static uint32_t subsets, filled, singles, nested, p, q, cut, deep;
 
 static uint32_t placed(zdd_placed r) {
     if (r.refusal) stop("a family was refused", r.refusal);
@@ -42,10 +44,11 @@ static zdd_freshened freshened(void) {
 
 static void build(void) {
     store = freshened().store;
-    subsets = 1, singles = 0;
+    subsets = 1, singles = 0, nested = 1;
     for (uint32_t item = 1; item <= ZDD_LARGEST_ITEM; item++) {
         subsets = placed(zdd_union(LENT, subsets, placed(zdd_change(LENT, subsets, item))));
         singles = placed(zdd_union(LENT, singles, placed(zdd_change(LENT, 1, item))));
+        nested = placed(zdd_union(LENT, 1, placed(zdd_change(LENT, nested, item))));
     }
     filled = placed(zdd_diff(LENT, subsets, 1));
     file_bytes = zdd_save(READ, subsets, scratch, CAPACITY, file, sizeof file).length;
@@ -59,9 +62,9 @@ static uint32_t append(uint32_t item, uint32_t zero, uint32_t one) {
 
 static void build_damaged(void) {
     store = freshened().store;
-    p = append(0, 0, 1), q = 1, cut = UINT32_MAX;
+    p = append(0, 0, 1), q = 1, cut = UINT32_MAX, deep = p;
     for (uint32_t item = 1; item <= ZDD_LARGEST_ITEM; item++)
-        p = append(item, p, 1), q = append(item, q, 1), cut = append(item, cut, 1);
+        p = append(item, p, 1), q = append(item, q, 1), cut = append(item, cut, 1), deep = append(item, 1, deep);
 }
 
 /* ---- the calls: each gives its refusal ---- */
@@ -83,6 +86,19 @@ static uint32_t odd(void) { return zdd_odd(LENT, subsets).refusal; }
 static uint32_t odd_damaged(void) { return zdd_odd(LENT, cut).refusal; }
 static uint32_t size(void) { return zdd_size(READ, singles, sizes, CAPACITY).refusal; }
 static uint32_t has(void) { return zdd_has(READ, subsets, (zdd_combination){{0}}).refusal; }
+static uint32_t by_members(uint32_t family) {
+    return zdd_weight_by_members(READ, family, weights, ZDD_LARGEST_ITEM, sizes, 3 * CAPACITY).refusal;
+}
+static uint32_t members(void) { return by_members(singles); }
+static uint32_t members_nested(void) { return by_members(nested); }
+static uint32_t members_damaged(void) { return by_members(p); }
+static uint32_t members_deep(void) { return by_members(deep); }
+static uint32_t by_nodes(void) {
+    return zdd_weight_by_nodes(READ, subsets, weights, ZDD_LARGEST_ITEM, sizes, 3 * CAPACITY).refusal;
+}
+static uint32_t by_nodes_damaged(void) {
+    return zdd_weight_by_nodes(READ, cut, weights, ZDD_LARGEST_ITEM, sizes, 3 * CAPACITY).refusal;
+}
 static uint32_t save(void) { return zdd_save(READ, subsets, scratch, CAPACITY, output, sizeof output).refusal; }
 static uint32_t save_damaged(void) { return zdd_save(READ, p, scratch, CAPACITY, output, sizeof output).refusal; }
 static uint32_t load(void) { return zdd_load(LENT, file, file_bytes, scratch, sizeof scratch / sizeof *scratch).refusal; }
@@ -113,6 +129,12 @@ static const struct job {
     {"Load", load, build, 0},
     {"Size", size, build, 0},
     {"Has", has, build, 0},
+    {"By members, one by one", members, build, 0},
+    {"By members, nested", members_nested, build, 0},
+    {"By members, damaged", members_damaged, build_damaged, 0},
+    {"By members, deep damage", members_deep, build_damaged, 0},
+    {"By nodes", by_nodes, build, 0},
+    {"By nodes, damaged", by_nodes_damaged, build_damaged, 0},
     {"Audit", audit, build, 0},
     {"Fresh", fresh, build, 0},
 };
@@ -150,7 +172,7 @@ int main(void) {
     if (posix_memalign((void **)&stack, 4096, STACK_BYTES)) stop("no memory", 0);
     for (size_t k = 0; k < sizeof jobs / sizeof *jobs; k++) {
         size_t bytes = measure(&jobs[k]);
-        printf("stack: %-22s %7lu bytes\n", jobs[k].name, (unsigned long)bytes);
+        printf("stack: %-24s %7lu bytes\n", jobs[k].name, (unsigned long)bytes);
         if (refusal != jobs[k].refusal) stop("refused with", refusal);
         if (bytes > most) most = bytes;
     }

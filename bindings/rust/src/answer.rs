@@ -61,6 +61,18 @@ pub struct Asked {
     pub member: bool,
 }
 
+/// What a sum of weights gives.
+#[derive(Clone, Copy, PartialEq, Eq, Debug)]
+#[repr(C)]
+pub struct Weighed {
+    /// The record as it came.
+    pub store: Record,
+    /// 0, or the number of the refusal.
+    pub refusal: u32,
+    /// The sum; 0 where it is refused.
+    pub sum: u64,
+}
+
 /// What Save gives.
 #[derive(Clone, Copy, PartialEq, Eq, Debug)]
 #[repr(C)]
@@ -116,6 +128,13 @@ impl Asked {
     /// Yes or no, or the refusal.
     pub fn result(self) -> Result<bool, Refusal> {
         told(self.refusal, self.member)
+    }
+}
+
+impl Weighed {
+    /// The sum, or the refusal.
+    pub fn result(self) -> Result<u64, Refusal> {
+        told(self.refusal, self.sum)
     }
 }
 

@@ -2,7 +2,7 @@
 //!
 //! Each answer has its `result()`. What a call needs, what it leaves and how it is refused stands in `include/zdd.h`.
 use crate::raw;
-use crate::{Asked, Audited, Combination, Freshened, Measured, Placed, Record, Saved};
+use crate::{Asked, Audited, Combination, Freshened, Measured, Placed, Record, Saved, Weighed};
 
 /// The words lent to a call that may place a family.
 pub struct Words<'a> {
@@ -130,6 +130,55 @@ pub fn size(store: Record, nodes: &[u32], lookup: &[u32], p: u32, scratch: &mut 
 /// Whether the combination is a member of p.
 pub fn has(store: Record, nodes: &[u32], lookup: &[u32], p: u32, combination: Combination) -> Asked {
     unsafe { raw::zdd_has(store, nodes.as_ptr(), nodes.len(), lookup.as_ptr(), lookup.len(), p, combination) }
+}
+
+fn weighing(
+    call: raw::Weighing,
+    store: Record,
+    [nodes, lookup]: [&[u32]; 2],
+    p: u32,
+    weights: &[u32],
+    scratch: &mut [u64],
+) -> Weighed {
+    unsafe {
+        call(
+            store,
+            nodes.as_ptr(),
+            nodes.len(),
+            lookup.as_ptr(),
+            lookup.len(),
+            p,
+            weights.as_ptr(),
+            weights.len(),
+            scratch.as_mut_ptr(),
+            scratch.len(),
+        )
+    }
+}
+
+/// The sum of item weights over the members of p, added member by member; the weight of item i is `weights[i - 1]`. It
+/// goes through every member.
+pub fn weight_by_members(
+    store: Record,
+    nodes: &[u32],
+    lookup: &[u32],
+    p: u32,
+    weights: &[u32],
+    scratch: &mut [u64],
+) -> Weighed {
+    weighing(raw::zdd_weight_by_members, store, [nodes, lookup], p, weights, scratch)
+}
+
+/// The same sum, added node by node.
+pub fn weight_by_nodes(
+    store: Record,
+    nodes: &[u32],
+    lookup: &[u32],
+    p: u32,
+    weights: &[u32],
+    scratch: &mut [u64],
+) -> Weighed {
+    weighing(raw::zdd_weight_by_nodes, store, [nodes, lookup], p, weights, scratch)
 }
 
 /// Writes the file of p to the front of the output, and gives its length.

@@ -16,6 +16,11 @@
 //! assert_eq!(store.change(both, 513), Err(Refusal::Item));
 //! assert_eq!((store.even(both)?, store.odd(both)?), (Store::EMPTY, both));
 //!
+//! let mut minutes = [0; 512];
+//! (minutes[0], minutes[511]) = (25, 90);
+//! assert_eq!(store.weight_by_nodes(both, &minutes)?, 115);
+//! assert_eq!(store.weight_by_members(both, &minutes)?, 115);
+//!
 //! let mut pocket = Store::new(100, 64, 64)?;
 //! assert_eq!(pocket.load(&store.save(one)?)?, pocket.change(Store::BASE, 1)?);
 //! assert_eq!(pocket.load(&store.save(both)?), Err(Refusal::AboveLimit));
@@ -30,7 +35,7 @@ mod raw;
 mod refusal;
 mod store;
 
-pub use answer::{Asked, Audited, Freshened, Measured, Placed, Record, Saved};
+pub use answer::{Asked, Audited, Freshened, Measured, Placed, Record, Saved, Weighed};
 pub use combination::Combination;
 pub use refusal::Refusal;
 pub use store::Store;

@@ -1,5 +1,5 @@
 //! The functions of libzdd_c.a, as include/zdd.h has them.
-use crate::{Asked, Audited, Combination, Freshened, Measured, Placed, Record, Saved};
+use crate::{Asked, Audited, Combination, Freshened, Measured, Placed, Record, Saved, Weighed};
 
 extern "C" {
     pub fn zdd_fresh(
@@ -74,6 +74,33 @@ pub type Operation =
 
 /// The shape of Even and Odd: the record, the words and a family.
 pub type Parity = unsafe extern "C" fn(Record, *mut u32, usize, *mut u32, usize, *mut u32, usize, u32) -> Placed;
+
+/// The shape of the two sums of weights: the record, the words, a family, the weights and the scratch.
+pub type Weighing = unsafe extern "C" fn(
+    Record,
+    *const u32,
+    usize,
+    *const u32,
+    usize,
+    u32,
+    *const u32,
+    usize,
+    *mut u64,
+    usize,
+) -> Weighed;
+
+macro_rules! weighings {
+    ($($name:ident)*) => {
+        extern "C" {
+            $(pub fn $name(store: Record, nodes: *const u32, node_words: usize, lookup: *const u32, lookup_words: usize, p: u32, weights: *const u32, weight_count: usize, scratch: *mut u64, scratch_words: usize) -> Weighed;)*
+        }
+    };
+}
+
+weighings! {
+    zdd_weight_by_members
+    zdd_weight_by_nodes
+}
 
 macro_rules! operations {
     ($($name:ident($($operand:ident),*))*) => {

@@ -16,7 +16,7 @@ pub enum Refusal {
     Handle = 4,
     /// The result's parts not yet held outnumber capacity - count.
     Full = 5,
-    /// Size above 18,446,744,073,709,551,615.
+    /// Size or sum above 18,446,744,073,709,551,615.
     Large = 6,
     /// Scratch shorter than stated.
     Scratch = 7,
@@ -26,6 +26,8 @@ pub enum Refusal {
     NoFile = 9,
     /// The record does not fit the words, or the words are those of no sound store.
     Damaged = 10,
+    /// A list of weights that is not 512 long.
+    Weights = 11,
     /// Load: a good file holds an item above this store's limit.
     AboveLimit = 13,
 }
@@ -39,7 +41,7 @@ impl Refusal {
     /// The refusal of a number, where there is one.
     pub fn of(number: u32) -> Option<Refusal> {
         use Refusal::*;
-        let all = [Tiny, ShortLookup, Item, Handle, Full, Large, Scratch, Output, NoFile, Damaged, AboveLimit];
+        let all = [Tiny, ShortLookup, Item, Handle, Full, Large, Scratch, Output, NoFile, Damaged, Weights, AboveLimit];
         all.into_iter().find(|refusal| refusal.number() == number)
     }
 }
@@ -57,6 +59,7 @@ impl fmt::Display for Refusal {
             Refusal::Output => "output",
             Refusal::NoFile => "no file",
             Refusal::Damaged => "damaged",
+            Refusal::Weights => "weights",
             Refusal::AboveLimit => "above limit",
         };
         write!(f, "refused with {}: {word}", self.number())

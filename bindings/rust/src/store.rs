@@ -114,6 +114,19 @@ impl Store {
         calls::has(self.record, &self.nodes, &self.lookup, p, combination).result()
     }
 
+    /// The sum of item weights over the members of p, added member by member; the weight of item i is `weights[i - 1]`.
+    /// It goes through every member: where they are many, add by nodes. Refusals: Handle, Weights, Large.
+    pub fn weight_by_members(&self, p: u32, weights: &[u32]) -> Result<u64, Refusal> {
+        let mut scratch = vec![0; 3 * self.record.count as usize];
+        calls::weight_by_members(self.record, &self.nodes, &self.lookup, p, weights, &mut scratch).result()
+    }
+
+    /// The same sum, added node by node. Refusals: Handle, Weights, Large.
+    pub fn weight_by_nodes(&self, p: u32, weights: &[u32]) -> Result<u64, Refusal> {
+        let mut scratch = vec![0; 3 * self.record.count as usize];
+        calls::weight_by_nodes(self.record, &self.nodes, &self.lookup, p, weights, &mut scratch).result()
+    }
+
     /// The file of p. Refusal: Handle.
     pub fn save(&self, p: u32) -> Result<Vec<u8>, Refusal> {
         let count = self.record.count as usize;

@@ -6,7 +6,7 @@ use mathlib.Core.List.{List, [], _∷_, _++_, map}
 use native.Mathlib.Omega.{arith}
 use native.Mathlib.Nat.{mul-zero, mul-suc}
 use lib.ListN.{length}
-use Rattle.family.specs.Family.{Family, empty, base, node, members, size}
+use Rattle.family.specs.Family.{Family, empty, base, node, members}
 use Rattle.family.specs.Weights.{itemWeight, combinationWeight, total, sumByMembers, sumByNodes}
 use Rattle.family.proofs.Members.{size-members}
 

@@ -15,7 +15,7 @@ use Rattle.family.proofs.Books.{at-held, at-within}
 use Rattle.family.proofs.Parity.{within-parity}
 use Rattle.file_load.specs.Promise.{fileNumber, foundFamily, loadRefusal, loadFamily}
 use Rattle.op_promise.specs.Promise.{numberOf}
-use Rattle.lists.specs.Calls.{Call, Operate, Parity, Size, Has, Save, Load, Audit, Fact}
+use Rattle.lists.specs.Calls.{Call, Operate, Parity, Size, Has, Weigh, Save, Load, Audit, Fact}
 use Rattle.lists.specs.Acts.{count, Act, Gives, Saves, Places, actOf}
 use Rattle.lists.proofs.Limits.{named-within, file-within}
 
@@ -41,6 +41,7 @@ grounded limit B book (Operate op p q) = family-grounded (λ e. named-within (nu
 grounded limit B book (Parity even p) = family-grounded (λ e. within-parity _ (at B p) (at-within B book p))
 grounded limit B book (Size p scratch) = fact-grounded
 grounded limit B book (Has p combination) = fact-grounded
+grounded limit B book (Weigh way p weights scratch) = fact-grounded
 grounded limit B book (Save p scratch output) = file-grounded (at-held B book p)
 grounded limit B book (Load file scratch) = family-grounded (λ e. load-within limit file scratch e)
 grounded limit B book Audit = fact-grounded

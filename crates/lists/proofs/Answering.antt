@@ -1,18 +1,19 @@
--- What an answer says of the book: a handle that a call gave is its family's number in the book after the whole list,
--- and a family that the book holds is placed for no new node. An answer is that of the book before its call, and the
--- book only grows.
-use Prim.Native.Nat.{ℕ}
+-- What an answer says of the book: a handle that a call took means the same family in the book after the whole list, one
+-- that it gave is its family's number there, and a family that the book holds is placed for no new node. An answer is
+-- that of the book before its call, and the book only grows.
+use Prim.Native.Nat.{ℕ, _+_, _≤_, _<_}
 use mathlib.Core.Path.{_≡_, sym, ap, _∙_}
 use mathlib.Core.List.{List, [], _∷_}
 use native.Mathlib.Omega.{arith}
+use lib.ListN.{length}
 use Rattle.words.proofs.Cases.{by-test, by-eq}
 use Rattle.family.specs.Family.{Family}
-use Rattle.family.specs.Book.{start, number, place, Grown, Book}
-use Rattle.family.proofs.Books.{grown-self, grown-trans}
+use Rattle.family.specs.Book.{start, at, number, place, Grown, Book}
+use Rattle.family.proofs.Books.{grown-self, grown-trans, grown-length, grown-at}
 use Rattle.store.specs.Placing.{tooLarge}
 use Rattle.store.proofs.Holding.{held-answer}
 use Rattle.lists.specs.Calls.{Call, Answer, gives, Answered, here, later}
-use Rattle.lists.specs.Acts.{placeReturns}
+use Rattle.lists.specs.Acts.{placeReturns, count}
 use Rattle.lists.specs.Books.{Bounds, bookAnswer, bookAfter, answersFrom, bookFrom}
 use Rattle.lists.proofs.Placings.{TakesFamily, book-refused, book-full, book-placed}
 use Rattle.lists.proofs.Growth.{Numbered, placed-held, book-grown}
@@ -33,6 +34,20 @@ between bounds B (later {c = c} {calls = calls} {answers = answers} found) e =
     let rest : answers ≡ answersFrom bounds (bookAfter bounds B c) calls = cc in
     let N = between bounds (bookAfter bounds B c) found rest in
     record { before = N .before; begun = grown-trans (book-grown bounds B (c ∷ [])) (N .begun); answer-is = N .answer-is; after = N .after }
+
+-- a handle that stood in the book before a call
+module _ {bounds : Bounds} {call : Call} {answer : Answer} {C : List Family} (N : Between bounds call answer start C) {p : ℕ} (l : p ≤ count (N .before) + 1) where
+  stood : p < length (N .before)
+  stood = omega (arith, grown-length (N .begun))
+
+  onward : Grown (N .before) C
+  onward = grown-trans (book-grown bounds (N .before) (call ∷ [])) (N .after)
+
+  pub still-held : p < length C
+  still-held = omega (arith, stood, grown-length onward)
+
+  pub still-means : at C p ≡ at (N .before) p
+  still-means = grown-at onward p stood
 
 -- a call that takes the family F
 module _ {bounds : Bounds} {B : List Family} {call : Call} {n : ℕ} {F : Family} (K : TakesFamily bounds B call n F) where

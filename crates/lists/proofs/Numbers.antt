@@ -2,7 +2,7 @@
 -- and Save write is as long as what they were lent. Each case of the tests is one line.
 use Prim.Native.Nat.{ℕ, _+_, _*_, _-_, _≤_, min}
 use mathlib.Core.Path.{_≡_, refl, _∙_}
-use mathlib.Core.Bool.{Bool, cond}
+use mathlib.Core.Bool.{Bool, true, false, cond}
 use mathlib.Core.List.{List}
 use mathlib.Core.Option.{Option, none, some}
 use native.Mathlib.Omega.{arith}
@@ -14,7 +14,7 @@ use Rattle.family.specs.Family.{Family, size, top, largestItem}
 use Rattle.family.specs.Book.{at}
 use Rattle.family.specs.File.{fileOf, familyOf}
 use Rattle.store.specs.declared.record.Refusal.{Refusal}
-use Rattle.store.specs.declared.record.Refusal.the-variants.{Item, Handle as NoHandle, Large, Scratch, Output, NoFile, AboveLimit}
+use Rattle.store.specs.declared.record.Refusal.the-variants.{Item, Handle as NoHandle, Large, Scratch, Output, NoFile, Weights, AboveLimit}
 use Rattle.store.specs.Refusals.{refusalNumber}
 use Rattle.store.specs.Scratch.{scratchTests}
 use Rattle.store.proofs.Calls.{refusal-some}
@@ -25,16 +25,20 @@ use Rattle.op_promise.specs.Promise.{operationRefusal}
 use Rattle.op_parity.specs.Promise.{parityRefusal}
 use Rattle.words.specs.Words.{most}
 use Rattle.query_sizes.specs.NodeSizes.{sizesOf}
-use Rattle.query_size.specs.declared.SizeAnswer.the-variants.{Members, Refused as SizeRefused}
-use Rattle.query_size.specs.Promise.{sizeGivenBy, sizeRefusal, sizeAnswer, sizeScratch}
-use Rattle.file_save.specs.declared.SaveAnswer.the-variants.{Length, Refused as SaveRefused}
-use Rattle.file_save.specs.Promise.{saveGivenBy, saveRefusal, saveAnswer, saveOutput}
+use Rattle.query_size.specs.Promise.{sizeRefusal, sizeScratch}
+use Rattle.query_weight.specs.Promise.{Way, sumBy, weightTests, weightRefusal}
+use Rattle.file_save.specs.Promise.{saveRefusal, saveOutput}
 use Rattle.file_load.specs.Promise.{fileNumber, loadRefusal}
 
 -- a number that refuses a call before it places: that of a refusal other than 5, or 0 where there is none
 pub data Refusing : ℕ → Type 0 where
   nothing : Refusing 0
   refuses : (x : Refusal) → (refusalNumber x ≡ 5 → ⊥) → Refusing (refusalNumber x)
+
+-- a call's own test
+own-refusing : (b : Bool) (x : Refusal) → (refusalNumber x ≡ 5 → ⊥) → Refusing (cond b 0 (refusalNumber x))
+own-refusing true x five = nothing
+own-refusing false x five = refuses x five
 
 -- the tests of a call, where its own finds a refusal other than 5 or none
 tests-refusing : (n p q : ℕ) {own : ℕ} (scratch need : ℕ) → Refusing own → Refusing (testsOf n p q own scratch need)
@@ -51,7 +55,7 @@ pub operation-refusing : (op limit n p q : ℕ) → Refusing (operationRefusal o
 unfolding operationRefusal
 operation-refusing op limit n p q =
     by-test (ltb op 4)
-    (λ t. rw t (tests-refusing n p 0 0 0 (by-test (isItem limit q) (λ i. rw i nothing) (λ i. rw i (refuses Item (λ e. omega arith))))))
+    (λ t. rw t (tests-refusing n p 0 0 0 (own-refusing (isItem limit q) Item (λ e. omega arith))))
     (λ t. rw t (tests-refusing n p q 0 0 nothing))
 
 pub parity-refusing : (n p : ℕ) → Refusing (parityRefusal n p)
@@ -74,10 +78,10 @@ pub has-refusing : (B : List Family) (p : ℕ) → Refusing (hasRefusal B p)
 unfolding hasRefusal
 has-refusing B p = tests-refusing (length B - 2) p 0 0 0 nothing
 
--- a number of these is 0 or a refusal's
-pub by-refusing {ℓ} : {A : Type ℓ} {n : ℕ} → Refusing n → (n ≡ 0 → A) → ((x : Refusal) → n ≡ refusalNumber x → A) → A
+-- a number of these is 0 or a refusal's, which is not 0
+pub by-refusing {ℓ} : {A : Type ℓ} {n : ℕ} → Refusing n → (n ≡ 0 → A) → ((x : Refusal) → n ≡ refusalNumber x → eqb (refusalNumber x) 0 ≡ false → A) → A
 by-refusing nothing f g = f refl
-by-refusing (refuses x five) f g = g x refl
+by-refusing (refuses x five) f g = g x refl (ne-eqb (refusalNumber x) 0 (refusal-some x))
 
 -- the tests of the scratch, and then one more
 then-refusing : {n : ℕ} (b : Bool) (x : Refusal) → (refusalNumber x ≡ 5 → ⊥) → Refusing n → Refusing (cond (eqb n 0) (cond b (refusalNumber x) 0) n)
@@ -88,18 +92,18 @@ pub size-refusing : (B : List Family) (p words : ℕ) → Refusing (sizeRefusal 
 unfolding sizeRefusal
 size-refusing B p words = then-refusing (ltb most (size (at B p))) Large (λ e. omega arith) (scratch-refusing B p words)
 
+weights-refusing : (B : List Family) (p long words : ℕ) → Refusing (weightTests B p long words)
+unfolding weightTests
+weights-refusing B p long words =
+    tests-refusing (length B - 2) p 0 words (3 * (length B - 2)) (own-refusing (eqb long largestItem) Weights (λ e. omega arith))
+
+pub weight-refusing : (way : Way) (B : List Family) (p : ℕ) (weights : List ℕ) (words : ℕ) → Refusing (weightRefusal way B p weights words)
+unfolding weightRefusal
+weight-refusing way B p weights words = then-refusing (ltb most (sumBy way weights (at B p))) Large (λ e. omega arith) (weights-refusing B p (length weights) words)
+
 pub save-refusing : (B : List Family) (p words room : ℕ) → Refusing (saveRefusal B p words room)
 unfolding saveRefusal
 save-refusing B p words room = then-refusing (ltb room (length (fileOf (at B p)))) Output (λ e. omega arith) (scratch-refusing B p words)
-
--- what Size and Save give and leave, refused and not
-pub size-none : (B : List Family) (p words : ℕ) → sizeRefusal B p words ≡ 0 → sizeGivenBy (Members (size (at B p))) ≡ sizeAnswer B p words
-unfolding sizeAnswer
-size-none B p words e = rw e
-
-pub size-some : (B : List Family) (p words : ℕ) (x : Refusal) → sizeRefusal B p words ≡ refusalNumber x → sizeGivenBy (SizeRefused x) ≡ sizeAnswer B p words
-unfolding sizeAnswer
-size-some B p words x e = rw (e, ne-eqb (refusalNumber x) 0 (refusal-some x))
 
 -- scratch that no test refuses has a word per node held
 scratch-room : (B : List Family) (p words : ℕ) → scratchTests B p words ≡ 0 → length B - 2 ≤ words
@@ -113,14 +117,6 @@ size-long B p scratch =
     (λ z e. rw e (length-append (sizesOf B) (drop (length B - 2) scratch)
     ∙ omega (arith, scratch-room B p (length scratch) z, length-map (drop 2 B) (λ F. min (size F) most), length-drop 2 B, length-drop (length B - 2) scratch)))
     (λ z e. rw e)
-
-pub save-none : (B : List Family) (p words room : ℕ) → saveRefusal B p words room ≡ 0 → saveGivenBy (Length (length (fileOf (at B p)))) ≡ saveAnswer B p words room
-unfolding saveAnswer
-save-none B p words room e = rw e
-
-pub save-some : (B : List Family) (p words room : ℕ) (x : Refusal) → saveRefusal B p words room ≡ refusalNumber x → saveGivenBy (SaveRefused x) ≡ saveAnswer B p words room
-unfolding saveAnswer
-save-some B p words room x e = rw (e, ne-eqb (refusalNumber x) 0 (refusal-some x))
 
 -- an output that Save does not refuse has room for the file
 save-room : (B : List Family) (p words room : ℕ) → saveRefusal B p words room ≡ 0 → length (fileOf (at B p)) ≤ room

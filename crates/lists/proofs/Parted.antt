@@ -1,17 +1,17 @@
 -- What Even and Odd of one family gave, over lists of calls: the statement is `PartedClaim` of specs/Parted.
 -- After the list the two handles still mean the two parts; these share no member and together are the family, and the
 -- book holds both {} and the family.
-use Prim.Native.Nat.{ℕ, _≤_, _<_}
+use Prim.Native.Nat.{ℕ, _+_, _≤_, _<_}
 use mathlib.Core.Path.{_≡_, refl, sym, ap, _∙_}
 use mathlib.Core.Bool.{Bool, not}
-use mathlib.Core.List.{List, [], _∷_}
+use mathlib.Core.List.{List}
 use native.Mathlib.Omega.{arith}
 use lib.ListN.{length}
 use Rattle.family.specs.Family.{Family}
 use Rattle.family.specs.Operation.{combine}
 use Rattle.family.specs.Parity.{parity}
 use Rattle.family.specs.Book.{start, at, Book}
-use Rattle.family.proofs.Books.{grown-trans, grown-length, grown-at, number-empty, held-empty, held-at, at-within}
+use Rattle.family.proofs.Books.{number-empty, held-empty, held-at, at-within}
 use Rattle.family.proofs.Parity.{parity-apart, parity-union}
 use Rattle.store.specs.Operations.{rule, named}
 use Rattle.store.proofs.Naming.{named-families, rule-4, rule-5}
@@ -29,9 +29,9 @@ use Rattle.lists.specs.Parted.{PartedClaim}
 use Rattle.lists.proofs.Invariant.{book}
 use Rattle.lists.proofs.Placings.{TakesFamily}
 use Rattle.lists.proofs.Steps.{step}
-use Rattle.lists.proofs.Growth.{Numbered, numbered-grown, numbered-at, book-grown}
+use Rattle.lists.proofs.Growth.{Numbered, numbered-grown, numbered-at}
 use Rattle.lists.proofs.Reaching.{Reached, reached}
-use Rattle.lists.proofs.Answering.{Between, between, unrefused, numbered, held-given}
+use Rattle.lists.proofs.Answering.{Between, between, still-held, still-means, unrefused, numbered, held-given}
 
 -- h means the even part of what p means, or the odd part
 record PartOf (C : List Family) (even : Bool) (p h : ℕ) : Type 0 where
@@ -44,17 +44,16 @@ module _ {bounds : Bounds} {even : Bool} {p h added : ℕ} {C : List Family} (N 
   takes : TakesFamily bounds (N .before) (Parity even p) (parityRefusal (count (N .before)) p) (parity even (at (N .before) p))
   takes = record { act = refl }
 
-  inside : p < length (N .before)
-  inside = omega (arith, passes (count (N .before)) p 0 0 0 0 (unrefused takes (N .answer-is)) .first, grown-length (N .begun))
+  inside : p ≤ count (N .before) + 1
+  inside = passes (count (N .before)) p 0 0 0 0 (unrefused takes (N .answer-is)) .first
 
   part-in : PartOf C even p h
   part-in =
-      let g = grown-trans (book-grown bounds (N .before) (Parity even p ∷ [])) (N .after) in
       let part = numbered-grown (N .after) (numbered takes (N .answer-is) (N .begun)) in
       record {
-        family-held = omega (arith, inside, grown-length g);
+        family-held = still-held N inside;
         part-held = omega (arith, part .held, part .is);
-        is = numbered-at part ∙ ap (λ X. parity even X) (sym (grown-at g p inside));
+        is = numbered-at part ∙ ap (λ X. parity even X) (sym (still-means N inside));
       }
 
 -- an operation on the two parts that names a family held

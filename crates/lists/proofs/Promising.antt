@@ -7,8 +7,7 @@ use mathlib.Core.Bool.{true, false}
 use mathlib.Core.List.{List, []}
 use native.Mathlib.Omega.{arith}
 use lib.ListN.{length}
-use borrow.Author.Tests.{ltb-false, ne-eqb}
-use Rattle.lists.proofs.Numbers.{has-refusing, by-refusing}
+use borrow.Author.Tests.{ltb-false}
 use Rattle.words.specs.Words.{zeroed}
 use Rattle.words.proofs.Cases.{by-test, clash}
 use Rattle.words.proofs.Zeroed.{zeroed-length, zeroed-drop}
@@ -26,7 +25,7 @@ use Rattle.store.specs.Words.{bookOf, nodesWith, lookupOf}
 use Rattle.store.specs.Placing.{costOf, tooLarge}
 use Rattle.store.specs.Promise.{cacheRefused, PlaceCall}
 use Rattle.store.specs.Sound.{Sound}
-use Rattle.store.proofs.Calls.{sound-fits, cost-length, call-refused, refusal-some}
+use Rattle.store.proofs.Calls.{sound-fits, cost-length, call-refused}
 use Rattle.store.proofs.Ways.{way-full, way-placed}
 use Rattle.store.proofs.Decoding.{sound-holds}
 use Rattle.store.proofs.Sounds.{zeroed-true, sound-with}
@@ -34,17 +33,21 @@ use Rattle.store.proofs.Cached.{true-grown}
 use Rattle.query_size.specs.declared.Measured.{Measured}
 use Rattle.query_size.specs.declared.SizeAnswer.{SizeAnswer}
 use Rattle.query_size.specs.declared.SizeAnswer.the-variants.{Members, Refused as SizeRefused}
-use Rattle.query_size.specs.Promise.{sizeGivenBy, sizeRefusal, sizeAnswer, sizeScratch, SizeCall}
+use Rattle.query_size.specs.Promise.{sizeGivenBy, sizeAnswer, sizeScratch, SizeCall}
 use Rattle.query_has.specs.declared.Asked.{Asked}
 use Rattle.query_has.specs.declared.HasAnswer.{HasAnswer}
 use Rattle.query_has.specs.declared.HasAnswer.the-variants.{Yes, No, Refused as HasRefused}
 use Rattle.query_has.specs.Promise.{hasGivenBy, hasAnswer, HasCall}
+use Rattle.query_weight.specs.declared.answer.Weighed.{Weighed}
+use Rattle.query_weight.specs.declared.answer.WeightAnswer.{WeightAnswer}
+use Rattle.query_weight.specs.declared.answer.WeightAnswer.the-variants.{Sum, Refused as WeightRefused}
+use Rattle.query_weight.specs.Promise.{Way, sumBy, weightGivenBy, weightAnswer, WeightCall}
 use Rattle.file_save.specs.declared.Saved.{Saved}
 use Rattle.file_save.specs.declared.SaveAnswer.{SaveAnswer}
 use Rattle.file_save.specs.declared.SaveAnswer.the-variants.{Length, Refused as SaveRefused}
-use Rattle.file_save.specs.Promise.{saveGivenBy, saveRefusal, saveAnswer, saveOutput, SaveCall}
+use Rattle.file_save.specs.Promise.{saveGivenBy, saveAnswer, saveOutput, SaveCall}
 use Rattle.store_audit.specs.Promise.{AuditCall}
-use Rattle.lists.proofs.Numbers.{Refusing, nothing, refuses, size-refusing, save-refusing, size-none, size-some, size-long, save-none, save-some, save-long}
+use Rattle.lists.proofs.Numbers.{Refusing, nothing, refuses, has-refusing, by-refusing, size-refusing, weight-refusing, save-refusing, size-long, save-long}
 use Rattle.lists.proofs.Laying.{looked-long, laid-long, laid-sound}
 
 -- a call that places
@@ -142,7 +145,7 @@ module _ {s : Store} {nodes lookup : List ℕ} (S : Sound s nodes lookup []) whe
       (λ z. by-test (has (at B p) c)
       (λ h. record { r = record { store = s; answer = Yes }; call = says Yes (rw (z, h)) })
       (λ h. record { r = record { store = s; answer = No }; call = says No (rw (z, h)) }))
-      (λ x d. record { r = record { store = s; answer = HasRefused x }; call = says (HasRefused x) (rw (d, ne-eqb (refusalNumber x) 0 (refusal-some x))) })
+      (λ x d f. record { r = record { store = s; answer = HasRefused x }; call = says (HasRefused x) (rw (d, f)) })
     where
       says : (a : HasAnswer) → hasGivenBy a ≡ hasAnswer (bookOf nodes (s .count)) p c → HasCall s nodes lookup p c (record { store = s; answer = a })
       says a e = record { misfit = λ d. clash (sound-fits S) d; answer-is = λ T. e; store-is = refl }
@@ -163,7 +166,9 @@ module _ {s : Store} {nodes lookup : List ℕ} (S : Sound s nodes lookup []) whe
     pub call : SizeCall s nodes lookup p scratch r scratch′
 
   pub size-kept : (p : ℕ) (scratch : List ℕ) → Size-kept p scratch
-  size-kept p scratch = by-number refl (size-refusing B p (length scratch))
+  unfolding sizeAnswer
+  size-kept p scratch =
+      by-refusing (size-refusing B p (length scratch)) (λ z. says (Members (size (at B p))) (rw z)) (λ x d f. says (SizeRefused x) (rw (d, f)))
     where
       B : List Family
       B = bookOf nodes (s .count)
@@ -182,9 +187,32 @@ module _ {s : Store} {nodes lookup : List ℕ} (S : Sound s nodes lookup []) whe
             };
           }
 
-      by-number : {n : ℕ} → sizeRefusal B p (length scratch) ≡ n → Refusing n → Size-kept p scratch
-      by-number e nothing = says (Members (size (at B p))) (size-none B p (length scratch) e)
-      by-number e (refuses x five) = says (SizeRefused x) (size-some B p (length scratch) x e)
+  pub record Weight-kept (way : Way) (p : ℕ) (weights scratch : List ℕ) : Type 0 where
+    pub r : Weighed
+    pub call : WeightCall way s nodes lookup p weights scratch r scratch
+
+  -- either sum may leave its scratch as it came
+  pub weight-kept : (way : Way) (p : ℕ) (weights scratch : List ℕ) → Weight-kept way p weights scratch
+  unfolding weightAnswer
+  weight-kept way p weights scratch =
+      by-refusing (weight-refusing way B p weights (length scratch)) (λ z. says (Sum (sumBy way weights (at B p))) (rw z)) (λ x d f. says (WeightRefused x) (rw (d, f)))
+    where
+      B : List Family
+      B = bookOf nodes (s .count)
+
+      says : (a : WeightAnswer) → weightGivenBy a ≡ weightAnswer way B p weights (length scratch) → Weight-kept way p weights scratch
+      says a e =
+          record {
+            r = record { store = s; answer = a };
+            call = record {
+              misfit = λ d. clash (sound-fits S) d;
+              answer-is = λ T. e;
+              scratch-stays = λ T d. refl;
+              scratch-rest = refl;
+              store-is = refl;
+              long = refl;
+            };
+          }
 
   pub record Save-kept (p : ℕ) (scratch out : List ℕ) : Type 0 where
     pub r : Saved
@@ -192,7 +220,9 @@ module _ {s : Store} {nodes lookup : List ℕ} (S : Sound s nodes lookup []) whe
     pub call : SaveCall s nodes lookup p scratch out r scratch out′
 
   pub save-kept : (p : ℕ) (scratch out : List ℕ) → Save-kept p scratch out
-  save-kept p scratch out = by-number refl (save-refusing B p (length scratch) (length out))
+  unfolding saveAnswer
+  save-kept p scratch out =
+      by-refusing (save-refusing B p (length scratch) (length out)) (λ z. says (Length (length (fileOf (at B p)))) (rw z)) (λ x d f. says (SaveRefused x) (rw (d, f)))
     where
       B : List Family
       B = bookOf nodes (s .count)
@@ -213,7 +243,3 @@ module _ {s : Store} {nodes lookup : List ℕ} (S : Sound s nodes lookup []) whe
               long-out = save-long B p (length scratch) out;
             };
           }
-
-      by-number : {n : ℕ} → saveRefusal B p (length scratch) (length out) ≡ n → Refusing n → Save-kept p scratch out
-      by-number e nothing = says (Length (length (fileOf (at B p)))) (save-none B p (length scratch) (length out) e)
-      by-number e (refuses x five) = says (SaveRefused x) (save-some B p (length scratch) (length out) x e)

@@ -28,16 +28,18 @@ use Rattle.query_size.specs.declared.Measured.{Measured}
 use Rattle.query_has.specs.declared.Asked.{Asked}
 use Rattle.query_size.specs.Promise.{sizeGivenBy, sizeAnswer, SizeCall}
 use Rattle.query_has.specs.Promise.{hasGivenBy, hasAnswer, HasCall}
+use Rattle.query_weight.specs.declared.answer.Weighed.{Weighed}
+use Rattle.query_weight.specs.Promise.{Way, weightGivenBy, weightAnswer, WeightCall}
 use Rattle.file_save.specs.declared.Saved.{Saved}
 use Rattle.file_save.specs.Promise.{saveGivenBy, saveRefusal, saveAnswer, saveOutput, SaveCall}
 use Rattle.file_load.specs.Promise.{LoadCall}
 use Rattle.store_audit.specs.declared.audit.Audited.{Audited}
 use Rattle.store_audit.specs.Promise.{AuditCall}
 use Rattle.op_promise.specs.declared.Operation.{Operation}
-use Rattle.lists.specs.Calls.{Call, Operate, Parity, Size, Has, Save, Load, Audit, Answer}
-use Rattle.lists.specs.Acts.{placeReturns, sizeReturns, hasReturns, saveReturns, auditReturns, Saves, actAnswer, stays}
+use Rattle.lists.specs.Calls.{Call, Operate, Parity, Size, Has, Weigh, Save, Load, Audit, Answer}
+use Rattle.lists.specs.Acts.{placeReturns, sizeReturns, hasReturns, weightReturns, saveReturns, auditReturns, Saves, actAnswer, stays}
 use Rattle.lists.specs.Books.{Bounds, bookAnswer, bookEffect}
-use Rattle.lists.specs.Runs.{State, sameWords, withPart, Step, operates, parts, sizes, asks, saves, loads, audits}
+use Rattle.lists.specs.Runs.{State, sameWords, withPart, Step, operates, parts, sizes, asks, weighs, saves, loads, audits}
 use Rattle.lists.proofs.Lending.{joined-true}
 use Rattle.lists.proofs.Invariant.{Inv, BookStep, count-is}
 use Rattle.lists.proofs.Placings.{place-step}
@@ -71,34 +73,37 @@ module _ {bounds : Bounds} {slots : ℕ} {B : List Family} {x : State} (I : Inv 
   pub no-cache : Sound (x .store) (x .nodes) (x .lookup) []
   no-cache = bare (I .sound)
 
-  -- a call that writes no store word, and hands the record back as it came
-  query-step : (call : Call) (answer : Answer) (s : Store) → bookEffect bounds B call ≡ stays → answer ≡ bookAnswer bounds B call → s ≡ x .store
-      → BookStep bounds slots B call answer (sameWords x s)
-  query-step call answer s t a e = record { answer-is = a; after = rw (e, t) I }
+  -- a call that writes no store word, hands the record back as it came and answers by the book that the words hold
+  query-step : (call : Call) (told : List Family → Answer) {answer : Answer} {s : Store} → bookEffect bounds B call ≡ stays → told B ≡ bookAnswer bounds B call
+      → answer ≡ told (bookOf (x .nodes) (x .store .count)) → s ≡ x .store → BookStep bounds slots B call answer (sameWords x s)
+  query-step call told t b a e = record { answer-is = a ∙ ap told (I .book-is) ∙ b; after = rw (e, t) I }
 
   size-step : {p : ℕ} {scratch scratch′ : List ℕ} {r : Measured} → SizeCall (x .store) (x .nodes) (x .lookup) p scratch r scratch′
       → BookStep bounds slots B (Size p (length scratch)) (sizeReturns (sizeGivenBy (r .answer))) (sameWords x (r .store))
   unfolding bookAnswer bookEffect
-  size-step {p} {scratch} {scratch′} {r} P =
-      query-step (Size p (length scratch)) (sizeReturns (sizeGivenBy (r .answer))) (r .store) refl
-      (ap sizeReturns (P .answer-is no-cache) ∙ ap (λ X. sizeReturns (sizeAnswer X p (length scratch))) (I .book-is)) (P .store-is)
+  size-step {p} {scratch} P =
+      query-step (Size p (length scratch)) (λ X. sizeReturns (sizeAnswer X p (length scratch))) refl refl (ap sizeReturns (P .answer-is no-cache)) (P .store-is)
 
   has-step : {p : ℕ} (w : List ℕ) {r : Asked} → HasCall (x .store) (x .nodes) (x .lookup) p (itemsOf w) r
       → BookStep bounds slots B (Has p w) (hasReturns (hasGivenBy (r .answer))) (sameWords x (r .store))
   unfolding bookAnswer bookEffect
-  has-step {p} w {r} P =
-      query-step (Has p w) (hasReturns (hasGivenBy (r .answer))) (r .store) refl
-      (ap hasReturns (P .answer-is no-cache) ∙ ap (λ X. hasReturns (hasAnswer X p (itemsOf w))) (I .book-is)) (P .store-is)
+  has-step {p} w P = query-step (Has p w) (λ X. hasReturns (hasAnswer X p (itemsOf w))) refl refl (ap hasReturns (P .answer-is no-cache)) (P .store-is)
+
+  weigh-step : {way : Way} {p : ℕ} {weights scratch scratch′ : List ℕ} {r : Weighed} → WeightCall way (x .store) (x .nodes) (x .lookup) p weights scratch r scratch′
+      → BookStep bounds slots B (Weigh way p weights (length scratch)) (weightReturns (weightGivenBy (r .answer))) (sameWords x (r .store))
+  unfolding bookAnswer bookEffect
+  weigh-step {way} {p} {weights} {scratch} P =
+      query-step (Weigh way p weights (length scratch)) (λ X. weightReturns (weightAnswer way X p weights (length scratch))) refl refl
+      (ap weightReturns (P .answer-is no-cache)) (P .store-is)
 
   save-step : {p : ℕ} {scratch out scratch′ out′ : List ℕ} {r : Saved} → SaveCall (x .store) (x .nodes) (x .lookup) p scratch out r scratch′ out′
       → BookStep bounds slots B (Save p (length scratch) (length out)) (saveReturns (saveGivenBy (r .answer)) out′) (sameWords x (r .store))
   unfolding bookAnswer bookEffect
-  save-step {p} {scratch} {out} {scratch′} {out′} {r} P =
-      query-step (Save p (length scratch) (length out)) (saveReturns (saveGivenBy (r .answer)) out′) (r .store) refl
+  save-step {p} {scratch} {out} {out′ = out′} P =
+      query-step (Save p (length scratch) (length out)) (λ X. saveReturns (saveAnswer X p (length scratch) (length out)) (saveOutput X p (length scratch) out)) refl
+      (save-answers (bounds .capacity) B p (length scratch) out)
       (ap (λ g. saveReturns g out′) (P .answer-is no-cache)
-      ∙ ap (λ l. saveReturns (saveAnswer (bookOf (x .nodes) (x .store .count)) p (length scratch) (length out)) l) (P .out-is no-cache)
-      ∙ ap (λ X. saveReturns (saveAnswer X p (length scratch) (length out)) (saveOutput X p (length scratch) out)) (I .book-is)
-      ∙ save-answers (bounds .capacity) B p (length scratch) out) (P .store-is)
+      ∙ ap (λ l. saveReturns (saveAnswer (bookOf (x .nodes) (x .store .count)) p (length scratch) (length out)) l) (P .out-is no-cache)) (P .store-is)
 
   audit-step : (lent : ℕ) {r : Audited} {part : List ℕ} → AuditCall (x .store) (x .nodes) (x .lookup) (take lent (x .cache)) r part
       → BookStep bounds slots B Audit (auditReturns (r .sound)) (withPart x lent (r .store) (x .nodes) (x .lookup) part)
@@ -132,6 +137,7 @@ module _ {bounds : Bounds} {slots : ℕ} {B : List Family} {x : State} (I : Inv 
   step (parts lent {even = even} {p = p} P) = parity-step lent {even = even} {p = p} P
   step (sizes P) = size-step P
   step (asks {combination = w} P) = has-step w P
+  step (weighs P) = weigh-step P
   step (saves P) = save-step P
   step (loads lent P) = load-step lent P
   step (audits lent P) = audit-step lent P

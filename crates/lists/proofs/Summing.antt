@@ -6,7 +6,7 @@ use mathlib.Core.Path.{_≡_, ap}
 use mathlib.Core.List.{List, [], _∷_, _++_}
 use native.Mathlib.Omega.{arith}
 use Rattle.lists.specs.Calls.{Call, Answer, addedBy, addedSum}
-use Rattle.lists.specs.Runs.{State, Opening, Step, operates, parts, sizes, asks, saves, loads, audits, Runs, fresh, next}
+use Rattle.lists.specs.Runs.{State, Opening, Step, operates, parts, sizes, asks, weighs, saves, loads, audits, Runs, fresh, next}
 use Rattle.lists.proofs.Invariant.{size, fresh-inv}
 
 sum-snoc : (answers : List Answer) (a : Answer) → addedSum (answers ++ (a ∷ [])) ≡ addedSum answers + addedBy (a .value)
@@ -19,6 +19,7 @@ step-counts (operates lent P) = P .counted
 step-counts (parts lent P) = P .counted
 step-counts (sizes P) = omega (arith, ap (λ s. s .count) (P .store-is))
 step-counts (asks P) = omega (arith, ap (λ s. s .count) (P .store-is))
+step-counts (weighs P) = omega (arith, ap (λ s. s .count) (P .store-is))
 step-counts (saves P) = omega (arith, ap (λ s. s .count) (P .store-is))
 step-counts (loads lent P) = P .places .counted
 step-counts (audits lent P) = omega (arith, ap (λ s. s .count) (P .store-is))

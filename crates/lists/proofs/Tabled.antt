@@ -2,7 +2,7 @@
 -- Both go by the same tests in document 01's order; each case of the tests is one line.
 use Prim.Native.Nat.{ℕ, _+_, _*_}
 use mathlib.Core.Path.{_≡_, refl, sym, _∙_}
-use mathlib.Core.Bool.{cond}
+use mathlib.Core.Bool.{Bool, true, cond, not}
 use mathlib.Core.List.{List}
 use mathlib.Core.Option.{Option, none, some}
 use lib.Dec.{eqb, ltb}
@@ -23,10 +23,11 @@ use Rattle.op_parity.specs.Promise.{parityRefusal}
 use Rattle.words.specs.Words.{most}
 use Rattle.query_size.specs.Promise.{sizeRefusal, sizeAnswer}
 use Rattle.query_has.specs.Promise.{hasAnswer, hasRefusal}
+use Rattle.query_weight.specs.Promise.{sumBy, weightTests, weightRefusal, weightAnswer}
 use Rattle.file_save.specs.Promise.{saveRefusal}
 use Rattle.file_load.specs.Promise.{fileNumber, foundFamily, loadRefusal, loadFamily}
 use Rattle.op_promise.specs.declared.Operation.{Operation}
-use Rattle.lists.specs.Calls.{Call, Operate, Parity, Size, Has, Save, Load, Audit}
+use Rattle.lists.specs.Calls.{Call, Operate, Parity, Size, Has, Weigh, Save, Load, Audit}
 use Rattle.lists.specs.Acts.{count}
 use Rattle.lists.specs.Books.{Bounds, bookAnswer}
 use Rattle.lists.specs.Table.{above, onItem, fileRefusal, refusalOf}
@@ -54,18 +55,24 @@ module _ (bounds : Bounds) (B : List Family) where
       by-file none = refl
       by-file (some F) = by-test (ltb (bounds .limit) (top F)) (λ t. rw t) (λ t. rw t)
 
+  -- a call of one handle: after it the call's own test, which may refuse with 11, that of the scratch, and one more
+  handle-table : (p : ℕ) (own : Bool) (scratch need : ℕ) (last : Bool) (m : ℕ)
+      → cond (eqb (testsOf (count B) p 0 (cond own 0 11) scratch need) 0) (cond last m 0) (testsOf (count B) p 0 (cond own 0 11) scratch need)
+      ≡ cond (above B p) 4 (cond (not own) 11 (cond (ltb scratch need) 7 (cond last m 0)))
+  unfolding testsOf
+  handle-table p own scratch need last m =
+      by-test (above B p) (λ a. rw a)
+      (λ a. rw (a, le-ltb (count B + 1) 0 (omega arith)) (by-test own (λ o. rw o (by-test (ltb scratch need) (λ s. rw s) (λ s. rw s))) (λ o. rw o)))
+
   pub tabled : (call : Call) → bookAnswer bounds B call .refusal ≡ refusalOf bounds B call
-  unfolding bookAnswer refusalOf sizeAnswer sizeRefusal saveRefusal scratchTests hasAnswer hasRefusal testsOf
+  unfolding bookAnswer refusalOf sizeAnswer sizeRefusal weightAnswer weightRefusal weightTests saveRefusal scratchTests hasAnswer hasRefusal testsOf
   tabled (Operate op p q) = place-refusal (operationRefusal (numberOf op) (bounds .limit) (count B) p q) (named (numberOf op) B p q) ∙ sym (operate-table op p q)
   tabled (Parity even p) =
       place-refusal (parityRefusal (count B) p) (parity even (at B p))
-      ∙ by-test (above B p) (λ a. rw a) (λ a. rw (a, le-ltb (count B + 1) 0 (omega arith)))
-  tabled (Size p scratch) =
-      by-test (above B p) (λ a. rw a)
-      (λ a. rw (a, le-ltb (count B + 1) 0 (omega arith)) (by-test (ltb scratch (count B)) (λ s. rw s) (λ s. rw s (by-test (ltb most (size (at B p))) (λ l. rw l) (λ l. rw l)))))
+      ∙ handle-table p true 0 0 (tooLarge (bounds .capacity) B (parity even (at B p))) 5
+  tabled (Size p scratch) = handle-table p true scratch (count B) (ltb most (size (at B p))) 6
   tabled (Has p combination) = by-test (above B p) (λ a. rw a) (λ a. rw (a, le-ltb (count B + 1) 0 (omega arith)))
-  tabled (Save p scratch output) =
-      by-test (above B p) (λ a. rw a)
-      (λ a. rw (a, le-ltb (count B + 1) 0 (omega arith)) (by-test (ltb scratch (count B)) (λ s. rw s) (λ s. rw s (by-test (ltb output (length (fileOf (at B p)))) (λ l. rw l) (λ l. rw l)))))
+  tabled (Weigh way p weights scratch) = handle-table p (eqb (length weights) largestItem) scratch (3 * count B) (ltb most (sumBy way weights (at B p))) 6
+  tabled (Save p scratch output) = handle-table p true scratch (count B) (ltb output (length (fileOf (at B p)))) 8
   tabled (Load file scratch) = place-refusal (loadRefusal (bounds .limit) file scratch) (loadFamily file) ∙ sym (load-table file scratch)
   tabled Audit = refl

@@ -1,21 +1,20 @@
 -- The numbers of the nodes, put in rising number: each is worked out from those of its children, which stand before it.
 -- What is put for node j + 2 changes no word of another node.
-use Prim.Native.Nat.{ℕ, zero, suc, _+_, _*_, _-_, _≤_, _<_, min}
-use mathlib.Core.Path.{_≡_, refl, sym, ap, _∙_, subst}
+use Prim.Native.Nat.{ℕ, zero, suc, _+_, _*_, _-_, _≤_, _<_}
+use mathlib.Core.Path.{_≡_, refl, sym, ap, _∙_}
 use mathlib.Core.List.{List}
 use native.Mathlib.Omega.{arith}
-use lib.ListN.{length, getD, drop, length-drop}
+use lib.ListN.{getD, drop, length-drop}
 use lib.Seq.{getD-drop, ext-getD}
-use Rattle.words.specs.Words.{most}
 use Rattle.words.proofs.Cases.{by-eq}
-use Rattle.family.specs.Family.{Family, empty, base, node, size}
+use Rattle.family.specs.Family.{Family, empty, base}
 use Rattle.family.specs.Book.{at}
 use Rattle.family.specs.Weights.{itemWeight, sumByNodes}
-use Rattle.store.specs.Inner.{Entry, Holds}
+use Rattle.store.specs.Inner.{Holds}
 use Rattle.store.proofs.Held.{at-0, at-1, words-items}
 use Rattle.query_sums.specs.declared.numbers.Both.{Both}
 use Rattle.query_sums.specs.Inner.{Keeps, Carries, Stands, BothKept, NodePut, Filled}
-use Rattle.query_sums.proofs.Putting.{size-leaf, sum-leaf, mark-leaf, size-node, sum-node, mark-node}
+use Rattle.query_sums.proofs.Putting.{size-leaf, sum-leaf, size-node, sum-node, mark-node}
 
 empty-carries : (weights : List ℕ) (m : ℕ) → Carries weights empty 0 0 m
 empty-carries weights m = record { size-low = omega arith; sum-low = omega arith; size-mark = λ e. absurd (omega arith); sum-mark = λ e. absurd (omega arith) }

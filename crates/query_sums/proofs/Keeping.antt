@@ -1,7 +1,7 @@
 -- Kept numbers: each way out of a sum and of a product, and the answer that a kept sum gives.
 -- A test before the sum or the product decides whether it fits; a weight of 0 is tested before a mark is looked at.
 use Prim.Native.Nat.{ℕ, _+_, _-_, _*_, _/_, _≤_, _<_, min}
-use mathlib.Core.Path.{_≡_, refl, sym, ap, _∙_}
+use mathlib.Core.Path.{_≡_, sym, ap, _∙_}
 use mathlib.Core.Logic.{_↔_}
 use mathlib.Core.Bool.{Bool, true, false}
 use native.Mathlib.Omega.{arith}

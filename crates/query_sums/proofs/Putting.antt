@@ -1,22 +1,20 @@
 -- The numbers of a node in its words: how they are read, and what is put by either way, plain or kept.
 -- Words of small numbers are the numbers; kept sums and products tell which of them are above the largest word.
-use Prim.Native.Nat.{ℕ, _+_, _*_, _-_, _%_, _≤_, _<_, min}
+use Prim.Native.Nat.{ℕ, _+_, _*_, _-_, _≤_, _<_}
 use mathlib.Core.Path.{_≡_, refl, sym, ap, _∙_}
 use mathlib.Core.Bool.{Bool, true, false}
 use mathlib.Core.List.{List}
 use native.Mathlib.Omega.{arith}
 use native.Mathlib.Nat.{mul-le-mul}
-use lib.Dec.{ltb}
 use lib.ListN.{length, getD, set, length-set}
 use lib.Seq.{getD-set-same, getD-set-other}
 use borrow.Author.Tests.{lt-ltb, le-ltb}
-use Rattle.words.specs.Words.{most}
-use Rattle.family.specs.Family.{Family, empty, base, node, size}
+use Rattle.family.specs.Family.{Family, node, size}
 use Rattle.family.specs.Weights.{itemWeight, sumByNodes}
 use Rattle.query_sums.specs.declared.kept.Kept.{Kept}
 use Rattle.query_sums.specs.declared.numbers.Pair.{Pair}
 use Rattle.query_sums.specs.declared.numbers.Both.{Both}
-use Rattle.query_sums.specs.Inner.{Keeps, Added, Multiplied, sizeWord, sumWord, markWord, markOf, sizeMark, sumMark, Carries, Stands, Paired, Told, BothKept, putNumbers, NodePut}
+use Rattle.query_sums.specs.Inner.{Keeps, Added, Multiplied, sizeWord, sumWord, markWord, markOf, sizeMark, sumMark, Carries, Paired, Told, BothKept, Small, putSmall, putNumbers, NodePut}
 use Rattle.query_sums.proofs.Keeping.{told-keeps}
 
 module _ (words : List ℕ) (n p : ℕ) where
@@ -111,8 +109,8 @@ small-carries weights i a b za zb zm oa ob om C D la lb ma mb k lk ek m =
 
 module _ (words : List ℕ) (n j : ℕ) (long : 3 * n ≤ length words) (l : j < n) (k zero one : ℕ) where
   -- the plain way: the words of two small handles
-  pub put-small : k ≤ 4294967295 → (z o : Pair) → Paired words n zero z → Paired words n one o → (z .size ≤ 2147483647) × (z .sum ≤ 4611686018427387903)
-      → (o .size ≤ 2147483647) × (o .sum ≤ 4611686018427387903) → (words′ : List ℕ) → words′ ≡ set (set words (2 * j) (z .size + o .size)) (2 * j + 1) (z .sum + o .sum + k * o .size)
+  pub put-small : k ≤ 4294967295 → (z o : Pair) → Paired words n zero z → Paired words n one o → Small z
+      → Small o → (words′ : List ℕ) → words′ ≡ putSmall words j k z o
       → NodePut n j k zero one words words′
   put-small lk z o P Q sz so words′ e =
       rw e
@@ -121,7 +119,7 @@ module _ (words : List ℕ) (n j : ℕ) (long : 3 * n ≤ length words) (l : j <
         others = λ h a b c. getD-set-other first (2 * j + 1) h sumIs 0 b ∙ getD-set-other words (2 * j) h sizeIs 0 a;
         is = λ lz lo weights i a b ek C D.
             let c = small-carries weights i a b (z .size) (z .sum) _ (o .size) (o .sum) _ (rw (← P .size-is lz, ← P .sum-is lz) at C) (rw (← Q .size-is lo, ← Q .sum-is lo) at D)
-            (sz .0) (sz .1) (so .0) (so .1) k lk ek (getD (set first (2 * j + 1) sumIs) (2 * n + j) 0) in
+            (sz .size-low) (sz .sum-low) (so .size-low) (so .sum-low) k lk ek (getD (set first (2 * j + 1) sumIs) (2 * n + j) 0) in
             rw (size-read, sum-read) c;
       })
     where

@@ -82,6 +82,22 @@ pub record BothKept (words : List ℕ) (n p : ℕ) (r : Both) : Type 0 where
 abbrev pub putNumbers : List ℕ → ℕ → ℕ → ℕ → ℕ → ℕ → List ℕ
 putNumbers words n j sizeIs sumIs mark = set (set (set words (2 * j) sizeIs) (2 * j + 1) sumIs) (2 * n + j) mark
 
+-- words so small that the sum of a node over two such handles fits a word, whatever its weight
+pub record Small (pair : Pair) : Type 0 where
+  pub size-low : pair .size ≤ 2147483647
+  pub sum-low : pair .sum ≤ 4611686018427387903
+
+pub record SmallAsks (words : List ℕ) (j weight : ℕ) (without with : Pair) : Type 0 where
+  pub inside : 2 * j + 1 < length words
+  pub few : j < 1000000
+  pub light : weight ≤ 4294967295
+  pub without-small : Small without
+  pub with-small : Small with
+
+-- the words with those of node j + 2 put, over two such handles
+abbrev pub putSmall : List ℕ → ℕ → ℕ → Pair → Pair → List ℕ
+putSmall words j weight without with = set (set words (2 * j) (without .size + with .size)) (2 * j + 1) (without .sum + with .sum + weight * with .size)
+
 pub record PutAsks (words : List ℕ) (n j : ℕ) : Type 0 where
   pub long : 3 * n ≤ length words
   pub small : n ≤ 1000000

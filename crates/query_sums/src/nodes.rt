@@ -1,8 +1,8 @@
 // The sizes and the sums of weights of the nodes, from the smallest number up.
 ghost use mathlib.Core.Path.{_≡_};
 ghost use mathlib.Core.Bool.{true};
-ghost use Prim.Native.Nat.{_-_, _≤_};
-ghost use Rattle.query_sums.specs.Inner.{PutAsks, NodeAsks, NodePut, FillAsks, Filled};
+ghost use Prim.Native.Nat.{_-_};
+ghost use Rattle.query_sums.specs.Inner.{Small, SmallAsks, putSmall, PutAsks, NodeAsks, NodePut, FillAsks, Filled};
 use crate::kept::kept_product;
 use crate::kept::kept_sum;
 use crate::numbers::Both;
@@ -14,12 +14,22 @@ use crate::weights::weight_at;
 
 // Whether both words are so small that the sum of a node over two such handles fits a word, whatever its weight.
 fn is_small(pair: Pair) -> bool
-    ensures { λ r. ⌜ (r ≡ true → (pair .size ≤ 2147483647) × (pair .sum ≤ 4611686018427387903)) ⌝ }
+    ensures { λ r. ⌜ (r ≡ true → Small pair) ⌝ }
 {
     if 2147483647 < pair.size {
         return false;
     }
     pair.sum <= 4611686018427387903
+}
+
+// Puts the numbers of node j + 2, of this weight, over two handles whose words are small.
+fn put_small(words: &mut [u64], j: u32, weight: u64, without: Pair, with: Pair)
+    requires { ⌜ SmallAsks (now words) j weight without with ⌝ }
+    ensures { λ _. ⌜ now (words .exit) ≡ putSmall (now (words .entry)) j weight without with ⌝ }
+{
+    let k = 2 * j as usize;
+    words[k] = without.size + with.size;
+    words[k + 1] = without.sum + with.sum + weight * with.size;
 }
 
 // Puts the numbers of node j + 2, of these children and this weight, where its numbers may be large.
@@ -46,9 +56,7 @@ fn weigh_node(words: &mut [u64], count: u32, j: u32, weight: u64, zero: u32, one
     let with = pair_at(words, count, one);
     if is_small(without) {
         if is_small(with) {
-            let k = 2 * j as usize;
-            words[k] = without.size + with.size;
-            words[k + 1] = without.sum + with.sum + weight * with.size;
+            put_small(words, j, weight, without, with);
             return;
         }
     }

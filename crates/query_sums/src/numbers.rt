@@ -1,8 +1,7 @@
 // The numbers of the nodes in the scratch. Words 2k and 2k + 1 are the size and the sum of node k + 2, each at most
 // 2^64 - 1; where one of them is that, word 2n + k, n being the count, is the node's mark and tells whether it is above.
 ghost use mathlib.Core.Path.{_≡_};
-ghost use mathlib.Core.Bool.{true};
-ghost use Prim.Native.Nat.{_+_, _≤_, _<_};
+ghost use Prim.Native.Nat.{_+_, _<_};
 ghost use Rattle.query_sums.specs.Inner.{markWord, markOf, WordsAsk, Paired, Told, BothKept, putNumbers, PutAsks};
 use crate::kept::Kept;
 

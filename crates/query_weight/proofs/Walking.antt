@@ -2,7 +2,7 @@
 -- the sum over its members.
 -- What stands below a node is what stands below its two sides, the with-side's items with the node's item on the way.
 use Prim.Native.Nat.{ℕ, _+_, _*_, _-_, _≤_, _<_}
-use mathlib.Core.Path.{_≡_, refl, sym, ap, _∙_}
+use mathlib.Core.Path.{_≡_, sym, ap, _∙_}
 use mathlib.Core.Bool.{true, false}
 use mathlib.Core.List.{List}
 use native.Mathlib.Omega.{arith}
@@ -13,7 +13,7 @@ use Rattle.family.specs.Family.{Family, empty, base, node, top, size, Ordered}
 use Rattle.family.specs.Book.{at}
 use Rattle.family.specs.Weights.{itemWeight, sumByMembers, sumByNodes}
 use Rattle.family.proofs.Weights.{sums-agree}
-use Rattle.store.specs.Inner.{Entry, Holds}
+use Rattle.store.specs.Inner.{Holds}
 use Rattle.store.proofs.Held.{at-0, at-1, at-node, entry, within}
 use Rattle.query_sums.specs.declared.kept.Kept.{Kept}
 use Rattle.query_sums.specs.Inner.{Keeps, Added}

@@ -1,7 +1,7 @@
 -- The promise of the two sums of weights, by members and by nodes: document 02, No. 1.
 use Prim.Native.Nat.{ℕ, _*_, _-_}
 use mathlib.Core.Path.{_≡_}
-use mathlib.Core.Bool.{false, cond}
+use mathlib.Core.Bool.{Bool, true, false, cond}
 use mathlib.Core.List.{List, []}
 use lib.Dec.{eqb, ltb}
 use lib.ListN.{length, drop}
@@ -24,6 +24,12 @@ use Rattle.query_weight.specs.declared.answer.Weighed.{Weighed}
 pub data Way : Type 0 where
   byMembers byNodes : Way
 
+-- the way by nodes where the parameter is true, else that by members
+abbrev pub wayOf : Bool → Way
+wayOf true = byNodes
+wayOf false = byMembers
+
+-- the sum by either way
 abbrev pub sumBy : Way → List ℕ → Family → ℕ
 sumBy byMembers weights F = sumByMembers weights F
 sumBy byNodes weights F = sumByNodes weights F

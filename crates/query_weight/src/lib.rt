@@ -1,5 +1,5 @@
 // The sum of item weights over a family, by its members and by its nodes.
 pub mod answer;
-pub mod by_members;
-pub mod by_nodes;
+pub mod calls;
 pub mod tests;
+pub mod walk;

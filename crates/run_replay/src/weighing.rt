@@ -25,8 +25,8 @@ use crate::weights::make;
 use crate::weights::numbered;
 use query_weight::answer::Weighed;
 use query_weight::answer::WeightAnswer;
-use query_weight::by_members::weight_by_members;
-use query_weight::by_nodes::weight_by_nodes;
+use query_weight::calls::weight_by_members;
+use query_weight::calls::weight_by_nodes;
 use store::record::Store;
 
 // Which of the two sums is asked for, of which family, and how much scratch is lent.

@@ -4,3 +4,4 @@ pub mod auditing;
 pub mod filing;
 pub mod making;
 pub mod placing;
+pub mod weighing;

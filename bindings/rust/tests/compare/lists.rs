@@ -37,7 +37,7 @@ pub fn any_call(rng: &mut Random, book: &Book, makings: &Makings) -> Call {
     let count = book.count();
     let held = count as usize;
     let (p, q) = (handle(rng, count), handle(rng, count));
-    match rng.below(18) {
+    match rng.below(20) {
         0..=4 => Call::Operation { op: rng.pick(&[1, 2, 3, 3, 3]), p, q: item(rng, makings) },
         5..=9 => Call::Operation { op: rng.pick(&[4, 4, 4, 5, 6]), p, q },
         10..=11 => Call::Operation { op: rng.pick(&[7, 8]), p, q: 0 },
@@ -52,7 +52,8 @@ pub fn any_call(rng: &mut Random, book: &Book, makings: &Makings) -> Call {
             let scratch = if rng.once_in(4) { rng.about(6 * file.len()) } else { 6 * file.len() + rng.below(7) };
             Call::Load { file, scratch }
         }
-        _ => Call::Audit,
+        17 => Call::Audit,
+        _ => Call::Weight { by_nodes: rng.once_in(2), p, weights: rng.weights(), scratch: rng.about(3 * held) },
     }
 }
 

@@ -17,4 +17,5 @@ mod sizes;
 mod sound_stores;
 mod stack;
 mod tally;
+mod weights;
 mod worked;

@@ -61,9 +61,10 @@ fn cache_words(before: &Shelf, after: &Shelf, book: &Book, call: &Call, lent: us
 // The needed scratch words have the sizes, or are free; later ones and all of a short scratch stay. The output has the file.
 fn scratch_words(seen: &Seen, book: &Book, call: &Call, held: usize, refusal: u32) {
     let needed = match call {
-        _ if refusal == 4 || refusal == 7 => 0,
+        _ if [4, 7, 11].contains(&refusal) => 0,
         Call::Load { file, .. } => 6 * file.len(),
         Call::Size { .. } | Call::Save { .. } => held,
+        Call::Weight { .. } => 3 * held,
         _ => 0,
     };
     assert_eq!(seen.scratch[needed..], seen.scratch_before[needed..], "the scratch after {call:?}");

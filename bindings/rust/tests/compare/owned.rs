@@ -22,6 +22,8 @@ fn call(store: &mut Store, call: &Call) -> Result<Answer, Refusal> {
         Call::Operation { p, .. } => answer.handle = store.odd(*p)?,
         Call::Size { p, .. } => answer.size = store.size(*p)?,
         Call::Has { p, combination } => answer.yes = store.has(*p, record_of(combination))?,
+        Call::Weight { by_nodes: false, p, weights, .. } => answer.sum = store.weight_by_members(*p, weights)?,
+        Call::Weight { by_nodes: true, p, weights, .. } => answer.sum = store.weight_by_nodes(*p, weights)?,
         Call::Save { p, .. } => answer.file = store.save(*p)?,
         Call::Load { file, .. } => answer.handle = store.load(file)?,
         Call::Audit => answer.yes = store.audit(),
@@ -41,6 +43,7 @@ fn answer(store: &mut Store, each: &Call) -> Answer {
 fn with_room(call: Call) -> Call {
     match call {
         Call::Size { p, .. } => Call::Size { p, scratch: 10_000 },
+        Call::Weight { by_nodes, p, weights, .. } => Call::Weight { by_nodes, p, weights, scratch: 10_000 },
         Call::Save { p, .. } => Call::Save { p, scratch: 10_000, out: 100_000 },
         Call::Load { file, .. } => Call::Load { scratch: 6 * file.len(), file },
         other => other,
@@ -79,6 +82,8 @@ fn lists_on_an_owned_store() {
             ("Change", &[0, 3, 4, 5]),
             ("Even", &[0, 4]),
             ("Odd", &[0, 4]),
+            ("Weights by members", &[0, 4, 11]),
+            ("Weights by nodes", &[0, 4, 11]),
             ("Load", &[0, 9, 13]),
             ("Save", &[0, 4]),
         ],
@@ -95,10 +100,11 @@ fn refusals_by_name() {
     assert_eq!(Combination::of([513]), Err(Refusal::Item));
     assert_eq!(Combination::of([0]), Err(Refusal::Item));
     for number in 0..=16 {
-        let known = (1..=10).contains(&number) || number == 13;
+        let known = (1..=11).contains(&number) || number == 13;
         assert_eq!(Refusal::of(number).map(Refusal::number), known.then_some(number));
     }
     assert_eq!(Refusal::Full.to_string(), "refused with 5: full");
+    assert_eq!(Refusal::Weights.to_string(), "refused with 11: weights");
 }
 
 #[test]

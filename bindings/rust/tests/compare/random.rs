@@ -62,6 +62,19 @@ impl Random {
         pool.iter().copied().filter(|_| self.once_in(2)).collect()
     }
 
+    /// A list of weights, 512 as a rule: of 0 and 1, of small numbers, of any, or of the smallest and the largest.
+    pub fn weights(&mut self) -> Vec<u32> {
+        let len = if self.once_in(6) { self.pick(&[0, 1, 511, 513, 514, 1024]) } else { 512 };
+        let kind = self.below(4);
+        let one = |rng: &mut Random| match kind {
+            0 => rng.below(2) as u32,
+            1 => rng.below(1000) as u32,
+            2 => rng.word(),
+            _ => rng.pick(&[0, 1, u32::MAX - 1, u32::MAX]),
+        };
+        (0..len).map(|_| one(self)).collect()
+    }
+
     /// So many different items up to the limit, or all of them; the ends of the range are likely.
     pub fn pool(&mut self, len: usize, limit: u32) -> Vec<u32> {
         let mut items = Combination::new();

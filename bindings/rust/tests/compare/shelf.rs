@@ -108,6 +108,12 @@ impl Shelf {
                 let r = calls::has(record, nodes, lookup, *p, record_of(combination));
                 (r.store, Answer { refusal: r.refusal, yes: r.member, ..Answer::default() })
             }
+            Call::Weight { by_nodes, p, weights, .. } => {
+                let call = if *by_nodes { calls::weight_by_nodes } else { calls::weight_by_members };
+                let weights = Guarded::new(weights, MARK);
+                let r = call(record, nodes, lookup, *p, weights.words(), sizes.words_mut());
+                (r.store, Answer { refusal: r.refusal, sum: r.sum, ..Answer::default() })
+            }
             Call::Save { p, .. } => {
                 let r = calls::save(record, nodes, lookup, *p, words.words_mut(), out.words_mut());
                 let file = out.words().get(..r.length).expect("a length within the output").to_vec();
@@ -129,7 +135,7 @@ fn placed(r: Placed) -> (Record, Answer) {
 
 fn lengths(call: &Call) -> (usize, usize, usize) {
     match call {
-        Call::Size { scratch, .. } => (*scratch, 0, 0),
+        Call::Size { scratch, .. } | Call::Weight { scratch, .. } => (*scratch, 0, 0),
         Call::Save { scratch, out, .. } => (0, *scratch, *out),
         Call::Load { scratch, .. } => (0, *scratch, 0),
         _ => (0, 0, 0),

@@ -3,8 +3,8 @@ use zdd::{calls, Combination, Refusal, Store};
 
 const MOST: u128 = u64::MAX as u128;
 
-// All subsets of the items 1 to n, for n from 0 on, by Change and Union.
-fn all_subsets(store: &mut Store, n: u32) -> Vec<u32> {
+/// All subsets of the items 1 to n, for n from 0 on, by Change and Union.
+pub fn all_subsets(store: &mut Store, n: u32) -> Vec<u32> {
     let mut all = vec![Store::BASE];
     for item in 1..=n {
         let without = all[item as usize - 1];

@@ -11,7 +11,7 @@ fn the_header_has_the_same_number() {
     assert!(header.contains(&format!("#define ZDD_STACK_BYTES {STACK_BYTES}u")));
 }
 
-// All subsets of the items 1 to 512, saved and loaded.
+// All subsets of the items 1 to 512, saved and loaded; the sets of the largest items, one of each length, weighed by members.
 fn deep() -> Result<(), Refusal> {
     let mut store = Store::new(10_000, 4_096, 512)?;
     let mut subsets = Store::BASE;
@@ -26,6 +26,13 @@ fn deep() -> Result<(), Refusal> {
     assert_eq!(changed, subsets);
     let (even, odd) = (store.even(subsets)?, store.odd(subsets)?);
     assert_eq!(store.union(even, odd)?, subsets);
+    assert_eq!(store.weight_by_nodes(subsets, &[1; 512]), Err(Refusal::Large));
+    let mut nested = Store::BASE;
+    for item in 1..=512 {
+        let with = store.change(nested, item)?;
+        nested = store.union(with, Store::BASE)?;
+    }
+    assert_eq!(store.weight_by_members(nested, &[1; 512])?, 512 * 513 / 2);
     let file = store.save(subsets)?;
     assert_eq!(store.load(&file)?, subsets);
     Ok(())

@@ -50,6 +50,8 @@ pub const OUTCOMES: &[(&str, &[u32])] = &[
     ("Odd", &[0, 4, 5]),
     ("Size", &[0, 4, 7]),
     ("Has", &[0, 4]),
+    ("Weights by members", &[0, 4, 7, 11]),
+    ("Weights by nodes", &[0, 4, 7, 11]),
     ("Save", &[0, 4, 7, 8]),
     ("Load", &[0, 5, 7, 9, 13]),
     ("Audit", &[0]),

@@ -1,6 +1,6 @@
 //! 'Calls' and 'Numbers and trade words': the answer of each call, worked out from the book.
 use super::book::Book;
-use super::family::{named, top, Combination, Family};
+use super::family::{named, sum_of_weights, top, Combination, Family};
 use super::file::{family_of, file_of};
 
 /// What Fresh made of its arguments: room for so many nodes, and the largest item.
@@ -11,12 +11,13 @@ pub struct Opening {
 }
 
 /// A call with its arguments; scratch and output by their lengths. An operation is as in the cache, by its number: q is an
-/// item or a handle, and 0 for Even and Odd, which do not take it.
+/// item or a handle, and 0 for Even and Odd, which do not take it. Both sums of weights are one call, by nodes or by members.
 #[derive(Clone, Debug)]
 pub enum Call {
     Operation { op: u32, p: u32, q: u32 },
     Size { p: u32, scratch: usize },
     Has { p: u32, combination: Combination },
+    Weight { by_nodes: bool, p: u32, weights: Vec<u32>, scratch: usize },
     Save { p: u32, scratch: usize, out: usize },
     Load { file: Vec<u8>, scratch: usize },
     Audit,
@@ -29,6 +30,7 @@ pub struct Answer {
     pub handle: u32,
     pub added: u32,
     pub size: u64,
+    pub sum: u64,
     pub yes: bool,
     pub length: usize,
     pub file: Vec<u8>,
@@ -48,6 +50,8 @@ impl Call {
             Call::Operation { op, .. } => NAMES[*op as usize],
             Call::Size { .. } => "Size",
             Call::Has { .. } => "Has",
+            Call::Weight { by_nodes: false, .. } => "Weights by members",
+            Call::Weight { by_nodes: true, .. } => "Weights by nodes",
             Call::Save { .. } => "Save",
             Call::Load { .. } => "Load",
             Call::Audit => "Audit",
@@ -76,6 +80,12 @@ impl Book {
                 None => refused(4),
                 Some(_) if *scratch < held => refused(7),
                 Some(f) => Answer { size: f.len() as u64, ..Answer::default() },
+            },
+            Call::Weight { p, weights, scratch, .. } => match self.at(*p) {
+                None => refused(4),
+                Some(_) if weights.len() != 512 => refused(11),
+                Some(_) if *scratch < 3 * held => refused(7),
+                Some(f) => weighed(sum_of_weights(f, weights)),
             },
             Call::Save { p, scratch, out } => match self.at(*p) {
                 None => refused(4),
@@ -114,6 +124,11 @@ impl Book {
         }
         Answer { handle: self.place(f), added, ..Answer::default() }
     }
+}
+
+/// The answer of either sum of weights, by the true sum.
+pub fn weighed(sum: u128) -> Answer {
+    u64::try_from(sum).map_or(refused(6), |sum| Answer { sum, ..Answer::default() })
 }
 
 fn saved(file: Vec<u8>, out: usize) -> Answer {

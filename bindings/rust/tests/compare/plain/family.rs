@@ -1,4 +1,4 @@
-//! 'Families and their parts', the six operations of 'Calls', Even and Odd.
+//! 'Families and their parts', the six operations of 'Calls', Even and Odd, sums of weights.
 use std::collections::BTreeSet;
 
 /// A set of items.
@@ -66,6 +66,11 @@ pub fn named(op: u32, p: &Family, item: u32, q: &Family) -> Family {
         6 => p.difference(q).cloned().collect(),
         _ => of_parity(op == 7, p),
     }
+}
+
+/// The sum of item weights over every member; the weight of item i stands at i - 1.
+pub fn sum_of_weights(f: &Family, weights: &[u32]) -> u128 {
+    f.iter().flatten().map(|item| u128::from(weights[*item as usize - 1])).sum()
 }
 
 /// The parts in visiting order: those of the without-side, those of the with-side, then the family itself.

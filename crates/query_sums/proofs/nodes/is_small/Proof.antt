@@ -1,7 +1,6 @@
 -- `is_small` tells that both words are small.
 -- Its tests are what is stated.
 use mathlib.Core.Path.{refl}
-use native.Mathlib.Omega.{arith}
 use Rattle.words.proofs.Cases.{clash}
 use borrow.Author.Needs.{needs}
 use Rattle.query_sums.proofs.nodes.is_small.Statement.{statement}

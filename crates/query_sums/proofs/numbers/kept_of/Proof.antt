@@ -1,7 +1,6 @@
 -- `kept_of` tells the number of a word.
 -- The test is the definition's own.
 use Rattle.query_sums.proofs.Keeping.{told-below, told-brim}
-use borrow.Author.Needs.{needs}
 use Rattle.query_sums.proofs.numbers.kept_of.Statement.{statement}
 use Rattle.query_sums.proofs.numbers.kept_of.Tie as tie
 

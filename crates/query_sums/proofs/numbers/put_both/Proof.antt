@@ -1,6 +1,6 @@
 -- `put_both` puts the three words of a node: the definition's own stores.
 -- No store changes a length.
-use mathlib.Core.Path.{refl, ap}
+use mathlib.Core.Path.{refl}
 use native.Mathlib.Omega.{arith}
 use lib.ListN.{length-set}
 use borrow.Author.Needs.{needs}

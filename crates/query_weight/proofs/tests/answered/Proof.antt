@@ -1,7 +1,6 @@
 -- `answered` gives the sum, or 6.
 -- Its two cases are those of what is stated.
 use mathlib.Core.Path.{refl}
-use borrow.Author.Needs.{needs}
 use Rattle.query_weight.proofs.tests.answered.Statement.{statement}
 use Rattle.query_weight.proofs.tests.answered.Tie as tie
 

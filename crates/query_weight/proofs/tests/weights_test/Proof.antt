@@ -1,7 +1,6 @@
 -- `weights_test` is the test of the definition.
 -- Its two cases.
 use Rattle.query_weight.proofs.Answering.{list-refused, list-taken}
-use borrow.Author.Needs.{needs}
 use Rattle.query_weight.proofs.tests.weights_test.Statement.{statement}
 use Rattle.query_weight.proofs.tests.weights_test.Tie as tie
 

@@ -1,20 +1,13 @@
 // The sum of weights member by member: one way down for each member.
-ghost use Rattle.query_weight.specs.Promise.{WeightCall, byMembers};
 ghost use Rattle.query_weight.specs.Inner.{WalkAsks, Walked};
-use crate::answer::Weighed;
-use crate::answer::WeightAnswer;
-use crate::tests::answered;
-use crate::tests::weight_tested;
 use query_sums::kept::Kept;
 use query_sums::kept::exact;
 use query_sums::kept::kept_sum;
 use query_sums::weights::weight_at;
-use store::record::Store;
-use store::tests::Test;
 
 // The sum so far, and the weight of each member of a handle whose top is below the bound; `carried` is the weight of
 // the items on the way down to it. A way that comes to {{}} is a member. A sum above the largest number stays above it.
-fn add_members(
+pub fn add_members(
     nodes: &[u32],
     weights: &[u32],
     count: u32,
@@ -46,33 +39,4 @@ fn add_members(
     let lacking = add_members(nodes, weights, count, nodes[base + 1], item, carried, sum);
     let more = carried + weight_at(weights, item);
     add_members(nodes, weights, count, nodes[base + 2], item, more, lacking)
-}
-
-// The sum of weights of p, member by member. It is lent scratch as the sum by nodes is, and writes none of it.
-pub fn weight_by_members(
-    store: Store,
-    nodes: &[u32],
-    lookup: &[u32],
-    p: u32,
-    weights: &[u32],
-    scratch: &mut [u64],
-) -> Weighed
-    ensures { λ r. ⌜ WeightCall byMembers store (now (nodes .entry)) (now (lookup .entry)) p (now (weights .entry)) (now (scratch .entry)) r (now (scratch .exit)) ⌝ }
-{
-    let found = weight_tested(
-        store,
-        nodes.len(),
-        lookup.len(),
-        p,
-        weights.len(),
-        scratch.len(),
-    );
-    if let Test::Refuses(refusal) = found {
-        return Weighed {
-            store: store,
-            answer: WeightAnswer::Refused(refusal),
-        };
-    }
-    let sum = add_members(nodes, weights, store.count, p, 513, 0, exact(0));
-    answered(store, sum)
 }

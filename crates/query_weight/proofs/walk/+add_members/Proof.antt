@@ -6,14 +6,14 @@ use native.Mathlib.Omega.{arith}
 use Rattle.query_weight.proofs.Walking.{walked-empty, walked-base, walked-above, walked-outside, walked-high, walked-node}
 use borrow.Fn.Kinds.{In}
 use borrow.Fn.PlainCycle.{Measures, is, falls, and}
-use Rattle.query_weight.proofs.by_members.add_members.Reads as walk
-use Rattle.query_weight.proofs.by_members.add_members.Kinds as kinds
-use Rattle.query_weight.proofs.by_members.+add_members.Lts-add_members as lts
+use Rattle.query_weight.proofs.walk.add_members.Reads as walk
+use Rattle.query_weight.proofs.walk.add_members.Kinds as kinds
+use Rattle.query_weight.proofs.walk.+add_members.Lts-add_members as lts
 use Rattle.query_sums.proofs.kept.exact.Reads as exact-reads
 use Rattle.query_sums.proofs.kept.kept_sum.Reads as kept-sum-reads
 use Rattle.query_sums.proofs.weights.weight_at.Reads as weight-at-reads
-use Rattle.query_weight.proofs.by_members.+add_members.{statement}
-use Rattle.query_weight.proofs.by_members.+add_members.Tie.{close}
+use Rattle.query_weight.proofs.walk.+add_members.{statement}
+use Rattle.query_weight.proofs.walk.+add_members.Tie.{close}
 
 abbrev μ : Measures 2 kinds.ps ℕ
 μ κs (nodes, (weights, (count, (p, (bound, rest))))) = bound
