@@ -1,6 +1,5 @@
 // The lists: Fresh, then so many drawn calls.
 use crate::carried;
-use crate::draw::Drawn;
 use crate::draw::at_most;
 use crate::draw::draw;
 use crate::output::answer;
@@ -218,27 +217,23 @@ fn list(
     )
 }
 
-// The state before a list: what its setting is drawn from is used up.
-fn start_of(k: u32, drawn: Drawn, state: State) -> State {
-    if is_drawn(k) {
-        return with_file(state, drawn.d, state.length);
-    }
-    state
+// What a list begins with.
+struct Begun {
+    setting: Setting,
+    state: State,
 }
 
-// The list of this number.
-fn numbered_list(
-    k: u32,
-    state: State,
-    nodes: &mut [u32],
-    lookup: &mut [u32],
-    cache: &mut [u32],
-    file: &mut [u8],
-) -> State {
+// What the list of this number begins with; what a setting is drawn from is used up.
+fn begin(k: u32, state: State) -> Begun {
     let drawn = draw(state.draw);
-    let setting = setting_of(k, drawn);
-    let start = start_of(k, drawn, state);
-    list(setting, start, nodes, lookup, cache, file)
+    let mut next = state.draw;
+    if is_drawn(k) {
+        next = drawn.d;
+    }
+    Begun {
+        setting: setting_of(k, drawn),
+        state: with_file(state, next, state.length),
+    }
 }
 
 // All lists, one after the other on the same words.
@@ -251,7 +246,8 @@ fn lists(nodes: &mut [u32], lookup: &mut [u32], cache: &mut [u32], file: &mut [u
     };
     let mut k: u32 = 0;
     while k < 57 {
-        state = numbered_list(k, state, nodes, lookup, cache, file);
+        let begun = begin(k, state);
+        state = list(begun.setting, begun.state, nodes, lookup, cache, file);
         k = k + 1;
     }
 }

@@ -19,8 +19,11 @@ new-requires c κs = search needs
 loop-holds : tie.Need-loop-holds Inv-loop μ-loop
 loop-holds c = search needs
 
-numbered-list-requires : tie.Need-numbered-list-requires Inv-loop μ-loop
-numbered-list-requires c κs = search needs
+begin-requires : tie.Need-begin-requires Inv-loop μ-loop
+begin-requires c κs = search needs
+
+list-requires : tie.Need-list-requires Inv-loop μ-loop
+list-requires c κs = search needs
 
 add-k : tie.Need-add-k Inv-loop μ-loop
 add-k c = search needs
@@ -54,7 +57,8 @@ lists-spec =
     μ-loop
     new-requires
     loop-holds
-    numbered-list-requires
+    begin-requires
+    list-requires
     add-k
     loop-less
     loop-again
