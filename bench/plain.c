@@ -426,17 +426,24 @@ static zdd_weighed weight_answer(zdd_store s, kept sum) {
     return sum.above ? (zdd_weighed){s, ZDD_LARGE, 0} : (zdd_weighed){s, 0, sum.low};
 }
 
-/* The sum so far, and the weight of each member of a handle whose top is below the bound; `carried` is the weight of the
- * items on the way down to it. */
-static kept add_members(words nodes, list weights, uint32_t count, uint32_t p, uint32_t bound, uint64_t carried, kept sum) {
-    if (p == 0) return sum;
-    if (p == 1) return kept_sum(sum, (kept){carried, false});
-    if (sum.above || count + 1 < p) return sum;
+/* Adds a number to the sum; false where the sum would be above the largest number. */
+static bool grow(uint64_t *sum, uint64_t n) {
+    if (UINT64_MAX - n < *sum) return false;
+    *sum += n;
+    return true;
+}
+
+/* Adds to the sum the weight of each member of a handle whose top is below the bound; `carried` is the weight of the items
+ * on the way down to it. False where the sum would be above the largest number. */
+static bool add_members(uint32_t p, uint32_t bound, uint64_t carried, words nodes, uint32_t count, list weights, uint64_t *sum) {
+    if (p == 0) return true;
+    if (p == 1) return grow(sum, carried);
+    if (count + 1 < p) return true;
     const uint32_t *node = nodes.at + 3 * (size_t)(p - 2);
     uint32_t item = node[0];
-    if (bound <= item) return sum;
-    kept lacking = add_members(nodes, weights, count, node[1], item, carried, sum);
-    return add_members(nodes, weights, count, node[2], item, carried + weight_at(weights, item), lacking);
+    if (bound <= item) return true;
+    if (!add_members(node[1], item, carried, nodes, count, weights, sum)) return false;
+    return add_members(node[2], item, carried + weight_at(weights, item), nodes, count, weights, sum);
 }
 
 zdd_weighed plain_weight_by_members(READ, uint32_t p, const uint32_t *weights, size_t weight_count, uint64_t *scratch,
@@ -445,7 +452,9 @@ zdd_weighed plain_weight_by_members(READ, uint32_t p, const uint32_t *weights, s
     uint32_t refusal = weight_tested(s, node_words, lookup_words, p, weight_count, scratch_words);
     if (refusal) return (zdd_weighed){s, refusal, 0};
     words nodes = {(uint32_t *)nodes_at, node_words};
-    return weight_answer(s, add_members(nodes, (list){weights, weight_count}, s.count, p, 513, 0, (kept){0, false}));
+    uint64_t sum = 0;
+    bool fits = add_members(p, 513, 0, nodes, s.count, (list){weights, weight_count}, &sum);
+    return weight_answer(s, (kept){sum, !fits});
 }
 
 /* Size and sum of a handle as its words have them: words 2k and 2k + 1 are those of node k + 2, each at most 2^64 - 1; where

@@ -10,7 +10,7 @@ pub struct Kept {
 }
 
 // A number that fits a word.
-pub fn exact(n: u64) -> Kept
+fn exact(n: u64) -> Kept
     ensures { λ r. ⌜ (r .low ≡ n) × (r .above ≡ false) ⌝ }
 {
     Kept {

@@ -29,6 +29,7 @@ use Rattle.query_weight.specs.declared.answer.WeightAnswer.the-variants.
 use Rattle.query_weight.specs.declared.answer.Weighed.{Weighed}
 use Rattle.query_weight.specs.Promise.{Way, sumBy, weightGivenBy, weightsTest, weightTests, weightRefusal, weightAnswer, WeightCall}
 use Rattle.query_sums.specs.Inner.{Keeps}
+use Rattle.query_weight.specs.Inner.{SumTold}
 use Rattle.query_sums.proofs.Keeping.{kept-exact, kept-above}
 
 -- the test of a list of weights
@@ -37,6 +38,10 @@ list-refused n e = rw (ne-eqb n 512 e)
 
 pub list-taken : (n : ℕ) → n ≡ 512 → 0 ≡ weightsTest n
 list-taken n e = rw (eq-eqb n 512 e)
+
+-- a kept sum is told
+pub kept-told : {x : ℕ} {k : Kept} → Keeps x k → SumTold x k
+kept-told K = record { exact = λ e. kept-exact K e; over = λ e. kept-above K e }
 
 module _ (way : Way) (s : Store) (nodes lookup : List ℕ) (p : ℕ) (weights scratch : List ℕ) (r : Weighed) (es : r .store ≡ s) where
   -- the book of a sound store
@@ -72,7 +77,7 @@ module _ (way : Way) (s : Store) (nodes lookup : List ℕ) (p : ℕ) (weights sc
   -- a sum was kept
   module _ (P : Tested s nodes lookup p 0 (weightsTest (length weights)) (length scratch) (3 * s .count)) (scratch′ : List ℕ) (long : length scratch′ ≡ length scratch)
       (rest : drop (3 * s .count) scratch′ ≡ drop (3 * s .count) scratch) (k : Kept)
-      (K : (limit : ℕ) → Holds limit B (s .count) nodes lookup → Keeps (sumBy way weights (at B p)) k) where
+      (K : (limit : ℕ) → Holds limit B (s .count) nodes lookup → SumTold (sumBy way weights (at B p)) k) where
     tests-none : Sound s nodes lookup [] → weightTests B p (length weights) (length scratch) ≡ 0
     tests-none S = tests-are S ∙ P .number-is
 
@@ -80,9 +85,9 @@ module _ (way : Way) (s : Store) (nodes lookup : List ℕ) (p : ℕ) (weights sc
     unfolding weightAnswer weightRefusal
     given-is S ea =
         by-test (k .above)
-        (λ t. ap weightGivenBy (let d : r .answer ≡ Refused Large = ea ∙ rw t in d) ∙ rw (tests-none S, lt-ltb most (sumBy way weights (at B p)) (kept-above (K _ (sound-holds S)) t)))
+        (λ t. ap weightGivenBy (let d : r .answer ≡ Refused Large = ea ∙ rw t in d) ∙ rw (tests-none S, lt-ltb most (sumBy way weights (at B p)) (K _ (sound-holds S) .over t)))
         (λ t.
-        let x = kept-exact (K _ (sound-holds S)) t in
+        let x = K _ (sound-holds S) .exact t in
         ap weightGivenBy (let d : r .answer ≡ Sum (k .low) = ea ∙ rw t in d) ∙ rw (tests-none S, le-ltb most (sumBy way weights (at B p)) (x .0), x .1))
 
     pub weigh-answered : r .answer ≡ cond (k .above) (Refused Large) (Sum (k .low)) → WeightCall way s nodes lookup p weights scratch r scratch′

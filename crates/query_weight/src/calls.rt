@@ -5,7 +5,7 @@ use crate::answer::WeightAnswer;
 use crate::tests::answered;
 use crate::tests::weight_tested;
 use crate::walk::add_members;
-use query_sums::kept::exact;
+use query_sums::kept::Kept;
 use query_sums::nodes::weigh_nodes;
 use query_sums::numbers::both_at;
 use store::record::Store;
@@ -42,8 +42,15 @@ fn weigh(
         let both = both_at(scratch, store.count, p);
         return answered(store, both.sum);
     }
-    let sum = add_members(nodes, weights, store.count, p, 513, 0, exact(0));
-    answered(store, sum)
+    let mut sum: u64 = 0;
+    let fits = add_members(p, 513, 0, nodes, store.count, weights, &mut sum);
+    answered(
+        store,
+        Kept {
+            low: sum,
+            above: !fits,
+        },
+    )
 }
 
 // The sum of weights of p, member by member. It is lent scratch as the sum by nodes is, and writes none of it.

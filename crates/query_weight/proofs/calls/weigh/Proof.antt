@@ -8,7 +8,7 @@ use Rattle.store.proofs.Testing.{Tested, tested-clear}
 use Rattle.query_sums.proofs.Filling.{filled-sum, filled-rest}
 use Rattle.query_weight.specs.Promise.{byMembers, byNodes, wayOf, weightsTest}
 use Rattle.query_weight.proofs.Walking.{walked-sum}
-use Rattle.query_weight.proofs.Answering.{weigh-refused, weigh-answered}
+use Rattle.query_weight.proofs.Answering.{kept-told, weigh-refused, weigh-answered}
 use borrow.Author.Needs.{needs}
 use Rattle.query_weight.proofs.calls.weigh.Statement.{statement}
 use Rattle.query_weight.proofs.calls.weigh.Tie as tie
@@ -72,10 +72,7 @@ returns-2 c =
     let F = at-filled .weigh-nodes .ensures in
     rw (at-if1 .if1 .taken) (weigh-answered byNodes (a .store) (a .nodes .now) (a .lookup .now) (a .p) (a .weights .now) (a .scratch .now) _ (at-answered .answered .ensures .0) P _ (F .long)
     (filled-rest (a .nodes .now) (a .weights .now) (a .store .count) F) _
-    (λ limit H. filled-sum (a .nodes .now) (a .weights .now) (a .store .count) (omega (arith, P .passed .first)) F _ (at-both .both-at .ensures) _ _ H) (at-answered .answered .ensures .1))
-
-exact-requires : tie.Need-exact-requires
-exact-requires c κs = search needs
+    (λ limit H. kept-told (filled-sum (a .nodes .now) (a .weights .now) (a .store .count) (omega (arith, P .passed .first)) F _ (at-both .both-at .ensures) _ _ H)) (at-answered .answered .ensures .1))
 
 add-members-requires : tie.Need-add-members-requires
 add-members-requires c κs =
@@ -90,13 +87,12 @@ returns-3 : tie.Need-returns-3
 returns-3 c =
     let at-answered : tie.After-answered2 = search in
     let at-sum : tie.After-add-members = search in
-    let at-exact : tie.After-exact = search in
     let at-if1 : tie.Else1 = search in
     let at-told : tie.After-enum-told = search in
     let P = passed at-told in
     let a = (start-of at-told) .args in
     rw (at-if1 .if1 .left) (weigh-answered byMembers (a .store) (a .nodes .now) (a .lookup .now) (a .p) (a .weights .now) (a .scratch .now) _ (at-answered .answered2 .ensures .0) P _ refl refl _
-    (λ limit H. walked-sum (P .passed .first) (at-exact .exact .ensures .0) (at-exact .exact .ensures .1) (at-sum .add-members .ensures) H) (at-answered .answered2 .ensures .1))
+    (λ limit H. walked-sum _ (P .passed .first) (at-sum .add-members .ensures) refl refl H) (at-answered .answered2 .ensures .1))
 
 pub weigh-spec : {M : Type 1} → statement M
-weigh-spec = tie.close (tie.spec weight-tested-requires enum-known-found returns enum-told weigh-nodes-requires both-at-requires answered-requires same-length returns-2 exact-requires add-members-requires answered-requires-2 returns-3)
+weigh-spec = tie.close (tie.spec weight-tested-requires enum-known-found returns enum-told weigh-nodes-requires both-at-requires answered-requires same-length returns-2 add-members-requires answered-requires-2 returns-3)
