@@ -85,30 +85,45 @@ static void subsets(size_t cache) {
     parity_calls(less, cache);
 }
 
-// All subsets of 63, 64 and 65 items; 2^64 and 2^32 + 1 members that hold an item; members that hold 2^32 + 1 items in all,
-// and these with one member more.
-static const u32 SHAPES[][4] = {
-    {63, 63, 63, 63},
-    {64, 64, 64, 64},
-    {65, 65, 65, 65},
-    {64, 64, 64, 65},
-    {32, 32, 33, 34},
-    {24, 268, 269, 269},
-    {24, 268, 270, 270},
-};
+// The sums of weights of the newest family, the last in one scratch word too few and in just enough; gives its handle.
+static u32 weighed_newest(u32 item, bool members) {
+    u32 p = count() + 1;
+    Making edge = {2, 1, 270, 1, 512};
+    every_weight(p, item);
+    weight_calls(false, p, edge, lend(63), 3 * count() - 1);
+    weight_calls(members, p, edge, lend(63), 3 * count());
+    return p;
+}
 
-// The sums of weights of these families, the last in one scratch word too few and in just enough; of the last two families,
-// of some 2^24 members, also by members. With all weights 2^32 - 1 but item 270 at 1 theirs are 2^64 - 1 and 2^64.
+// The sums of weights of what an operation gives; gives its handle.
+static u32 weighed_newest_of(u32 op, u32 p, u32 q, size_t cache, u32 item) {
+    operation(op, p, q, lend(63), cache);
+    return weighed_newest(item, false);
+}
+
+// The sums of weights of a family of a simple shape; gives its handle.
+static u32 weighed_shape(u32 free, u32 fixed, u32 single, u32 all, size_t cache) {
+    craft_shape(free, fixed, single, all);
+    load_call(file_length, lend(63), cache, 12400);
+    return weighed_newest(all, free == 24);
+}
+
+// The sums of weights of {512}; of 2^32 - 1 members that hold an item; of all subsets of 63, 64 and 65 items; of 2^32 + 1
+// members that hold an item, also beside more than can be counted; of 2^64 members that hold an item. Of the last two, of
+// some 2^24 members, also by members: with all weights 2^32 - 1 but item 270 at 1 these are 2^64 - 1 and 2^64.
 static void shapes(size_t cache) {
-    for (const u32 *s : SHAPES) {
-        craft_shape(s[0], s[1], s[2], s[3]);
-        load_call(file_length, lend(63), cache, 12400);
-        u32 p = count() + 1;
-        Making edge = {2, 1, 270, 1, 512};
-        every_weight(p, s[3]);
-        weight_calls(false, p, edge, lend(63), 3 * count() - 1);
-        weight_calls(s[0] == 24, p, edge, lend(63), 3 * count());
-    }
+    weighed_newest_of(3, 1, 512, cache, 512);
+    u32 all = weighed_shape(32, 32, 32, 32, cache);
+    u32 less = weighed_newest_of(6, all, 1, cache, 32);
+    weighed_newest_of(3, less, 33, cache, 33);
+    weighed_shape(63, 63, 63, 63, cache);
+    weighed_shape(64, 64, 64, 64, cache);
+    u32 many = weighed_shape(65, 65, 65, 65, cache);
+    u32 held = weighed_shape(32, 32, 33, 66, cache);
+    weighed_newest_of(4, many, held, cache, 66);
+    weighed_shape(64, 64, 64, 65, cache);
+    weighed_shape(24, 268, 269, 269, cache);
+    weighed_shape(24, 268, 270, 270, cache);
 }
 
 // Fresh: a book with {} and {{}} alone.
@@ -237,7 +252,7 @@ int main(int argc, char **argv) {
     all_lookup.assign(2060, 2779096485u);
     for (const u32 *l : LISTS) list(l[0], l[1], l[2], l[3], l[4], l[5]);
     for (int k = 0; k < 40; k++) drawn_list();
-    list(1051, 359, 1021, 270, 270, 60);
+    list(1291, 439, 1021, 512, 270, 60);
     if (argc == 2 && std::strcmp(argv[1], "--tally") == 0) {
         for (const std::pair<const std::string, int> &t : tally) std::printf("%s: %d\n", t.first.c_str(), t.second);
         return 0;

@@ -10,16 +10,17 @@ struct Making {
     size_t length;
 };
 
-// The making of a number, 0 to 7: of each way; with 0 everywhere but for an item, which weighs 1 or as much as can be.
+// The making of a number, 0 to 8: of each way; then but for an item: with 0 everywhere else the item weighs 1 or as much as
+// can be, and with 1 everywhere else as much as can be.
 static Making making_of(u32 k, u32 item, u32 draw, size_t length) {
-    Making making = {k < 6 ? k : 0, draw, k < 6 ? 0 : item, k == 7 ? 4294967295u : 1, length};
+    Making making = {k < 6 ? k : k == 8, draw, k < 6 ? 0 : item, k == 6 ? 1 : 4294967295u, length};
     return making;
 }
 
 static Making drawn_making(const Drawn &drawn, u32 items) {
     static const size_t LENGTHS[] = {511, 513, 0};
     u32 way = drawn.c / 8 % 16;
-    return making_of(drawn.b % 8, drawn_item(drawn.b / 8, items), drawn.b, way < 3 ? LENGTHS[way] : 512);
+    return making_of(drawn.b % 9, drawn_item(drawn.b / 9, items), drawn.b, way < 3 ? LENGTHS[way] : 512);
 }
 
 static u32 weight_of(u32 way, u32 x) {
@@ -156,7 +157,7 @@ static void weight_calls(bool few, u32 p, const Making &making, const Lent &lent
 // Size, then both sums with the list of each number.
 static void every_weight(u32 p, u32 item) {
     bool few = size_call(p, lend(63), 1100) <= 4096;
-    for (u32 k = 0; k < 8; k++) weight_calls(few, p, making_of(k, item, state, 512), lend(63), 3300);
+    for (u32 k = 0; k < 9; k++) weight_calls(few, p, making_of(k, item, state, 512), lend(63), 3300);
 }
 
 // Size and both sums of a drawn family. These are drawn apart, so that the calls are drawn as they would be without them.

@@ -160,7 +160,7 @@ pub fn lines(
 pub fn every(p: u32, item: u32, draw: u32, lent: Lent, nodes: &[u32], lookup: &[u32]) {
     let few = sizes::few(p, lent, nodes, lookup);
     let mut k: u32 = 0;
-    while k < 8 {
+    while k < 9 {
         let weights = numbered(k, item, draw, 512);
         lines(few, p, 3300, weights, lent, nodes, lookup);
         k = k + 1;

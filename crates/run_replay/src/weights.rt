@@ -26,17 +26,18 @@ pub fn of(way: u32, item: u32, value: u32) -> Weights {
     }
 }
 
-// The list of a number, 0 to 7: of each way; with 0 everywhere but for an item, which weighs 1 or as much as can be.
+// The list of a number, 0 to 8: of each way; then but for an item: with 0 everywhere else the item weighs 1 or as much as
+// can be, and with 1 everywhere else as much as can be.
 pub fn numbered(k: u32, item: u32, draw: u32, long: usize) -> Weights {
     let mut way = k;
     let mut apart: u32 = 0;
-    let mut value: u32 = 1;
+    let mut value: u32 = 4294967295;
     if 5 < k {
-        way = 0;
+        way = k / 8;
         apart = item;
     }
-    if k == 7 {
-        value = 4294967295;
+    if k == 6 {
+        value = 1;
     }
     Weights {
         way: way,
@@ -59,8 +60,8 @@ fn long_of(x: u32) -> usize {
 
 // A drawn list.
 pub fn drawn_weights(drawn: Drawn, items: u32, limit: u32) -> Weights {
-    let apart = item(drawn.b / 8, items, limit);
-    numbered(drawn.b % 8, apart, drawn.b, long_of(drawn.c / 8))
+    let apart = item(drawn.b / 9, items, limit);
+    numbered(drawn.b % 9, apart, drawn.b, long_of(drawn.c / 8))
 }
 
 // The number itself where it is a multiple of four, else 0.

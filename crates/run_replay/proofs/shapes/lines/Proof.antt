@@ -1,5 +1,5 @@
--- `lines` is safe and ends: the measure is the number of shapes that are left.
--- Each turn keeps the lengths of the lent words, and the number of the shape stays below 8.
+-- `lines` is safe and ends: the measure is the number of steps that are left.
+-- Each turn keeps the lengths of the lent words, and the step stays below 13.
 use mathlib.Core.Path.{_≡_}
 use Prim.Native.Nat.{_-_, _≤_}
 use lib.ListN.{length}
@@ -8,19 +8,19 @@ use Rattle.run_replay.proofs.shapes.lines.Statement.{statement}
 use Rattle.run_replay.proofs.shapes.lines.Tie as tie
 
 abbrev Inv-loop : tie.InvT-loop
-Inv-loop nodes₀ lookup₀ cache₀ file₀ state₀ k₀ nodes lookup cache file state k = (length nodes ≡ length nodes₀) × (length lookup ≡ length lookup₀) × (length cache ≡ length cache₀) × (length file ≡ length file₀) × (k ≤ 7)
+Inv-loop nodes₀ lookup₀ cache₀ file₀ built₀ step₀ nodes lookup cache file built step = (length nodes ≡ length nodes₀) × (length lookup ≡ length lookup₀) × (length cache ≡ length cache₀) × (length file ≡ length file₀) × (step ≤ 12)
 
 abbrev μ-loop : tie.MeasureT-loop
-μ-loop nodes₀ lookup₀ cache₀ file₀ state₀ k₀ nodes lookup cache file state k = 7 - k
+μ-loop nodes₀ lookup₀ cache₀ file₀ built₀ step₀ nodes lookup cache file built step = 12 - step
 
 loop-holds : tie.Need-loop-holds Inv-loop μ-loop
 loop-holds c = search needs
 
-loaded-requires : tie.Need-loaded-requires Inv-loop μ-loop
-loaded-requires c κs = search needs
+stepped-requires : tie.Need-stepped-requires Inv-loop μ-loop
+stepped-requires c κs = search needs
 
-add-k : tie.Need-add-k Inv-loop μ-loop
-add-k c = search needs
+add-step : tie.Need-add-step Inv-loop μ-loop
+add-step c = search needs
 
 loop-less : tie.Need-loop-less Inv-loop μ-loop
 loop-less c = search needs
@@ -50,8 +50,8 @@ lines-spec =
     Inv-loop
     μ-loop
     loop-holds
-    loaded-requires
-    add-k
+    stepped-requires
+    add-step
     loop-less
     loop-again
     same-length

@@ -1,15 +1,15 @@
 -- `every` is safe and ends: the measure is the number of lists that are left.
--- The number of the list stays below 9.
+-- The number of the list stays below 10.
 use Prim.Native.Nat.{_-_, _≤_}
 use borrow.Author.Needs.{needs}
 use Rattle.run_replay.proofs.weighing.every.Statement.{statement}
 use Rattle.run_replay.proofs.weighing.every.Tie as tie
 
 abbrev Inv-loop : tie.InvT-loop
-Inv-loop p item draw lent nodes lookup few k₀ k = k ≤ 8
+Inv-loop p item draw lent nodes lookup few k₀ k = k ≤ 9
 
 abbrev μ-loop : tie.MeasureT-loop
-μ-loop p item draw lent nodes lookup few k₀ k = 8 - k
+μ-loop p item draw lent nodes lookup few k₀ k = 9 - k
 
 few-requires : tie.Need-few-requires Inv-loop μ-loop
 few-requires c κs = search needs
