@@ -1,0 +1,2 @@
+-- What the contracts of `query_parts` cite.
+pub mod Inner
