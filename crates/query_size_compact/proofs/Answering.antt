@@ -40,8 +40,8 @@ module _ (s : Store) (nodes lookup : List ℕ) (p : ℕ) (scratch : List ℕ) (r
   tests-are S = ap (λ k. testsOf k p 0 0 (length scratch) (2 * partCount (at B p))) (count-is B (sound-holds S .size))
 
   -- the tests of the call refuse a handle that is not held, and nothing else
-  above : {x : Refusal} → refusalNumber x ≡ testsOf (s .count) p 0 0 0 0 → s .count + 1 < p
-  above {x} d = by-lt (s .count + 1) p (λ l t. l) (λ l t. absurd (refusal-some x (d ∙ tests-clear (s .count) p 0 0 0 0 l (omega arith) refl (omega arith))))
+  above : (x : Refusal) → refusalNumber x ≡ testsOf (s .count) p 0 0 0 0 → s .count + 1 < p
+  above x d = by-lt (s .count + 1) p (λ l t. l) (λ l t. absurd (refusal-some x (d ∙ tests-clear (s .count) p 0 0 0 0 l (omega arith) refl (omega arith))))
 
   pub compact-refused : {a : Test} → Found s (length nodes) (length lookup) p 0 0 0 0 a → {x : Refusal} → a ≡ Refuses x → r .answer ≡ Refused x → CompactCall s nodes lookup p scratch r scratch
   unfolding sizeAnswer sizeRefusal
@@ -52,7 +52,7 @@ module _ (s : Store) (nodes lookup : List ℕ) (p : ℕ) (scratch : List ℕ) (r
         misfit = λ q. clash t q;
         answer-is = λ S.
             let n = ne-eqb (refusalNumber x) 0 (refusal-some x) in
-            let l = above d in
+            let l = above x d in
             let same : sizeTests byPart B p (length scratch) ≡ refusalNumber x = tests-are S ∙ tests-first (s .count) p 0 0 (length scratch) (2 * partCount (at B p)) l ∙ sym (d ∙ tests-first (s .count) p 0 0 0 0 l) in
             ap sizeGivenBy ea ∙ rw (same, n, n);
         scratch-stays = λ q. refl;

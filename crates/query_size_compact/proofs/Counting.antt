@@ -13,14 +13,14 @@ use Rattle.words.proofs.Cases.{by-eq}
 use Rattle.family.specs.Family.{Family, empty, base, node, top, size, inhabited}
 use Rattle.family.specs.Book.{start, at, number, Held, place, Book}
 use Rattle.family.specs.Parts.{partCount}
-use Rattle.family.proofs.Books.{start-node, book-start, number-at, held-at, grown-held}
+use Rattle.family.proofs.Books.{book-start, number-at, held-at, grown-held}
 use Rattle.family.proofs.Placing.{book-place, place-held, place-only, parts-held}
 use Rattle.family.proofs.Different.{no-longer}
 use Rattle.family.proofs.Bound.{own-length}
 use Rattle.family.proofs.Reading.{not-empty}
 use Rattle.store.specs.declared.record.Refusal.the-variants.{Large, Scratch}
 use Rattle.store.specs.Inner.{Holds}
-use Rattle.store.proofs.Held.{at-0, at-1, at-node, held, within}
+use Rattle.store.proofs.Held.{at-0, at-1, held, within}
 use Rattle.query_size.specs.declared.SizeAnswer.the-variants.{Members, Refused}
 use Rattle.query_sizes.proofs.Brims.{some-size}
 use Rattle.query_parts.specs.Inner.{Cleared}
@@ -98,9 +98,9 @@ module _ (nodes : List ℕ) (count p : ℕ) (scratch : List ℕ) where
       long = D .went .long ∙ K .long
 
       came : {limit : ℕ} {B : List Family} {lookup : List ℕ} → Holds limit B count nodes lookup → Came limit B (place start (at B p)) (at B p) places n words r
-      came {B = B} {lookup = lookup} H =
+      came {limit} {B} {lookup} H =
           D .sound B start lookup H (omega arith) (omega (arith, within H p (omega arith) .low, H .limit-low))
-          (λ q. let d = rw (at-node H p h (omega arith)) at q in omega (arith, start-node _ _ _)) (list-start B places cleared)
+          (λ q. omega (arith, q, past-two (book-start limit) (number start (at B p)) (at B p) (has-item H p h (omega arith)) (number-at start (at B p) q))) (list-start B places cleared)
 
       pub counted-short : r ≡ none → Counted nodes count p scratch (Refused Scratch) words
       counted-short e =

@@ -13,7 +13,7 @@ use Rattle.family.proofs.Books.{number-at, held-at, number-empty, grown-at, boo
 use Rattle.words.proofs.Cases.{by-lt}
 use Rattle.store.specs.Inner.{Holds}
 use Rattle.store.proofs.Held.{at-inj, at-node, within}
-use Rattle.query_parts.specs.Inner.{handleAt, Table, FoundAmong, Entered}
+use Rattle.query_parts.specs.Inner.{handleAt, sizeAt, Table, FoundAmong, Entered}
 use Rattle.query_size_compact.specs.Inner.{asWord, sizeOf, none, Part, Listed, Came, Went, Appended}
 use Rattle.query_size_compact.proofs.Sums.{size-leaf, size-part, word-low}
 
@@ -43,7 +43,11 @@ module _ {limit : ℕ} {B C : List Family} {places n : ℕ} {words : List ℕ} (
   pub number-word : (r : ℕ) → r < length C → sizeOf words places r ≡ asWord (size (at C r))
   number-word zero l = sym (size-leaf words places 0 (omega arith)) ∙ sym (ap (λ F. asWord (size F)) (begin-0 (L .book)) ∙ word-low 0 (omega arith))
   number-word (suc zero) l = sym (size-leaf words places 1 (omega arith)) ∙ sym (ap (λ F. asWord (size F)) (begin-1 (L .book)) ∙ word-low 1 (omega arith))
-  number-word (suc (suc e)) l = sym (size-part words places (suc (suc e)) (omega arith)) ∙ L .each e (omega (arith, L .long)) .size-is
+  number-word (suc (suc e)) l =
+      let read : sizeOf words places (suc (suc e)) ≡ sizeAt places words (suc (suc e) - 2) = sym (size-part words places (suc (suc e)) (omega arith)) in
+      let same : suc (suc e) - 2 ≡ e = omega arith in
+      let past : e + 2 ≡ suc (suc e) = omega arith in
+      read ∙ ap (λ k. sizeAt places words k) same ∙ L .each e (omega (arith, L .long)) .size-is ∙ ap (λ k. asWord (size (at C k))) past
 
   -- 0 is the number of {} alone
   pub number-zero : (r : ℕ) (F : Family) → r < length C → at C r ≡ F → F ≡ empty → r ≡ 0
@@ -67,6 +71,38 @@ module _ {limit : ℕ} {B C : List Family} {places n : ℕ} {words : List ℕ} (
         let P = L .each (r - 1) (omega (arith, W .low)) in
         ap (λ j. at C j) (omega arith) ∙ sym (P .means) ∙ ap (λ j. at B j) (W .is s)
 
+-- a handle entered behind the others
+module _ {places p sizeIs n : ℕ} {words words′ : List ℕ} (E : Entered places n p sizeIs words words′) {limit : ℕ} (B C : List Family) (F : Family) (L : Listed limit B C places n words)
+    (l : p < length B) (m : at B p ≡ F) (s : sizeIs ≡ asWord (size F)) (K : Book limit (C ++ (F ∷ []))) where
+  last : (k : ℕ) → k ≡ length C → at (C ++ (F ∷ [])) k ≡ F
+  last k e = getD-at C F [] empty k (sym e)
+
+  old : (k : ℕ) → k < length C → at (C ++ (F ∷ [])) k ≡ at C k
+  old k d = let g : Grown C (C ++ (F ∷ [])) = record { new = F ∷ []; eq = refl } in grown-at g k d
+
+  part : (e : ℕ) → e < n + 1 → Part B (at (C ++ (F ∷ [])) (e + 2)) places words′ e
+  part e d =
+      by-lt e n
+      (λ a t.
+      let P = L .each e a in
+      rw (old (e + 2) (omega (arith, L .long))) record {
+        held = omega (arith, P .held, E .handles-stay e a);
+        means = ap (λ h. at B h) (E .handles-stay e a) ∙ P .means;
+        size-is = E .sizes-stay e a ∙ P .size-is;
+      })
+      (λ a t.
+      let same : e ≡ n = omega arith in
+      rw (same, last (n + 2) (sym (L .long))) record {
+        held = omega (arith, E .handle-is);
+        means = ap (λ h. at B h) (E .handle-is) ∙ m;
+        size-is = E .size-is ∙ s;
+      })
+
+  listed-behind : Listed limit B (C ++ (F ∷ [])) places (n + 1) words′ × ((n + 2 < length (C ++ (F ∷ []))) × (at (C ++ (F ∷ [])) (n + 2) ≡ F))
+  listed-behind =
+      let longer : length (C ++ (F ∷ [])) ≡ length C + 1 = length-append C (F ∷ []) in
+      (record { book = K; long = omega (arith, L .long); each = part }, (omega (arith, L .long), last (n + 2) (sym (L .long))))
+
 -- the ways out of `append`
 module _ (places p sizeIs : ℕ) (words : List ℕ) (n : ℕ) (T : Table places n words) where
   pub append-full : n ≡ places → Appended places p sizeIs words n words n none
@@ -76,39 +112,9 @@ module _ (places p sizeIs : ℕ) (words : List ℕ) (n : ℕ) (T : Table places 
         sound = λ B C F L l m s K. record { listed = λ q. absurd (q refl); short = λ q. omega (arith, L .long, length-append C (F ∷ [])) };
       }
 
-  pub append-done : (n < places) → {words′ : List ℕ} → Entered places n p sizeIs words words′ → Appended places p sizeIs words n words′ (n + 1) (n + 2)
-  append-done room {words′} E =
+  pub append-done : {words′ : List ℕ} → Entered places n p sizeIs words words′ → Appended places p sizeIs words n words′ (n + 1) (n + 2)
+  append-done E =
       record {
         went = record { long = E .long; table = E .table; low = λ q. omega arith };
-        sound = λ B C F L l m s K. record { listed = λ q. listed B C F L l m s K; short = λ q. absurd (omega (arith, T .small)) };
+        sound = λ B C F L l m s K. record { listed = λ q. listed-behind E B C F L l m s K; short = λ q. absurd (omega (arith, T .few, T .small)) };
       }
-    where
-      module _ {limit : ℕ} (B C : List Family) (F : Family) (L : Listed limit B C places n words) (l : p < length B) (m : at B p ≡ F) (s : sizeIs ≡ asWord (size F)) (K : Book limit (C ++ (F ∷ []))) where
-        last : (k : ℕ) → k ≡ length C → at (C ++ (F ∷ [])) k ≡ F
-        last k e = getD-at C F [] empty k (sym e)
-
-        old : (k : ℕ) → k < length C → at (C ++ (F ∷ [])) k ≡ at C k
-        old k d = grown-at (record { new = F ∷ []; eq = refl }) k d
-
-        part : (e : ℕ) → e < n + 1 → Part B (at (C ++ (F ∷ [])) (e + 2)) places words′ e
-        part e d =
-            by-lt e n
-            (λ a t.
-            let P = L .each e a in
-            rw (old (e + 2) (omega (arith, L .long))) record {
-              held = omega (arith, P .held, E .handles-stay e a);
-              means = ap (λ h. at B h) (E .handles-stay e a) ∙ P .means;
-              size-is = E .sizes-stay e a ∙ P .size-is;
-            })
-            (λ a t.
-            let same : e ≡ n = omega arith in
-            rw (same, last (n + 2) (sym (L .long))) record {
-              held = omega (arith, E .handle-is);
-              means = ap (λ h. at B h) (E .handle-is) ∙ m;
-              size-is = E .size-is ∙ s;
-            })
-
-        listed : Listed limit B (C ++ (F ∷ [])) places (n + 1) words′ × ((n + 2 < length (C ++ (F ∷ []))) × (at (C ++ (F ∷ [])) (n + 2) ≡ F))
-        listed =
-            let longer : length (C ++ (F ∷ [])) ≡ length C + 1 = length-append C (F ∷ []) in
-            (record { book = K; long = omega (arith, L .long); each = part }, (omega (arith, L .long), last (n + 2) (sym (L .long))))

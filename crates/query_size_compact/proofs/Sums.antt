@@ -36,7 +36,7 @@ module _ (x : ℕ) where
 -- the ways out of `sum_of`
 module _ (zero without with : ℕ) where
   pub sum-alone : zero ≡ 0 → Summed zero without with with
-  sum-alone z = record { is = λ x y e s t a b. b ∙ ap (λ k. asWord k) (omega (arith, e z)) }
+  sum-alone z = record { is = λ x y e s t a b. let same : y ≡ x + y = omega (arith, e z) in b ∙ ap (λ k. asWord k) same }
 
   module _ (z : zero ≡ 0 → ⊥) where
     pub sum-first-above : without ≡ 0 → Summed zero without with 0
