@@ -127,11 +127,11 @@ module _ (nodes : List ℕ) (count p : ℕ) (scratch : List ℕ) where
               is = λ B lookup H. sym (told-large (at B p) (length scratch) (enough H) (word-none (size (at B p)) (some-members H) (sym (word-is H) ∙ z)));
             }
 
-        pub counted-done : (sizeOf words places r ≡ 0 → ⊥) → Counted nodes count p scratch (Members (sizeOf words places r)) words
-        counted-done f =
+        pub counted-done : {m : ℕ} → m ≡ sizeOf words places r → (m ≡ 0 → ⊥) → Counted nodes count p scratch (Members m) words
+        counted-done {m} em f =
             record {
               long = long;
               is = λ B lookup H.
-                  let q = word-some (size (at B p)) (λ e. f (word-is H ∙ e)) in
-                  rw (word-is H ∙ q .1) (sym (told-size (at B p) (length scratch) (enough H) (q .0)));
+                  let q = word-some (size (at B p)) (λ e. f (em ∙ word-is H ∙ e)) in
+                  rw (em ∙ word-is H ∙ q .1) (sym (told-size (at B p) (length scratch) (enough H) (q .0)));
             }

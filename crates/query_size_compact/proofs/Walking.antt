@@ -121,7 +121,7 @@ module _ (p bound : ℕ) (nodes : List ℕ) (count places : ℕ) (words : List �
             }
 
         -- both sides are listed, and the part is put behind them
-        module _ (some₂ : r₂ ≡ none → ⊥) {sizeIs : ℕ} (S : Summed r₁ (sizeOf words₂ places r₁) (sizeOf words₂ places r₂) sizeIs)
+        module _ (some₂ : r₂ ≡ none → ⊥) {without with : ℕ} (ew : without ≡ sizeOf words₂ places r₁) (eo : with ≡ sizeOf words₂ places r₂) {sizeIs : ℕ} (S : Summed r₁ without with sizeIs)
             {words₃ : List ℕ} {n₃ r : ℕ} (A : Appended places p sizeIs words₂ n₂ words₃ n₃ r) where
           module _ {limit : ℕ} {B C : List Family} {lookup : List ℕ} (H : Holds limit B count nodes lookup) (m : p < count + 2) (f : Held C (at B p) → ⊥) (L : Listed limit B C places n words) where
             -- the book with the sides
@@ -144,8 +144,8 @@ module _ (p bound : ℕ) (nodes : List ℕ) (count places : ℕ) (words : List �
                 (λ e. ap size (sym first-at ∙ ap (λ k. at D k) e ∙ begin-0 (both .0 .book)))
                 (λ e. some-size (at B z) (ordered H m .3) (not-empty (at B z) (λ d. e (number-zero (both .0) r₁ (at B z) first-in first-at d))))
                 (some-size (at B o) (ordered H m .4) (ordered H m .2))
-                (number-word (both .0) r₁ first-in ∙ ap (λ F. asWord (size F)) first-at)
-                (number-word (both .0) r₂ (both .1 .0) ∙ ap (λ F. asWord (size F)) (both .1 .1))
+                (ew ∙ number-word (both .0) r₁ first-in ∙ ap (λ F. asWord (size F)) first-at)
+                (eo ∙ number-word (both .0) r₂ (both .1 .0) ∙ ap (λ F. asWord (size F)) (both .1 .1))
 
             -- neither side's walk enters the part
             lacks : Held D (node item (at B z) (at B o)) → ⊥
