@@ -62,11 +62,10 @@ told-tested : (tests n : ℕ) {m : ℕ} → tells m ≡ toldBy tests n → tests
 told-tested tests n e = by-eq tests 0 (λ z t. z) (λ z t. absurd (z (rw t at (sym (ap (λ a. a .refusal) e)))))
 
 told-number : (n : ℕ) {m : ℕ} → tells m ≡ toldBy 0 n → m ≡ n
-told-number n {m} e =
+told-number n e =
     by-test (ltb most n)
     (λ t. absurd (omega (arith, rw t at (ap (λ a. a .refusal) e))))
-    (λ t. let v = rw t at (ap (λ a. a .value) e) in
-    let is : m ≡ n = cc in is)
+    (λ t. let v = rw t at (ap (λ a. a .value) e) in cc)
 
 -- a call that asks a number of what the handle p means, which its tests look for
 pub record Asks (bounds : Bounds) (call : Call) (p : ℕ) (what : Family → ℕ) : Type 0 where
