@@ -34,7 +34,7 @@ use Rattle.query_size.specs.declared.Measured.{Measured}
 use Rattle.query_size.specs.declared.SizeAnswer.{SizeAnswer}
 use Rattle.query_size.specs.declared.SizeAnswer.the-variants.{Members, Refused as SizeRefused}
 use Rattle.query_size.specs.Promise.{SizeEntry, byNode, byPart, sizeGivenBy, sizeAnswer, sizeScratch, SizeCall}
-use Rattle.query_size.specs.Compact.{CompactCall}
+use Rattle.query_size_compact.specs.Promise.{CompactCall}
 use Rattle.query_has.specs.declared.Asked.{Asked}
 use Rattle.query_has.specs.declared.HasAnswer.{HasAnswer}
 use Rattle.query_has.specs.declared.HasAnswer.the-variants.{Yes, No, Refused as HasRefused}

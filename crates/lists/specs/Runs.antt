@@ -17,7 +17,7 @@ use Rattle.op_parity.specs.Promise.{ParityCall}
 use Rattle.query_size.specs.declared.Measured.{Measured}
 use Rattle.query_has.specs.declared.Asked.{Asked}
 use Rattle.query_size.specs.Promise.{byNode, byPart, sizeGivenBy, SizeCall}
-use Rattle.query_size.specs.Compact.{CompactCall}
+use Rattle.query_size_compact.specs.Promise.{CompactCall}
 use Rattle.query_has.specs.Promise.{hasGivenBy, HasCall}
 use Rattle.query_weight.specs.declared.answer.Weighed.{Weighed}
 use Rattle.query_weight.specs.Promise.{Way, weightGivenBy, WeightCall}
