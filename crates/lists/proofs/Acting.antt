@@ -39,7 +39,7 @@ pub data Grounded (limit : ℕ) (B : List Family) : Act → Type 0 where
 pub grounded : (limit : ℕ) (B : List Family) → Book limit B → (call : Call) → Grounded limit B (actOf limit B call)
 grounded limit B book (Operate op p q) = family-grounded (λ e. named-within (numberOf op) B book (count B) p q e)
 grounded limit B book (Parity even p) = family-grounded (λ e. within-parity _ (at B p) (at-within B book p))
-grounded limit B book (Size p scratch) = fact-grounded
+grounded limit B book (Size entry p scratch) = fact-grounded
 grounded limit B book (Has p combination) = fact-grounded
 grounded limit B book (Weigh way p weights scratch) = fact-grounded
 grounded limit B book (Save p scratch output) = file-grounded (at-held B book p)

@@ -1,18 +1,21 @@
 -- What an answer says of the book: a handle that a call took means the same family in the book after the whole list, one
--- that it gave is its family's number there, and a family that the book holds is placed for no new node. An answer is
--- that of the book before its call, and the book only grows.
+-- that it gave is its family's number there, a number that it told is that of the handle's family there, and a family
+-- that the book holds is placed for no new node. An answer is that of the book before its call, and the book only grows.
 use Prim.Native.Nat.{ℕ, _+_, _≤_, _<_}
 use mathlib.Core.Path.{_≡_, sym, ap, _∙_}
+use mathlib.Core.Bool.{cond}
 use mathlib.Core.List.{List, [], _∷_}
 use native.Mathlib.Omega.{arith}
+use lib.Dec.{eqb, ltb}
 use lib.ListN.{length}
+use Rattle.words.specs.Words.{most}
 use Rattle.words.proofs.Cases.{by-test, by-eq}
 use Rattle.family.specs.Family.{Family}
 use Rattle.family.specs.Book.{start, at, number, place, Grown, Book}
 use Rattle.family.proofs.Books.{grown-self, grown-trans, grown-length, grown-at}
 use Rattle.store.specs.Placing.{tooLarge}
 use Rattle.store.proofs.Holding.{held-answer}
-use Rattle.lists.specs.Calls.{Call, Answer, gives, Answered, here, later}
+use Rattle.lists.specs.Calls.{Call, Number, Tells, Answer, gives, tells, Answered, here, later}
 use Rattle.lists.specs.Acts.{placeReturns, count}
 use Rattle.lists.specs.Books.{Bounds, bookAnswer, bookAfter, answersFrom, bookFrom}
 use Rattle.lists.proofs.Placings.{TakesFamily, book-refused, book-full, book-placed}
@@ -48,6 +51,38 @@ module _ {bounds : Bounds} {call : Call} {answer : Answer} {C : List Family} (N 
 
   pub still-means : at C p ≡ at (N .before) p
   still-means = grown-at onward p stood
+
+-- what a call answers that asks a number of a family: what its tests find, else 6, else the number
+abbrev pub toldBy : ℕ → ℕ → Answer
+toldBy tests n =
+    let refusal = cond (eqb tests 0) (cond (ltb most n) 6 0) tests in
+    record { refusal = refusal; value = Tells (Number (cond (eqb refusal 0) n 0)) }
+
+told-tested : (tests n : ℕ) {m : ℕ} → tells m ≡ toldBy tests n → tests ≡ 0
+told-tested tests n e = by-eq tests 0 (λ z t. z) (λ z t. absurd (z (rw t at (sym (ap (λ a. a .refusal) e)))))
+
+told-number : (n : ℕ) {m : ℕ} → tells m ≡ toldBy 0 n → m ≡ n
+told-number n e =
+    by-test (ltb most n)
+    (λ t. absurd (omega (arith, rw t at (ap (λ a. a .refusal) e))))
+    (λ t. let v = rw t at (ap (λ a. a .value) e) in cc)
+
+-- a call that asks a number of what the handle p means, which its tests look for
+pub record Asks (bounds : Bounds) (call : Call) (p : ℕ) (what : Family → ℕ) : Type 0 where
+  pub tests : List Family → ℕ
+  pub held : (B : List Family) → tests B ≡ 0 → p ≤ count B + 1
+  pub told : (B : List Family) → bookAnswer bounds B call ≡ toldBy (tests B) (what (at B p))
+
+-- the number that it was told, in every later book
+module _ {bounds : Bounds} {call : Call} {p : ℕ} {what : Family → ℕ} (A : Asks bounds call p what) {n : ℕ} where
+  told-in : {C : List Family} → Between bounds call (tells n) start C → n ≡ what (at C p)
+  told-in N =
+      let e = N .answer-is ∙ A .told (N .before) in
+      let z = told-tested (A .tests (N .before)) (what (at (N .before) p)) e in
+      told-number (what (at (N .before) p)) (e ∙ ap (λ t. toldBy t (what (at (N .before) p))) z) ∙ ap what (sym (still-means N (A .held (N .before) z)))
+
+  pub told-after : {calls : List Call} {answers : List Answer} → Answered call (tells n) calls answers → answers ≡ answersFrom bounds start calls → n ≡ what (at (bookFrom bounds start calls) p)
+  told-after found e = told-in (between bounds start found e)
 
 -- a call that takes the family F
 module _ {bounds : Bounds} {B : List Family} {call : Call} {n : ℕ} {F : Family} (K : TakesFamily bounds B call n F) where

@@ -1,5 +1,5 @@
--- The theorem of demand 3 is in Theorem.antt, what Even and Odd of a family give in Parted.antt, and that two sums of a
--- family's weights are one number in Sums.antt; lowest first.
+-- The theorem of demand 3 is in Theorem.antt, what Even and Odd of a family give in Parted.antt, that two sums of a
+-- family's weights are one number in Sums.antt, and two sizes in Entries.antt; lowest first.
 pub mod Limits
 pub mod Lending
 pub mod Acting
@@ -15,6 +15,7 @@ pub mod Summing
 pub mod Theorem
 pub mod Parted
 pub mod Sums
+pub mod Entries
 pub mod Tabled
 pub mod Worked
 pub mod Laying

@@ -25,7 +25,7 @@ use Rattle.op_promise.specs.Promise.{operationRefusal}
 use Rattle.op_parity.specs.Promise.{parityRefusal}
 use Rattle.words.specs.Words.{most}
 use Rattle.query_sizes.specs.NodeSizes.{sizesOf}
-use Rattle.query_size.specs.Promise.{sizeRefusal, sizeScratch}
+use Rattle.query_size.specs.Promise.{SizeEntry, byNode, needOf, sizeTests, sizeRefusal, sizeScratch}
 use Rattle.query_weight.specs.Promise.{Way, sumBy, weightTests, weightRefusal}
 use Rattle.file_save.specs.Promise.{saveRefusal, saveOutput}
 use Rattle.file_load.specs.Promise.{fileNumber, loadRefusal}
@@ -70,10 +70,6 @@ load-refusing limit file words =
     by-file none = refuses NoFile (λ e. omega arith)
     by-file (some F) = by-test (ltb limit (top F)) (λ t. rw t (refuses AboveLimit (λ e. omega arith))) (λ t. rw t nothing)
 
-scratch-refusing : (B : List Family) (p words : ℕ) → Refusing (scratchTests B p words)
-unfolding scratchTests
-scratch-refusing B p words = tests-refusing (length B - 2) p 0 words (length B - 2) nothing
-
 pub has-refusing : (B : List Family) (p : ℕ) → Refusing (hasRefusal B p)
 unfolding hasRefusal
 has-refusing B p = tests-refusing (length B - 2) p 0 0 0 nothing
@@ -88,9 +84,10 @@ then-refusing : {n : ℕ} (b : Bool) (x : Refusal) → (refusalNumber x ≡ 5 �
 then-refusing b x five nothing = by-test b (λ t. rw t (refuses x five)) (λ t. rw t nothing)
 then-refusing b x five (refuses y n) = rw (ne-eqb (refusalNumber y) 0 (refusal-some y)) (refuses y n)
 
-pub size-refusing : (B : List Family) (p words : ℕ) → Refusing (sizeRefusal B p words)
-unfolding sizeRefusal
-size-refusing B p words = then-refusing (ltb most (size (at B p))) Large (λ e. omega arith) (scratch-refusing B p words)
+pub size-refusing : (entry : SizeEntry) (B : List Family) (p words : ℕ) → Refusing (sizeRefusal entry B p words)
+unfolding sizeRefusal sizeTests
+size-refusing entry B p words =
+    then-refusing (ltb most (size (at B p))) Large (λ e. omega arith) (tests-refusing (length B - 2) p 0 words (needOf entry B p) nothing)
 
 weights-refusing : (B : List Family) (p long words : ℕ) → Refusing (weightTests B p long words)
 unfolding weightTests
@@ -102,20 +99,21 @@ unfolding weightRefusal
 weight-refusing way B p weights words = then-refusing (ltb most (sumBy way weights (at B p))) Large (λ e. omega arith) (weights-refusing B p (length weights) words)
 
 pub save-refusing : (B : List Family) (p words room : ℕ) → Refusing (saveRefusal B p words room)
-unfolding saveRefusal
-save-refusing B p words room = then-refusing (ltb room (length (fileOf (at B p)))) Output (λ e. omega arith) (scratch-refusing B p words)
+unfolding saveRefusal scratchTests
+save-refusing B p words room =
+    then-refusing (ltb room (length (fileOf (at B p)))) Output (λ e. omega arith) (tests-refusing (length B - 2) p 0 words (length B - 2) nothing)
 
--- scratch that no test refuses has a word per node held
-scratch-room : (B : List Family) (p words : ℕ) → scratchTests B p words ≡ 0 → length B - 2 ≤ words
-unfolding scratchTests
-scratch-room B p words e = passes (length B - 2) p 0 0 words (length B - 2) e .room
+-- scratch that no test refuses is as long as the entry needs
+size-room : (entry : SizeEntry) (B : List Family) (p words : ℕ) → sizeTests entry B p words ≡ 0 → needOf entry B p ≤ words
+unfolding sizeTests
+size-room entry B p words e = passes (length B - 2) p 0 0 words (needOf entry B p) e .room
 
 pub size-long : (B : List Family) (p : ℕ) (scratch : List ℕ) → length (sizeScratch B p scratch) ≡ length scratch
 unfolding sizeScratch sizesOf
 size-long B p scratch =
-    by-eq (scratchTests B p (length scratch)) 0
+    by-eq (sizeTests byNode B p (length scratch)) 0
     (λ z e. rw e (length-append (sizesOf B) (drop (length B - 2) scratch)
-    ∙ omega (arith, scratch-room B p (length scratch) z, length-map (drop 2 B) (λ F. min (size F) most), length-drop 2 B, length-drop (length B - 2) scratch)))
+    ∙ omega (arith, size-room byNode B p (length scratch) z, length-map (drop 2 B) (λ F. min (size F) most), length-drop 2 B, length-drop (length B - 2) scratch)))
     (λ z e. rw e)
 
 -- an output that Save does not refuse has room for the file

@@ -33,7 +33,8 @@ use Rattle.store.proofs.Cached.{true-grown}
 use Rattle.query_size.specs.declared.Measured.{Measured}
 use Rattle.query_size.specs.declared.SizeAnswer.{SizeAnswer}
 use Rattle.query_size.specs.declared.SizeAnswer.the-variants.{Members, Refused as SizeRefused}
-use Rattle.query_size.specs.Promise.{sizeGivenBy, sizeAnswer, sizeScratch, SizeCall}
+use Rattle.query_size.specs.Promise.{SizeEntry, byNode, byPart, sizeGivenBy, sizeAnswer, sizeScratch, SizeCall}
+use Rattle.query_size_compact.specs.Promise.{CompactCall}
 use Rattle.query_has.specs.declared.Asked.{Asked}
 use Rattle.query_has.specs.declared.HasAnswer.{HasAnswer}
 use Rattle.query_has.specs.declared.HasAnswer.the-variants.{Yes, No, Refused as HasRefused}
@@ -131,6 +132,18 @@ module _ (F : Family) {s : Store} {nodes lookup cache : List ℕ} (S : Sound s n
         call = call-refused s nodes lookup cache (refusalNumber x) F (record { store = s; answer = Refused x }) x (sound-fits S) refl five refl refl;
       }
 
+-- what either entry of Size answers
+record Size-answered (entry : SizeEntry) (B : List Family) (p words : ℕ) : Type 0 where
+  answer : SizeAnswer
+  is : sizeGivenBy answer ≡ sizeAnswer entry B p words
+
+size-answered : (entry : SizeEntry) (B : List Family) (p words : ℕ) → Size-answered entry B p words
+unfolding sizeAnswer
+size-answered entry B p words =
+    by-refusing (size-refusing entry B p words)
+    (λ z. record { answer = Members (size (at B p)); is = rw z })
+    (λ x d f. record { answer = SizeRefused x; is = rw (d, f) })
+
 -- the calls that write no store word
 module _ {s : Store} {nodes lookup : List ℕ} (S : Sound s nodes lookup []) where
   pub record Has-kept (p : ℕ) (c : List ℕ) : Type 0 where
@@ -166,26 +179,39 @@ module _ {s : Store} {nodes lookup : List ℕ} (S : Sound s nodes lookup []) whe
     pub call : SizeCall s nodes lookup p scratch r scratch′
 
   pub size-kept : (p : ℕ) (scratch : List ℕ) → Size-kept p scratch
-  unfolding sizeAnswer
   size-kept p scratch =
-      by-refusing (size-refusing B p (length scratch)) (λ z. says (Members (size (at B p))) (rw z)) (λ x d f. says (SizeRefused x) (rw (d, f)))
-    where
-      B : List Family
-      B = bookOf nodes (s .count)
+      let B = bookOf nodes (s .count) in
+      let A = size-answered byNode B p (length scratch) in
+      record {
+        r = record { store = s; answer = A .answer };
+        scratch′ = sizeScratch B p scratch;
+        call = record {
+          misfit = λ d. clash (sound-fits S) d;
+          answer-is = λ T. A .is;
+          scratch-is = λ T. refl;
+          store-is = refl;
+          long = size-long B p scratch;
+        };
+      }
 
-      says : (a : SizeAnswer) → sizeGivenBy a ≡ sizeAnswer B p (length scratch) → Size-kept p scratch
-      says a e =
-          record {
-            r = record { store = s; answer = a };
-            scratch′ = sizeScratch B p scratch;
-            call = record {
-              misfit = λ d. clash (sound-fits S) d;
-              answer-is = λ T. e;
-              scratch-is = λ T. refl;
-              store-is = refl;
-              long = size-long B p scratch;
-            };
-          }
+  pub record Compact-kept (p : ℕ) (scratch : List ℕ) : Type 0 where
+    pub r : Measured
+    pub call : CompactCall s nodes lookup p scratch r scratch
+
+  -- the second entry may leave its scratch as it came
+  pub compact-kept : (p : ℕ) (scratch : List ℕ) → Compact-kept p scratch
+  compact-kept p scratch =
+      let A = size-answered byPart (bookOf nodes (s .count)) p (length scratch) in
+      record {
+        r = record { store = s; answer = A .answer };
+        call = record {
+          misfit = λ d. clash (sound-fits S) d;
+          answer-is = λ T. A .is;
+          scratch-stays = λ l. refl;
+          store-is = refl;
+          long = refl;
+        };
+      }
 
   pub record Weight-kept (way : Way) (p : ℕ) (weights scratch : List ℕ) : Type 0 where
     pub r : Weighed

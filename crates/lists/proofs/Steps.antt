@@ -24,9 +24,8 @@ use Rattle.store.specs.Sound.{Sound}
 use Rattle.store.proofs.Sounds.{zeroed-true, sound-with, bare}
 use Rattle.op_promise.specs.Promise.{OperationCall, numberOf}
 use Rattle.op_parity.specs.Promise.{ParityCall}
-use Rattle.query_size.specs.declared.Measured.{Measured}
 use Rattle.query_has.specs.declared.Asked.{Asked}
-use Rattle.query_size.specs.Promise.{sizeGivenBy, sizeAnswer, SizeCall}
+use Rattle.query_size.specs.Promise.{SizeGiven, SizeEntry, byNode, byPart, sizeAnswer}
 use Rattle.query_has.specs.Promise.{hasGivenBy, hasAnswer, HasCall}
 use Rattle.query_weight.specs.declared.answer.Weighed.{Weighed}
 use Rattle.query_weight.specs.Promise.{Way, weightGivenBy, weightAnswer, WeightCall}
@@ -39,7 +38,7 @@ use Rattle.op_promise.specs.declared.Operation.{Operation}
 use Rattle.lists.specs.Calls.{Call, Operate, Parity, Size, Has, Weigh, Save, Load, Audit, Answer}
 use Rattle.lists.specs.Acts.{placeReturns, sizeReturns, hasReturns, weightReturns, saveReturns, auditReturns, Saves, actAnswer, stays}
 use Rattle.lists.specs.Books.{Bounds, bookAnswer, bookEffect}
-use Rattle.lists.specs.Runs.{State, sameWords, withPart, Step, operates, parts, sizes, asks, weighs, saves, loads, audits}
+use Rattle.lists.specs.Runs.{State, sameWords, withPart, Step, operates, parts, sizes, sizes-by-part, asks, weighs, saves, loads, audits}
 use Rattle.lists.proofs.Lending.{joined-true}
 use Rattle.lists.proofs.Invariant.{Inv, BookStep, count-is}
 use Rattle.lists.proofs.Placings.{place-step}
@@ -78,11 +77,11 @@ module _ {bounds : Bounds} {slots : ℕ} {B : List Family} {x : State} (I : Inv 
       → answer ≡ told (bookOf (x .nodes) (x .store .count)) → s ≡ x .store → BookStep bounds slots B call answer (sameWords x s)
   query-step call told t b a e = record { answer-is = a ∙ ap told (I .book-is) ∙ b; after = rw (e, t) I }
 
-  size-step : {p : ℕ} {scratch scratch′ : List ℕ} {r : Measured} → SizeCall (x .store) (x .nodes) (x .lookup) p scratch r scratch′
-      → BookStep bounds slots B (Size p (length scratch)) (sizeReturns (sizeGivenBy (r .answer))) (sameWords x (r .store))
+  -- either entry of Size
+  size-step : (entry : SizeEntry) {p scratch : ℕ} {given : SizeGiven} {s : Store} → given ≡ sizeAnswer entry (bookOf (x .nodes) (x .store .count)) p scratch → s ≡ x .store
+      → BookStep bounds slots B (Size entry p scratch) (sizeReturns given) (sameWords x s)
   unfolding bookAnswer bookEffect
-  size-step {p} {scratch} P =
-      query-step (Size p (length scratch)) (λ X. sizeReturns (sizeAnswer X p (length scratch))) refl refl (ap sizeReturns (P .answer-is no-cache)) (P .store-is)
+  size-step entry {p} {scratch} a e = query-step (Size entry p scratch) (λ X. sizeReturns (sizeAnswer entry X p scratch)) refl refl (ap sizeReturns a) e
 
   has-step : {p : ℕ} (w : List ℕ) {r : Asked} → HasCall (x .store) (x .nodes) (x .lookup) p (itemsOf w) r
       → BookStep bounds slots B (Has p w) (hasReturns (hasGivenBy (r .answer))) (sameWords x (r .store))
@@ -135,7 +134,8 @@ module _ {bounds : Bounds} {slots : ℕ} {B : List Family} {x : State} (I : Inv 
   pub step : {call : Call} {answer : Answer} {y : State} → Step x call answer y → BookStep bounds slots B call answer y
   step (operates lent {op = op} {p = p} {q = q} P) = operate-step lent {op = op} {p = p} {q = q} P
   step (parts lent {even = even} {p = p} P) = parity-step lent {even = even} {p = p} P
-  step (sizes P) = size-step P
+  step (sizes P) = size-step byNode (P .answer-is no-cache) (P .store-is)
+  step (sizes-by-part P) = size-step byPart (P .answer-is no-cache) (P .store-is)
   step (asks {combination = w} P) = has-step w P
   step (weighs P) = weigh-step P
   step (saves P) = save-step P

@@ -21,7 +21,7 @@ use Rattle.store.specs.Tests.{isItem, testsOf}
 use Rattle.op_promise.specs.Promise.{operationRefusal, numberOf}
 use Rattle.op_parity.specs.Promise.{parityRefusal}
 use Rattle.words.specs.Words.{most}
-use Rattle.query_size.specs.Promise.{sizeRefusal, sizeAnswer}
+use Rattle.query_size.specs.Promise.{needOf, sizeTests, sizeRefusal, sizeAnswer}
 use Rattle.query_has.specs.Promise.{hasAnswer, hasRefusal}
 use Rattle.query_weight.specs.Promise.{sumBy, weightTests, weightRefusal, weightAnswer}
 use Rattle.file_save.specs.Promise.{saveRefusal}
@@ -65,12 +65,12 @@ module _ (bounds : Bounds) (B : List Family) where
       (λ a. rw (a, le-ltb (count B + 1) 0 (omega arith)) (by-test own (λ o. rw o (by-test (ltb scratch need) (λ s. rw s) (λ s. rw s))) (λ o. rw o)))
 
   pub tabled : (call : Call) → bookAnswer bounds B call .refusal ≡ refusalOf bounds B call
-  unfolding bookAnswer refusalOf sizeAnswer sizeRefusal weightAnswer weightRefusal weightTests saveRefusal scratchTests hasAnswer hasRefusal testsOf
+  unfolding bookAnswer refusalOf sizeAnswer sizeRefusal sizeTests weightAnswer weightRefusal weightTests saveRefusal scratchTests hasAnswer hasRefusal testsOf
   tabled (Operate op p q) = place-refusal (operationRefusal (numberOf op) (bounds .limit) (count B) p q) (named (numberOf op) B p q) ∙ sym (operate-table op p q)
   tabled (Parity even p) =
       place-refusal (parityRefusal (count B) p) (parity even (at B p))
       ∙ handle-table p true 0 0 (tooLarge (bounds .capacity) B (parity even (at B p))) 5
-  tabled (Size p scratch) = handle-table p true scratch (count B) (ltb most (size (at B p))) 6
+  tabled (Size entry p scratch) = handle-table p true scratch (needOf entry B p) (ltb most (size (at B p))) 6
   tabled (Has p combination) = by-test (above B p) (λ a. rw a) (λ a. rw (a, le-ltb (count B + 1) 0 (omega arith)))
   tabled (Weigh way p weights scratch) = handle-table p (eqb (length weights) largestItem) scratch (3 * count B) (ltb most (sumBy way weights (at B p))) 6
   tabled (Save p scratch output) = handle-table p true scratch (count B) (ltb output (length (fileOf (at B p)))) 8

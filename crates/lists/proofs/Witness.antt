@@ -20,10 +20,11 @@ use Rattle.store_fresh.specs.declared.FreshAnswer.the-variants.{Done}
 use Rattle.store_fresh.specs.Promise.{freshLeaves, freshOf}
 use Rattle.file_load.specs.Promise.{loadFamily}
 use Rattle.op_promise.specs.Promise.{numberOf}
+use Rattle.query_size.specs.Promise.{SizeEntry, byNode, byPart}
 use Rattle.query_weight.specs.Promise.{Way}
 use Rattle.lists.specs.Calls.{Call, Operate, Parity, Size, Has, Weigh, Save, Load, Audit, Answer}
 use Rattle.lists.specs.Books.{Bounds, bookAnswer, answersOf, bookOfCalls}
-use Rattle.lists.specs.Runs.{State, Opening, boundsOf, Step, operates, parts, sizes, asks, weighs, saves, loads, audits, Runs, fresh, next}
+use Rattle.lists.specs.Runs.{State, Opening, boundsOf, Step, operates, parts, sizes, sizes-by-part, asks, weighs, saves, loads, audits, Runs, fresh, next}
 use Rattle.lists.specs.Witness.{WitnessClaim}
 use Rattle.lists.proofs.Limits.{named-within}
 use Rattle.lists.proofs.Acting.{load-within}
@@ -34,7 +35,7 @@ use Rattle.lists.proofs.Steps.{no-cache, step}
 use Rattle.lists.proofs.Growth.{answers-snoc}
 use Rattle.lists.proofs.Reaching.{reached}
 use Rattle.lists.proofs.Numbers.{operation-refusing, parity-refusing, load-refusing}
-use Rattle.lists.proofs.Promising.{place-kept, has-kept, audit-kept, size-kept, weight-kept, save-kept}
+use Rattle.lists.proofs.Promising.{place-kept, has-kept, audit-kept, size-kept, compact-kept, weight-kept, save-kept}
 
 -- a step with some answer
 data Steps (x : State) (call : Call) : Type 0 where
@@ -46,8 +47,9 @@ module _ {bounds : Bounds} {slots : ℕ} {B : List Family} {x : State} (I : Inv 
   lent-sound lent = sound-with (take lent (x .cache)) (I .sound) (lent-true (x .cache) lent (I .sound .cached))
 
   -- one call, whatever part of the cache it is lent; scratch and output of the lengths that it says are there
-  size-steps : (p : ℕ) (scratch : List ℕ) → Steps x (Size p (length scratch))
-  size-steps p scratch = taken (sizes (size-kept (no-cache I) p scratch .call))
+  size-steps : (entry : SizeEntry) (p : ℕ) (scratch : List ℕ) → Steps x (Size entry p (length scratch))
+  size-steps byNode p scratch = taken (sizes (size-kept (no-cache I) p scratch .call))
+  size-steps byPart p scratch = taken (sizes-by-part (compact-kept (no-cache I) p scratch .call))
 
   weigh-steps : (way : Way) (p : ℕ) (weights scratch : List ℕ) → Steps x (Weigh way p weights (length scratch))
   weigh-steps way p weights scratch = taken (weighs (weight-kept (no-cache I) way p weights scratch .call))
@@ -71,7 +73,7 @@ module _ {bounds : Bounds} {slots : ℕ} {B : List Family} {x : State} (I : Inv 
       let F = at (bookOf (x .nodes) n) p in
       let w = at-within (bookOf (x .nodes) n) (sound-holds (I .sound) .book) p in
       taken (parts lent (place-kept (parity even F) (lent-sound lent) (parity-refusing n p) (λ e. within-parity even F w) .call))
-  steps lent (Size p scratch) = rw (zeros-length scratch) at (size-steps p (replicate scratch 0))
+  steps lent (Size entry p scratch) = rw (zeros-length scratch) at (size-steps entry p (replicate scratch 0))
   steps lent (Has p combination) = taken (asks (has-kept (no-cache I) p (itemsOf combination) .call))
   steps lent (Weigh way p weights scratch) = rw (zeros-length scratch) at (weigh-steps way p weights (replicate scratch 0))
   steps lent (Save p scratch output) = rw (zeros-length scratch, zeros-length output) at (save-steps p (replicate scratch 0) (replicate output 0))

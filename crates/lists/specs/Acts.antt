@@ -58,7 +58,7 @@ pub data Act : Type 0 where
 abbrev pub actOf : ℕ → List Family → Call → Act
 actOf limit B (Operate op p q) = Places (operationRefusal (numberOf op) limit (count B) p q) (named (numberOf op) B p q)
 actOf limit B (Parity even p) = Places (parityRefusal (count B) p) (parity even (at B p))
-actOf limit B (Size p scratch) = Gives (sizeAnswer B p scratch .refusal) (Number (sizeAnswer B p scratch .size))
+actOf limit B (Size entry p scratch) = Gives (sizeAnswer entry B p scratch .refusal) (Number (sizeAnswer entry B p scratch .size))
 actOf limit B (Has p combination) = Gives (hasAnswer B p (itemsOf combination) .refusal) (Says (hasAnswer B p (itemsOf combination) .member))
 actOf limit B (Weigh way p weights scratch) = Gives (weightAnswer way B p weights scratch .refusal) (Number (weightAnswer way B p weights scratch .sum))
 actOf limit B (Save p scratch output) = Saves (saveRefusal B p scratch output) (at B p)

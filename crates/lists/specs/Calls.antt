@@ -1,18 +1,20 @@
--- Calls and their answers as data: document 01, 'Calls', and document 02, Nos. 1, 4 and 7.
+-- Calls and their answers as data: document 01, 'Calls', and document 02, Nos. 1, 2, 4 and 7.
 use Prim.Native.Nat.{ℕ, _+_}
 use mathlib.Core.Bool.{Bool}
 use mathlib.Core.List.{List, [], _∷_}
 use Rattle.op_promise.specs.declared.Operation.{Operation}
+use Rattle.query_size.specs.Promise.{SizeEntry}
 use Rattle.query_weight.specs.Promise.{Way}
 
 -- A call, with all that it takes besides the record and the store's words: "handles, items, combinations, file bytes
 -- and lengths", and lists of weights. p is a handle and q the second operand, a combination is the sixteen words of its
--- record, and scratch and output are lengths. `Parity` is Even where its first argument is true, else Odd; `Weigh` is the
--- sum of weights by either way. The part of the cache that a call is lent is no part of it: the steps of Runs say it.
+-- record, and scratch and output are lengths. `Parity` is Even where its first argument is true, else Odd; `Size` is by
+-- either entry, and `Weigh` is the sum of weights by either way. The part of the cache that a call is lent is no part of
+-- it: the steps of Runs say it.
 pub data Call : Type 0 where
   Operate : Operation → (p q : ℕ) → Call
   Parity : (even : Bool) (p : ℕ) → Call
-  Size : (p scratch : ℕ) → Call
+  Size : SizeEntry → (p scratch : ℕ) → Call
   Has : (p : ℕ) (combination : List ℕ) → Call
   Weigh : Way → (p : ℕ) (weights : List ℕ) (scratch : ℕ) → Call
   Save : (p scratch output : ℕ) → Call

@@ -58,7 +58,7 @@ pub record Demand3 (o : Opening) (calls : List Call) (answers : List Answer) (x 
 
 -- "For every list of subset, change, union, intersection, difference, size, membership, save, load and audit calls
 -- from a fresh store, refused calls included, in words that only these calls write"; document 02 of Even and Odd: "They
--- belong to the lists of demand 3 from then on", and so do the sums of weights; document 01: "a single claim about the
--- list, of any length, and not one for each call".
+-- belong to the lists of demand 3 from then on", and "so do the calls of Nos. 1 to 3": the sums of weights and both
+-- entries of Size; document 01: "a single claim about the list, of any length, and not one for each call".
 abbrev pub Claim : Type 0
 Claim = (o : Opening) (calls : List Call) (answers : List Answer) (x : State) → Runs o calls answers x → Demand3 o calls answers x

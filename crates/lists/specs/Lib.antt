@@ -6,5 +6,6 @@ pub mod Runs
 pub mod Demand3
 pub mod Parted
 pub mod Sums
+pub mod Entries
 pub mod Witness
 pub mod Worked

@@ -16,7 +16,8 @@ use Rattle.op_promise.specs.Promise.{OperationCall, numberOf}
 use Rattle.op_parity.specs.Promise.{ParityCall}
 use Rattle.query_size.specs.declared.Measured.{Measured}
 use Rattle.query_has.specs.declared.Asked.{Asked}
-use Rattle.query_size.specs.Promise.{sizeGivenBy, SizeCall}
+use Rattle.query_size.specs.Promise.{byNode, byPart, sizeGivenBy, SizeCall}
+use Rattle.query_size_compact.specs.Promise.{CompactCall}
 use Rattle.query_has.specs.Promise.{hasGivenBy, HasCall}
 use Rattle.query_weight.specs.declared.answer.Weighed.{Weighed}
 use Rattle.query_weight.specs.Promise.{Way, weightGivenBy, WeightCall}
@@ -57,7 +58,10 @@ pub data Step (x : State) : Call → Answer → State → Type 0 where
       → Step x (Parity even p) (placeReturns (givenBy (r .answer))) (withPart x lent (r .store) nodes lookup part)
   sizes : {p : ℕ} {scratch scratch′ : List ℕ} {r : Measured}
       → SizeCall (x .store) (x .nodes) (x .lookup) p scratch r scratch′
-      → Step x (Size p (length scratch)) (sizeReturns (sizeGivenBy (r .answer))) (sameWords x (r .store))
+      → Step x (Size byNode p (length scratch)) (sizeReturns (sizeGivenBy (r .answer))) (sameWords x (r .store))
+  sizes-by-part : {p : ℕ} {scratch scratch′ : List ℕ} {r : Measured}
+      → CompactCall (x .store) (x .nodes) (x .lookup) p scratch r scratch′
+      → Step x (Size byPart p (length scratch)) (sizeReturns (sizeGivenBy (r .answer))) (sameWords x (r .store))
   asks : {p : ℕ} {combination : List ℕ} {r : Asked}
       → HasCall (x .store) (x .nodes) (x .lookup) p (itemsOf combination) r
       → Step x (Has p combination) (hasReturns (hasGivenBy (r .answer))) (sameWords x (r .store))

@@ -16,6 +16,7 @@ use Rattle.store.specs.Tests.{isItem}
 use Rattle.words.specs.Words.{most}
 use Rattle.op_promise.specs.declared.Operation.{Operation}
 use Rattle.op_promise.specs.Promise.{numberOf}
+use Rattle.query_size.specs.Promise.{needOf}
 use Rattle.query_weight.specs.Promise.{sumBy}
 use Rattle.lists.specs.Calls.{Call, Operate, Parity, Size, Has, Weigh, Save, Load, Audit}
 use Rattle.lists.specs.Acts.{count}
@@ -38,13 +39,14 @@ fileRefusal bounds B (some F) = cond (ltb (bounds .limit) (top F)) 13 (cond (too
 -- The table, for each call in the order "4, 3, 7, 9, 6, 8, 5", with 11 "directly after 4" and 13 "after 9 and before 5";
 -- 0 where nothing refuses the call, and never 10: "On a sound store 10 never comes". 3: an item 0 or above "the store's
 -- own limit". 11: "the weight list isn't 512 long". 7: "scratch shorter than stated", a word per node held for Size and
--- Save, three for a sum of weights, six words per file byte for Load. 6: size or sum "above 18,446,744,073,709,551,615".
--- 8: "output shorter than the file".
+-- Save, "two 64-bit words for each part of the asked family" for Size's second entry, three per node held for a sum of
+-- weights, six words per file byte for Load. 6: size or sum "above 18,446,744,073,709,551,615". 8: "output shorter than
+-- the file".
 unfoldable pub refusalOf : Bounds → List Family → Call → ℕ
 refusalOf bounds B (Operate op p q) =
     cond (above B p || (not (onItem op) && above B q)) 4 (cond (onItem op && not (isItem (bounds .limit) q)) 3 (cond (tooLarge (bounds .capacity) B (named (numberOf op) B p q)) 5 0))
 refusalOf bounds B (Parity even p) = cond (above B p) 4 (cond (tooLarge (bounds .capacity) B (parity even (at B p))) 5 0)
-refusalOf bounds B (Size p scratch) = cond (above B p) 4 (cond (ltb scratch (count B)) 7 (cond (ltb most (size (at B p))) 6 0))
+refusalOf bounds B (Size entry p scratch) = cond (above B p) 4 (cond (ltb scratch (needOf entry B p)) 7 (cond (ltb most (size (at B p))) 6 0))
 refusalOf bounds B (Has p combination) = cond (above B p) 4 0
 refusalOf bounds B (Weigh way p weights scratch) =
     cond (above B p) 4 (cond (not (eqb (length weights) largestItem)) 11 (cond (ltb scratch (3 * count B)) 7 (cond (ltb most (sumBy way weights (at B p))) 6 0)))

@@ -31,7 +31,7 @@ use Rattle.op_promise.specs.Promise.{OperationCall}
 use Rattle.query_size.specs.declared.SizeAnswer.the-variants.{Members, Refused as NoSize}
 use Rattle.query_size.specs.declared.Measured.{Measured}
 use Rattle.words.specs.Words.{most}
-use Rattle.query_size.specs.Promise.{sizeGivenBy, sizeRefusal, sizeAnswer, SizeCall}
+use Rattle.query_size.specs.Promise.{byNode, sizeGivenBy, sizeTests, sizeRefusal, sizeAnswer, SizeCall}
 use Rattle.family.specs.Combination.{itemsOf}
 use Rattle.report_line.specs.declared.Side.{Side}
 use Rattle.report_line.specs.declared.Stage.{Stage}
@@ -55,18 +55,19 @@ use Rattle.report_add.proofs.Makings.{gives, refused-full, placed-grown}
 use Rattle.report_log.proofs.Logs.{Stays, stays}
 
 -- the size of a handle that is held
-module _ (B : List Family) (p words : ℕ) (passed : scratchTests B p words ≡ 0) where
-  size-low : size (at B p) ≤ most → sizeAnswer B p words ≡ record { refusal = 0; size = size (at B p) }
+module _ (B : List Family) (p words : ℕ) (passed : sizeTests byNode B p words ≡ 0) where
+  size-low : size (at B p) ≤ most → sizeAnswer byNode B p words ≡ record { refusal = 0; size = size (at B p) }
   unfolding sizeAnswer sizeRefusal
   size-low l = rw (passed, le-ltb most (size (at B p)) l)
 
-  size-high : most < size (at B p) → sizeAnswer B p words ≡ record { refusal = 6; size = 0 }
+  size-high : most < size (at B p) → sizeAnswer byNode B p words ≡ record { refusal = 6; size = 0 }
   unfolding sizeAnswer sizeRefusal
   size-high l = rw (passed, lt-ltb most (size (at B p)) l)
 
 module _ {s : Store} {nodes lookup : List ℕ} {p : ℕ} {sizes : List ℕ} {m : Measured} {sizes′ : List ℕ} (C : SizeCall s nodes lookup p sizes m sizes′) where
   module _ (S : Sound s nodes lookup []) (l : p ≤ s .count + 1) (w : s .count ≤ length sizes) where
-    tested : scratchTests (bookOf nodes (s .count)) p (length sizes) ≡ 0
+    tested : sizeTests byNode (bookOf nodes (s .count)) p (length sizes) ≡ 0
+    unfolding sizeTests scratchTests
     tested = tests-passed (bookOf nodes (s .count)) (s .count) p (length sizes) (sound-holds S .size) l w
 
     told : (n : ℕ) → m .answer ≡ Members n → n ≡ capped (size (at (bookOf nodes (s .count)) p))
