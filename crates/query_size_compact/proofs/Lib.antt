@@ -4,3 +4,4 @@ pub mod Listing
 pub mod Walking
 pub mod Counting
 pub mod Answering
+pub mod Agreeing
