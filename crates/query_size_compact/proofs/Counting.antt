@@ -120,11 +120,11 @@ module _ (nodes : List ℕ) (count p : ℕ) (scratch : List ℕ) where
           some-members : 1 ≤ size (at B p)
           some-members = some-size (at B p) (within H p (omega arith) .ordered) (not-empty (at B p) (λ e. omega (arith, has-item H p h (omega arith), ap top e)))
 
-        pub counted-large : sizeOf words places r ≡ 0 → Counted nodes count p scratch (Refused Large) words
-        counted-large z =
+        pub counted-large : {m : ℕ} → m ≡ sizeOf words places r → m ≡ 0 → Counted nodes count p scratch (Refused Large) words
+        counted-large em z =
             record {
               long = long;
-              is = λ B lookup H. sym (told-large (at B p) (length scratch) (enough H) (word-none (size (at B p)) (some-members H) (sym (word-is H) ∙ z)));
+              is = λ B lookup H. sym (told-large (at B p) (length scratch) (enough H) (word-none (size (at B p)) (some-members H) (sym (em ∙ word-is H) ∙ z)));
             }
 
         pub counted-done : {m : ℕ} → m ≡ sizeOf words places r → (m ≡ 0 → ⊥) → Counted nodes count p scratch (Members m) words

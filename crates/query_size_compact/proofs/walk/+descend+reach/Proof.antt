@@ -45,17 +45,10 @@ abbrev reach-claims : ℕ → reach-lts.Claims
 reach-claims t = (find-reads.Asked, find-reads.Learnt, descend-below t, descend.Post)
 
 descend-returns : (t : ℕ) → descend-lts.Need-returns (descend-claims t) (descend-at t) descend.Post
-descend-returns t c =
-    let at-if1 : descend-lts.Then1 (descend-claims t) (descend-at t) descend.Post = search in
-    let at-start : descend-lts.Start (descend-claims t) (descend-at t) descend.Post = search in
-    descended-outside _ _ _ _ _ _ _ (at-start .pre .1 .asks .table) (at-if1 .if1 .taken)
+descend-returns t c = search descended-outside
 
 descend-returns-2 : (t : ℕ) → descend-lts.Need-returns-2 (descend-claims t) (descend-at t) descend.Post
-descend-returns-2 t c =
-    let at-if2 : descend-lts.Then2 (descend-claims t) (descend-at t) descend.Post = search in
-    let at-start : descend-lts.Start (descend-claims t) (descend-at t) descend.Post = search in
-    let q = at-start .pre .1 in
-    descended-high _ _ _ _ _ _ _ (q .asks .table) (q .part) (at-if2 .if2 .taken)
+descend-returns-2 t c = search descended-high
 
 descend-reach-requires : (t : ℕ) → descend-lts.Need-reach-requires (descend-claims t) (descend-at t) descend.Post
 descend-reach-requires t c κs =
@@ -65,12 +58,7 @@ descend-reach-requires t c κs =
     (omega (arith, at-start .pre .0, at-if2 .if2 .left), record { nodes-long = q .nodes-long; few = q .few; some = q .some; table = q .table })
 
 descend-returns-3 : (t : ℕ) → descend-lts.Need-returns-3 (descend-claims t) (descend-at t) descend.Post
-descend-returns-3 t c =
-    let at-if3 : descend-lts.Then3 (descend-claims t) (descend-at t) descend.Post = search in
-    let at-reach : descend-lts.After-reach (descend-claims t) (descend-at t) descend.Post = search in
-    let at-start : descend-lts.Start (descend-claims t) (descend-at t) descend.Post = search in
-    let q = at-start .pre .1 in
-    descended-first _ _ _ _ _ _ _ (q .asks .table) (q .part) (at-reach .reach .ensures) (at-if3 .if3 .taken)
+descend-returns-3 t c = search descended-first
 
 descend-reach-requires-2 : (t : ℕ) → descend-lts.Need-reach-requires-2 (descend-claims t) (descend-at t) descend.Post
 descend-reach-requires-2 t c κs =
@@ -81,15 +69,7 @@ descend-reach-requires-2 t c κs =
     (omega (arith, at-start .pre .0, at-if2 .if2 .left), record { nodes-long = q .nodes-long; few = q .few; some = q .some; table = at-reach .reach .ensures .went .table })
 
 descend-returns-4 : (t : ℕ) → descend-lts.Need-returns-4 (descend-claims t) (descend-at t) descend.Post
-descend-returns-4 t c =
-    let at-if4 : descend-lts.Then4 (descend-claims t) (descend-at t) descend.Post = search in
-    let at-reach2 : descend-lts.After-reach2 (descend-claims t) (descend-at t) descend.Post = search in
-    let at-if3 : descend-lts.Else3 (descend-claims t) (descend-at t) descend.Post = search in
-    let at-reach : descend-lts.After-reach (descend-claims t) (descend-at t) descend.Post = search in
-    let at-if2 : descend-lts.Else2 (descend-claims t) (descend-at t) descend.Post = search (at-reach) in
-    let at-start : descend-lts.Start (descend-claims t) (descend-at t) descend.Post = search (at-if2) in
-    let q = at-start .pre .1 in
-    descended-second _ _ _ _ _ _ _ (q .asks .table) (q .part) (at-reach .reach .ensures) (at-if3 .if3 .left) (at-reach2 .reach2 .ensures) (at-if4 .if4 .taken)
+descend-returns-4 t c = search descended-second
 
 descend-size-of-requires : (t : ℕ) → descend-lts.Need-size-of-requires (descend-claims t) (descend-at t) descend.Post
 descend-size-of-requires t c κs =
@@ -131,10 +111,7 @@ descend-returns-5 t c =
     (at-without .size-of .ensures) (at-with .size-of2 .ensures) (at-sum .sum-of .ensures) (at-append .append .ensures)
 
 reach-returns : (t : ℕ) → reach-lts.Need-returns (reach-claims t) (reach-at t) reach.Post
-reach-returns t c =
-    let at-if1 : reach-lts.Then1 (reach-claims t) (reach-at t) reach.Post = search in
-    let at-start : reach-lts.Start (reach-claims t) (reach-at t) reach.Post = search in
-    walked-leaf _ _ _ _ _ _ _ (at-start .pre .1 .table) (at-if1 .if1 .taken)
+reach-returns t c = search walked-leaf
 
 reach-find-requires : (t : ℕ) → reach-lts.Need-find-requires (reach-claims t) (reach-at t) reach.Post
 reach-find-requires t c κs =
@@ -150,12 +127,7 @@ reach-add-result t c =
     omega (arith, at-find .find .ensures .among _ T .low, T .few, T .small)
 
 reach-returns-2 : (t : ℕ) → reach-lts.Need-returns-2 (reach-claims t) (reach-at t) reach.Post
-reach-returns-2 t c =
-    let at-if2 : reach-lts.Then2 (reach-claims t) (reach-at t) reach.Post = search in
-    let at-find : reach-lts.After-find (reach-claims t) (reach-at t) reach.Post = search in
-    let at-if1 : reach-lts.Else1 (reach-claims t) (reach-at t) reach.Post = search in
-    let at-start : reach-lts.Start (reach-claims t) (reach-at t) reach.Post = search in
-    walked-found _ _ _ _ _ _ _ (at-start .pre .1 .table) (at-if1 .if1 .left) (at-find .find .ensures) (at-if2 .if2 .taken)
+reach-returns-2 t c = search walked-found
 
 reach-descend-requires : (t : ℕ) → reach-lts.Need-descend-requires (reach-claims t) (reach-at t) reach.Post
 reach-descend-requires t c κs =
@@ -164,13 +136,7 @@ reach-descend-requires t c κs =
     (omega (arith, at-start .pre .0), record { asks = at-start .pre .1; part = at-if1 .if1 .left })
 
 reach-returns-3 : (t : ℕ) → reach-lts.Need-returns-3 (reach-claims t) (reach-at t) reach.Post
-reach-returns-3 t c =
-    let at-descend : reach-lts.After-descend (reach-claims t) (reach-at t) reach.Post = search in
-    let at-if2 : reach-lts.Else2 (reach-claims t) (reach-at t) reach.Post = search in
-    let at-find : reach-lts.After-find (reach-claims t) (reach-at t) reach.Post = search in
-    let at-if1 : reach-lts.Else1 (reach-claims t) (reach-at t) reach.Post = search in
-    let at-start : reach-lts.Start (reach-claims t) (reach-at t) reach.Post = search in
-    walked-on _ _ _ _ _ _ _ (at-start .pre .1 .table) (at-if1 .if1 .left) (at-find .find .ensures) (at-if2 .if2 .left) (at-descend .descend .ensures)
+reach-returns-3 t c = search walked-on
 
 pub +descend+reach-spec : {M : Type 1} → statement M
 +descend+reach-spec = close μ-descend μ-reach (λ t. descend-lts.spec (descend-claims t)

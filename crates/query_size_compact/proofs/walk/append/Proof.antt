@@ -7,10 +7,7 @@ use Rattle.query_size_compact.proofs.walk.append.Statement.{statement}
 use Rattle.query_size_compact.proofs.walk.append.Tie as tie
 
 returns : tie.Need-returns
-returns c =
-    let at-if1 : tie.Then1 = search in
-    let at-start : tie.Start = search in
-    append-full _ _ _ _ _ (at-start .pre .table) (at-if1 .if1 .taken)
+returns c = search append-full
 
 enter-requires : tie.Need-enter-requires
 enter-requires c κs =
@@ -35,10 +32,7 @@ same-length : tie.Need-same-length
 same-length c = search needs
 
 returns-2 : tie.Need-returns-2
-returns-2 c =
-    let at-enter : tie.After-enter = search in
-    let at-start : tie.Start = search in
-    append-done _ _ _ _ _ (at-start .pre .table) (at-enter .enter .ensures)
+returns-2 c = search append-done
 
 pub append-spec : {M : Type 1} → statement M
 append-spec = tie.close (tie.spec returns enter-requires add-entered add-result same-length returns-2)
