@@ -273,7 +273,7 @@ static std::vector<Row> time_calls() {
     Shelf grid(largest_capacity, [](Ours &p) { return independent_sets(p, 7, bad_order); });
     Shelf small(10000, [](Ours &p) { return independent_sets(p, 6, grid_order); });
     Shelf deep(2000, all_subsets);
-    Shelf among(largest_capacity, [](Ours &p) { return grown(p, 500000, 14); });
+    Shelf among(largest_capacity, [](Ours &p) { return grown(p, 500000, 12); });
     Shelf behind(largest_capacity, [&](Ours &p) {
         grown(p, 450000);
         return p.load(among.file, among.scratch);

@@ -63,6 +63,10 @@ fn sizes_about_2_to_the_64() {
             expect(&store, more, size);
             let twice = store.union(high, all[1]).expect("room");
             expect(&store, twice, size + 1);
+            // few members with the item beside many without
+            let few = store.change(all[1], item).expect("room");
+            let beside = store.union(less_one, few).expect("room");
+            expect(&store, beside, size + 1);
         }
     }
     assert!(store.audit());
