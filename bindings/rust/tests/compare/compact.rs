@@ -44,16 +44,26 @@ fn expected(parts: usize, size: u128, scratch: usize) -> Answer {
     Answer { refusal, size: if refusal == 0 { size as u64 } else { 0 }, ..Answer::default() }
 }
 
-// The answer on each of these lengths is by the parts and the members; the first entry's is the same where the need is met.
-fn expect(rng: &mut Random, shelf: &Shelf, p: u32, (parts, size): (usize, u128), lengths: impl Iterator<Item = usize>) {
+// The answer on each of these lengths is by the parts and the members; the first entry's is the same where the need is met. Gives
+// the number of lengths.
+fn expect(
+    rng: &mut Random,
+    shelf: &Shelf,
+    p: u32,
+    (parts, size): (usize, u128),
+    lengths: impl Iterator<Item = usize>,
+) -> usize {
     let mut after = shelf.clone();
+    let mut calls = 0;
     for scratch in lengths {
         let answer = asked(rng, &mut after, p, scratch);
         assert_eq!(answer, expected(parts, size, scratch), "handle {p}, {parts} parts, size {size}, scratch {scratch}");
+        calls += 1;
     }
     unchanged(shelf, &after);
     let first = after.call(&Call::Size { p, scratch: shelf.record.count as usize }, 0, rng);
     assert_eq!(first.answer, expected(0, size, 0), "the first entry, handle {p}");
+    calls
 }
 
 // From 0 to beyond the need, and about two words for each node held.
@@ -78,27 +88,28 @@ fn parts_of(shelf: &Shelf, p: u32) -> usize {
 }
 
 /// The answer for a handle of this size on every scratch length.
-pub fn every_length(rng: &mut Random, shelf: &Shelf, p: u32, size: u128) {
+pub fn every_length(rng: &mut Random, shelf: &Shelf, p: u32, size: u128) -> usize {
     let parts = parts_of(shelf, p);
-    expect(rng, shelf, p, (parts, size), lengths(shelf, parts));
+    expect(rng, shelf, p, (parts, size), lengths(shelf, parts))
 }
 
 // The handle of a family that can be listed.
-fn every_length_of(rng: &mut Random, shelf: &Shelf, p: u32, f: &Family) {
+fn every_length_of(rng: &mut Random, shelf: &Shelf, p: u32, f: &Family) -> usize {
     let parts = different_parts(f);
-    expect(rng, shelf, p, (parts, f.len() as u128), lengths(shelf, parts));
+    expect(rng, shelf, p, (parts, f.len() as u128), lengths(shelf, parts))
 }
 
 #[test]
 fn every_handle_on_every_length() {
     let mut rng = Random::new(101);
-    for k in 0..600 {
+    let mut calls = 0;
+    for k in 0..3000 {
         let limit = limit_of(k);
         let len = 1 + rng.below(8);
         let pool = rng.pool(len, limit);
         let (shelf, book) = any_sound(&mut rng, limit, &pool, 40);
         for p in 0..book.count() + 2 {
-            every_length_of(&mut rng, &shelf, p, book.at(p).expect("held"));
+            calls += every_length_of(&mut rng, &shelf, p, book.at(p).expect("held"));
         }
         let mut after = shelf.clone();
         for p in [book.count() + 2, book.count() + 3, 1 << 20, u32::MAX] {
@@ -108,6 +119,7 @@ fn every_handle_on_every_length() {
         }
         unchanged(&shelf, &after);
     }
+    println!("Size compact of every handle on every length: {calls} calls compared");
 }
 
 #[test]
@@ -122,14 +134,15 @@ fn no_scratch_for_no_part() -> Result<(), Refusal> {
     Ok(())
 }
 
-// Two families of 8 of 512 items in a store of some thousands of nodes: one grown among the others, one loaded behind them.
+// Two families of 8 of 512 items in a store of more than 20,000 nodes, one grown among the others, one loaded behind them; and all the
+// others as one family, on lengths about its need.
 #[test]
 fn small_families_in_a_crowded_store() -> Result<(), Refusal> {
-    let mut rng = Random::new(103);
+    let (mut rng, mut calls) = (Random::new(103), 0);
     for _ in 0..4 {
         let mut store = Store::new(100_000, 4096, 512)?;
         let (mut crowd, mut p, mut grown) = (Store::EMPTY, Store::EMPTY, Family::new());
-        for k in 0..600 {
+        for k in 0..3000 {
             let one = eight_of_512(&mut rng);
             let other = built(&mut store, &Family::from([one.clone()]))?;
             crowd = store.union(crowd, other)?;
@@ -142,13 +155,11 @@ fn small_families_in_a_crowded_store() -> Result<(), Refusal> {
         let q = store.load(&file_of(&loaded))?;
         let shelf = shelf_of(&store);
         assert!(shelf.record.count > 20_000);
-        every_length_of(&mut rng, &shelf, p, &grown);
-        every_length_of(&mut rng, &shelf, q, &loaded);
-        // of the whole crowd, which is most of the store's members, about the need
-        let (parts, size) = (parts_of(&shelf, crowd), 600);
-        assert_eq!(store.size(crowd), Ok(600));
-        expect(&mut rng, &shelf, crowd, (parts, size), 2 * parts - 3..2 * parts + 4);
+        calls += every_length_of(&mut rng, &shelf, p, &grown) + every_length_of(&mut rng, &shelf, q, &loaded);
+        let parts = parts_of(&shelf, crowd);
+        calls += expect(&mut rng, &shelf, crowd, (parts, 600), 2 * parts - 3..2 * parts + 4);
     }
+    println!("Size compact in crowded stores: {calls} calls compared");
     Ok(())
 }
 
