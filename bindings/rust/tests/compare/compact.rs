@@ -142,7 +142,7 @@ fn small_families_in_a_crowded_store() -> Result<(), Refusal> {
     for _ in 0..4 {
         let mut store = Store::new(100_000, 4096, 512)?;
         let (mut crowd, mut p, mut grown) = (Store::EMPTY, Store::EMPTY, Family::new());
-        for k in 0..3000 {
+        for k in 0..600 {
             let one = eight_of_512(&mut rng);
             let other = built(&mut store, &Family::from([one.clone()]))?;
             crowd = store.union(crowd, other)?;
