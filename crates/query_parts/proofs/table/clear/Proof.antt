@@ -12,13 +12,13 @@ use Rattle.query_parts.proofs.table.clear.Statement.{statement}
 use Rattle.query_parts.proofs.table.clear.Tie as tie
 
 abbrev Inv-loop : tie.InvT-loop
-Inv-loop table₀ places k₀ table k = (k ≤ places) × (length table ≡ length table₀) × (table ≡ zeroed 0 k table₀)
+Inv-loop table₀ places k₀ table k = (table ≡ zeroed 0 k table₀) × (length table ≡ length table₀) × (k ≤ places)
 
 abbrev μ-loop : tie.MeasureT-loop
 μ-loop table₀ places k₀ table k = places - k
 
 loop-holds : tie.Need-loop-holds Inv-loop μ-loop
-loop-holds c = (search needs, search needs, sym (zeroed-none 0 _))
+loop-holds c = (sym (zeroed-none 0 _), search needs, search needs)
 
 cast-table : tie.Need-cast-table Inv-loop μ-loop
 cast-table c = search needs
@@ -39,7 +39,7 @@ loop-again : tie.Need-loop-again Inv-loop μ-loop
 loop-again c =
     let at-loop : tie.At-loop Inv-loop μ-loop = search in
     let l = at-loop .loop in
-    (search needs, length-set (l .table) (l .k) 0 ∙ l .inv .1, rw (l .inv .2) (zeroed-more 0 (l .k) _ (omega arith) (search needs)))
+    (rw (l .inv .0) (zeroed-more 0 (l .k) _ (omega arith) (search needs)), length-set (l .table) (l .k) 0 ∙ l .inv .1, search needs)
 
 same-length : tie.Need-same-length Inv-loop μ-loop
 same-length c = search needs
@@ -51,7 +51,7 @@ returns c =
     let a = at-start .args in
     let l = at-loop .loop in
     let e : l .k ≡ a .places = omega arith in
-    rw (l .inv .2, e) (cleared (a .table .now) (a .places) (at-start .pre))
+    rw (l .inv .0, e) (cleared (a .table .now) (a .places) (at-start .pre))
 
 pub clear-spec : {M : Type 1} → statement M
 clear-spec = tie.close (tie.spec Inv-loop μ-loop loop-holds cast-table mul-table slice-write-table add-k loop-less loop-again same-length returns)

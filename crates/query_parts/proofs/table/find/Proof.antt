@@ -59,6 +59,12 @@ shared-slice-read-tag c =
 handle-of-requires : tie.Need-handle-of-requires Inv-loop μ-loop
 handle-of-requires c κs = search needs
 
+returns : tie.Need-returns Inv-loop μ-loop
+returns c = search sought-none
+
+returns-2 : tie.Need-returns-2 Inv-loop μ-loop
+returns-2 c = search sought-here
+
 next-of-requires : tie.Need-next-of-requires Inv-loop μ-loop
 next-of-requires c κs = search needs
 
@@ -71,12 +77,6 @@ loop-less c =
 
 loop-again : tie.Need-loop-again Inv-loop μ-loop
 loop-again c = search sought-on
-
-returns : tie.Need-returns Inv-loop μ-loop
-returns c = search sought-none
-
-returns-2 : tie.Need-returns-2 Inv-loop μ-loop
-returns-2 c = search sought-here
 
 pub find-spec : {M : Type 1} → statement M
 find-spec =
