@@ -1,6 +1,8 @@
 // The same lists of calls on this library, on two stores in C, on an earlier build of this library where one is given, and on
 // CUDD's zero-suppressed diagrams. First all must come to the same; then they are timed in turn. Prints tables of Markdown, and
 // draws the picture into the file that is named.
+#include <memory>
+
 #include "chart.h"
 #include "measure.h"
 #include "packages.h"
@@ -74,10 +76,12 @@ template <class Visit> static void each_workload(Visit visit) {
     visit("Even and Odd of a family of 50,000 parts", [](auto &p) { return there(p, mixed); }, even_and_odd);
 }
 
-// Whether a library has the calls of a row: an earlier one may have no Even and Odd, and no sums of weights.
+// Whether a library has the calls of a row: an earlier one may have no Even and Odd, no sums of weights, no second entry of Size.
 static bool has_calls(const Library &library, const std::string &row) {
-    if (row.find("Even") != std::string::npos) return library.even;
-    return library.by_nodes || row.find("Weights") == std::string::npos;
+    auto names = [&](const char *words) { return row.find(words) != std::string::npos; };
+    if (names("Even")) return library.even;
+    if (names("Weights")) return library.by_nodes;
+    return library.size_compact || !names("two words");
 }
 
 [[noreturn]] static void differ(const std::string &name, const char *what) {
@@ -155,13 +159,13 @@ static std::vector<Row> time_workloads(const Setting &s, const std::vector<size_
     return table.rows;
 }
 
-// Makes so many nodes by one random family, as far as there is room.
-static uint32_t grown(Ours &p, size_t nodes) {
+// Makes so many nodes by one random family of so many items a combination, as far as there is room.
+static uint32_t grown(Ours &p, size_t nodes, int items = 8) {
     Random r{5};
     uint32_t family = 0;
     while (p.store.count + 9 < nodes) {
         uint32_t one = 1;
-        for (int k = 0; k < 8 && p.store.count + 600 < largest_capacity; k++) one = p.change(one, r.next() % 512 + 1);
+        for (int k = 0; k < items && p.store.count + 600 < largest_capacity; k++) one = p.change(one, r.next() % 512 + 1);
         if (p.store.count + 4700 > largest_capacity) break;
         family = p.unite(family, one);
     }
@@ -256,12 +260,24 @@ static Calls save(const char *name, size_t units, Shelf &s, std::function<Ours(c
     return {name, units, s, store, [&s](Ours &q) { return q.save(s.family, s.links, s.out); }};
 }
 
-// Size, the sums of weights, Save, Load, Audit and Has.
+// Size of the family of a shelf in two words for each part, with scratch for so many times its parts.
+static Calls compact(const char *name, Shelf &s, std::function<Ours(const Library &)> store, size_t times) {
+    size_t parts = s.p.parts(s.family);
+    auto scratch = std::make_shared<std::vector<uint64_t>>(2 * times * parts);
+    return {name, parts, s, store, [&s, scratch](Ours &q) { return q.size_compact(s.family, *scratch); }};
+}
+
+// Size by both entries, the sums of weights, Save, Load, Audit and Has.
 static std::vector<Row> time_calls() {
     Shelf s(largest_capacity, [](Ours &p) { return grown(p, 500000); });
     Shelf grid(largest_capacity, [](Ours &p) { return independent_sets(p, 7, bad_order); });
     Shelf small(10000, [](Ours &p) { return independent_sets(p, 6, grid_order); });
     Shelf deep(2000, all_subsets);
+    Shelf among(largest_capacity, [](Ours &p) { return grown(p, 500000, 12); });
+    Shelf behind(largest_capacity, [&](Ours &p) {
+        grown(p, 450000);
+        return p.load(among.file, among.scratch);
+    });
     const std::vector<uint32_t> weights = minutes();
     size_t nodes = s.p.store.count, parts = s.p.parts(s.family), grid_parts = grid.p.parts(grid.family);
     Words fresh(2 * parts, 0);
@@ -270,6 +286,12 @@ static std::vector<Row> time_calls() {
     auto load = [&](Ours &q) { return q.load(s.file, s.scratch); };
     std::vector<Calls> calls = {
         {"Size", nodes, s, at(s), [&](Ours &q) { return q.size(s.family, s.sizes); }},
+        {"Size of a family among others", among.p.store.count, among, at(among), [&](Ours &q) { return q.size(among.family, among.sizes); }},
+        compact("Size in two words, among others, just its parts", among, at(among), 1),
+        compact("Size in two words, among others, twice that", among, at(among), 2),
+        {"Size of a family loaded last", behind.p.store.count, behind, at(behind), [&](Ours &q) { return q.size(behind.family, behind.sizes); }},
+        compact("Size in two words, loaded last, just its parts", behind, at(behind), 1),
+        compact("Size in two words, loaded last, twice that", behind, at(behind), 2),
         {"Weights by nodes", nodes, s, at(s), [&](Ours &q) { return q.by_nodes(s.family, weights, s.sums); }},
         {"Weights by members, 6 x 6 grid", small.p.size(small.family), small, at(small),
          [&](Ours &q) { return q.by_members(small.family, weights, small.sums); }},
@@ -328,6 +350,12 @@ static void summary(const std::vector<std::vector<Row>> &tables, const std::vect
     }
     double by_size = named(calls, "by nodes")[0].each() / named(calls, "Size")[0].each();
     line("Weights by nodes, time per node by Size's", "at most 2", by_size, "this library");
+    for (const char *where : {"among others", "loaded last"}) {
+        std::vector<Row> rows = named(calls, where); // the first entry, then the second
+        for (size_t k : {1, 2})
+            line("Size in two words, time per part by the first entry's per node", k == 1 ? "at most 8" : "at most 4",
+                 rows[k].each() / rows[0].each(), rows[k].name);
+    }
     line("times CUDD's speed", "at least 1.5", slowest(named(tables[0], "random combinations")), "building from random combinations");
     line("times CUDD's speed", "at least 2", slowest(named(tables[0], "large families")), "Union, Intsec, Diff of large families");
     line("times CUDD's speed", "-", slowest(tables[0]), "the slowest of all workloads");

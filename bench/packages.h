@@ -28,7 +28,7 @@ struct Library {
     decltype(&zdd_even) even, odd;
     decltype(&zdd_load) load;
     decltype(&zdd_audit) audit;
-    decltype(&zdd_size) size;
+    decltype(&zdd_size) size, size_compact;
     decltype(&zdd_has) has;
     decltype(&zdd_weight_by_members) by_members, by_nodes;
     decltype(&zdd_save) save;
@@ -36,8 +36,8 @@ struct Library {
 
 #define LIBRARY(name, p)                                                                                                            \
     Library {                                                                                                                       \
-        name, p##fresh, p##change, p##subset0, p##union, p##intsec, p##diff, p##even, p##odd, p##load, p##audit, p##size, p##has,   \
-            p##weight_by_members, p##weight_by_nodes, p##save                                                                       \
+        name, p##fresh, p##change, p##subset0, p##union, p##intsec, p##diff, p##even, p##odd, p##load, p##audit, p##size,           \
+            p##size_compact, p##has, p##weight_by_members, p##weight_by_nodes, p##save                                              \
     }
 #define DECLARE(p)                                                                                                                  \
     extern "C" {                                                                                                                    \
@@ -47,15 +47,15 @@ struct Library {
     decltype(zdd_even) p##even, p##odd;                                                                                             \
     decltype(zdd_load) p##load;                                                                                                     \
     decltype(zdd_audit) p##audit;                                                                                                   \
-    decltype(zdd_size) p##size;                                                                                                     \
+    decltype(zdd_size) p##size, p##size_compact;                                                                                    \
     decltype(zdd_has) p##has;                                                                                                       \
     decltype(zdd_weight_by_members) p##weight_by_members, p##weight_by_nodes;                                                       \
     decltype(zdd_save) p##save;                                                                                                     \
     }
 
 // this tree's library, the stores in plain and in tuned C, and with BEFORE an earlier revision's library, whose names `bench/run`
-// gives a prefix, and which with UNPARTED has no Even and Odd, with UNWEIGHED no sums of weights; the plain store has Load, Audit and
-// Size of the tuned one
+// gives a prefix, and which with UNPARTED has no Even and Odd, with UNWEIGHED no sums of weights, with ONE_SIZE no second entry of Size;
+// the plain store has Load, Audit and Size's first entry of the tuned one
 DECLARE(plain_)
 DECLARE(tuned_)
 #define plain_load tuned_load
@@ -71,6 +71,9 @@ DECLARE(before_zdd_)
 #ifdef UNWEIGHED
 #define before_zdd_weight_by_members nullptr
 #define before_zdd_weight_by_nodes nullptr
+#endif
+#ifdef ONE_SIZE
+#define before_zdd_size_compact nullptr
 #endif
 static const Library before = LIBRARY("earlier", before_zdd_);
 static const std::vector<const Library *> libraries = {&here, &plain, &tuned, &before};
@@ -128,7 +131,12 @@ struct Ours {
         return size(p, scratch);
     }
     uint64_t size(F p, std::vector<uint64_t> &scratch) {
-        auto r = library.size(READ, p, scratch.data(), scratch.size());
+        return measured(library.size(READ, p, scratch.data(), scratch.size()));
+    }
+    uint64_t size_compact(F p, std::vector<uint64_t> &scratch) {
+        return measured(library.size_compact(READ, p, scratch.data(), scratch.size()));
+    }
+    static uint64_t measured(zdd_measured r) {
         if (r.refusal) stop("size", r.refusal);
         return r.size;
     }

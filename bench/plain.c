@@ -1,6 +1,6 @@
 /* A store in plain C, the benchmark's yardstick: this library's procedures, function by function, with the same parameters
- * and the same tests, so that a list of calls gives the same answers and leaves the same words. Size, Load and Audit are
- * those of tuned.c. Nothing of it is proved, and nothing but the benchmark uses it. */
+ * and the same tests, so that a list of calls gives the same answers and leaves the same words. Size by its first entry, Load
+ * and Audit are those of tuned.c. Nothing of it is proved, and nothing but the benchmark uses it. */
 #include <string.h>
 
 #include "../include/zdd.h"
@@ -9,6 +9,7 @@ __typeof__(zdd_fresh) plain_fresh;
 __typeof__(zdd_change) plain_change, plain_subset0;
 __typeof__(zdd_union) plain_union, plain_intsec, plain_diff;
 __typeof__(zdd_even) plain_even, plain_odd;
+__typeof__(zdd_size_compact) plain_size_compact;
 __typeof__(zdd_has) plain_has;
 __typeof__(zdd_weight_by_members) plain_weight_by_members, plain_weight_by_nodes;
 __typeof__(zdd_save) plain_save;
@@ -342,6 +343,117 @@ zdd_freshened plain_fresh(uint32_t *nodes, size_t node_words, uint32_t *lookup, 
     memset(lookup, 0, lookup_words * sizeof *lookup);
     zero_groups((words){cache_at, cache_words});
     return (zdd_freshened){{capacity, 0, limit}, 0};
+}
+
+/* ---- Size in two words for each part ---- */
+
+/* lent words of 64 bits with their number */
+typedef struct {
+    uint64_t *at;
+    size_t length;
+} wide_words;
+
+/* A tag: the handle of the part at its place, the place before it in its chain, and the head of the chain that starts there.
+ * Places count from 1 in chains; 0 ends one. */
+static uint32_t handle_of(uint64_t tag) { return (uint32_t)(tag % 1048576); }
+
+static uint32_t next_of(uint64_t tag) { return (uint32_t)(tag / 1048576 % 1048576); }
+
+static uint32_t head_of(uint64_t tag) { return (uint32_t)(tag / 1099511627776); }
+
+static uint64_t linked(uint64_t tag, uint32_t handle, uint32_t next) {
+    return tag / 1099511627776 * 1099511627776 + (uint64_t)next * 1048576 + handle;
+}
+
+static uint64_t headed(uint64_t tag, uint32_t head) { return tag % 1099511627776 + (uint64_t)head * 1099511627776; }
+
+/* The table: as many places as there are tags, and as many sizes behind them. */
+static void clear(wide_words table, uint32_t places) {
+    for (uint32_t k = 0; k < places; k++) table.at[k] = 0;
+}
+
+/* The place of a handle, counted from 1; 0 where it was not entered. */
+static uint32_t find_part(wide_words table, uint32_t places, uint32_t handle) {
+    uint32_t at = head_of(table.at[handle % places]);
+    while (at != 0) {
+        uint64_t tag = table.at[at - 1];
+        if (handle_of(tag) == handle) return at;
+        at = next_of(tag);
+    }
+    return 0;
+}
+
+static void enter_part(wide_words table, uint32_t places, uint32_t entered, uint32_t handle, uint64_t size) {
+    size_t place = entered, start = handle % places;
+    table.at[place] = linked(table.at[place], handle, head_of(table.at[start]));
+    table.at[start] = headed(table.at[start], entered + 1);
+    table.at[(size_t)places + place] = size;
+}
+
+/* The size of a number: {} is 0, {{}} is 1, and the parts entered follow. A size above 2^64 - 1 is 0. */
+static uint64_t size_of(wide_words table, uint32_t places, uint32_t number) {
+    return number < 2 ? number : table.at[(size_t)places + (number - 2)];
+}
+
+/* The size of a node by those of its sides; `zero` is 0 where the without-side is {}. */
+static uint64_t sum_of(uint32_t zero, uint64_t without, uint64_t with) {
+    if (zero == 0) return with;
+    if (without == 0 || with == 0 || UINT64_MAX - with < without) return 0;
+    return without + with;
+}
+
+#define NO_NUMBER UINT32_MAX
+
+static uint32_t append_part(wide_words table, uint32_t places, uint32_t *entered, uint32_t p, uint64_t size) {
+    uint32_t n = *entered;
+    if (n == places) return NO_NUMBER;
+    enter_part(table, places, n, p, size);
+    *entered = n + 1;
+    return n + 2;
+}
+
+static uint32_t enter_parts(uint32_t p, uint32_t bound, words nodes, uint32_t count, wide_words table, uint32_t places, uint32_t *entered);
+
+/* The number of p, whose parts are entered where they were not yet. */
+static uint32_t reach(uint32_t p, uint32_t bound, words nodes, uint32_t count, wide_words table, uint32_t places, uint32_t *entered) {
+    if (p < 2) return p;
+    uint32_t place = find_part(table, places, p);
+    return place != 0 ? place + 1 : enter_parts(p, bound, nodes, count, table, places, entered);
+}
+
+/* Enters the parts of p, whose top is below the bound, that were not entered yet, p the last of them; gives its number, or none
+ * where they do not fit and on words that no sound store has. */
+static uint32_t enter_parts(uint32_t p, uint32_t bound, words nodes, uint32_t count, wide_words table, uint32_t places, uint32_t *entered) {
+    if (count + 1 < p) return NO_NUMBER;
+    const uint32_t *node = nodes.at + 3 * (size_t)(p - 2);
+    uint32_t item = node[0];
+    if (bound <= item) return NO_NUMBER;
+    uint32_t zero = reach(node[1], item, nodes, count, table, places, entered);
+    if (zero == NO_NUMBER) return NO_NUMBER;
+    uint32_t one = reach(node[2], item, nodes, count, table, places, entered);
+    if (one == NO_NUMBER) return NO_NUMBER;
+    uint64_t without = size_of(table, places, zero), with = size_of(table, places, one);
+    return append_part(table, places, entered, p, sum_of(zero, without, with));
+}
+
+static uint32_t places_in(size_t scratch_words, uint32_t count) {
+    return scratch_words / 2 < count ? (uint32_t)(scratch_words / 2) : count;
+}
+
+zdd_measured plain_size_compact(READ, uint32_t p, uint64_t *scratch, size_t scratch_words) {
+    (void)lookup_at;
+    if (!fits(s, node_words, lookup_words)) return (zdd_measured){s, ZDD_DAMAGED, 0};
+    if (!holds(s, p)) return (zdd_measured){s, ZDD_HANDLE, 0};
+    if (p < 2) return (zdd_measured){s, 0, p};
+    wide_words table = {scratch, scratch_words};
+    uint32_t places = places_in(scratch_words, s.count), entered = 0;
+    if (places == 0) return (zdd_measured){s, ZDD_SCRATCH, 0};
+    clear(table, places);
+    words nodes = {(uint32_t *)nodes_at, node_words};
+    uint32_t number = enter_parts(p, ZDD_LARGEST_ITEM + 1, nodes, s.count, table, places, &entered);
+    if (number == NO_NUMBER) return (zdd_measured){s, ZDD_SCRATCH, 0};
+    uint64_t members = size_of(table, places, number);
+    return members == 0 ? (zdd_measured){s, ZDD_LARGE, 0} : (zdd_measured){s, 0, members};
 }
 
 /* ---- Has ---- */

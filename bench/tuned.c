@@ -11,7 +11,7 @@ __typeof__(zdd_fresh) tuned_fresh;
 __typeof__(zdd_change) tuned_change, tuned_subset0;
 __typeof__(zdd_union) tuned_union, tuned_intsec, tuned_diff;
 __typeof__(zdd_even) tuned_even, tuned_odd;
-__typeof__(zdd_size) tuned_size;
+__typeof__(zdd_size) tuned_size, tuned_size_compact;
 __typeof__(zdd_has) tuned_has;
 __typeof__(zdd_weight_by_members) tuned_weight_by_members, tuned_weight_by_nodes;
 __typeof__(zdd_save) tuned_save;
@@ -283,6 +283,63 @@ zdd_measured tuned_size(READ, uint32_t p, uint64_t *sizes, size_t scratch_words)
     uint64_t size = size_of(sizes, p);
     if (size == UINT64_MAX && exceeds(nodes, sizes, p)) return (zdd_measured){s, ZDD_LARGE, 0};
     return (zdd_measured){s, 0, size};
+}
+
+/* The parts of a family met so far, in a table: a tag for each place, then the sizes. A tag has 20 bits each for the handle of the
+ * part there, for the place before it in its chain and for the head of the chain that starts there. Places count from 1 in
+ * chains; 0 ends one. A size above the largest number is 0. */
+#define TABLE const uint32_t *nodes, uint64_t *tags, uint32_t places, uint32_t *entered
+#define HAND_ON nodes, tags, places, entered
+
+enum { LOW_20 = (1 << 20) - 1 };
+
+static uint32_t enter_parts(uint32_t p, TABLE);
+
+/* The number of p: {} is 0, {{}} is 1, the parts follow by place; NO_ROOM where they do not fit. */
+static inline uint32_t number_of(uint32_t p, TABLE) {
+    if (p < 2) return p;
+    uint32_t at = (uint32_t)(tags[p % places] >> 40);
+    while (at != 0 && (tags[at - 1] & LOW_20) != p) at = (uint32_t)(tags[at - 1] >> 20) & LOW_20;
+    return at != 0 ? at + 1 : enter_parts(p, HAND_ON);
+}
+
+static inline uint64_t sum_of(uint64_t a, uint64_t b) { return a == 0 || b == 0 || a + b < a ? 0 : a + b; }
+
+static inline void enter_part(uint32_t p, uint64_t *tags, uint32_t places, uint32_t place) {
+    uint64_t *head = &tags[p % places];
+    tags[place] = tags[place] >> 40 << 40 | *head >> 40 << 20 | p;
+    *head = *head << 24 >> 24 | (uint64_t)(place + 1) << 40;
+}
+
+/* Enters the parts of p that were not yet: those of its sides, then p. */
+static uint32_t enter_parts(uint32_t p, TABLE) {
+    const uint32_t *node = nodes + 3 * (size_t)(p - 2);
+    uint32_t zero = number_of(node[1], HAND_ON);
+    if (zero == NO_ROOM) return NO_ROOM;
+    uint32_t one = number_of(node[2], HAND_ON);
+    if (one == NO_ROOM) return NO_ROOM;
+    uint64_t *sizes = tags + places, size = one == 1 ? 1 : sizes[one - 2];
+    if (zero != 0) size = sum_of(size, zero == 1 ? 1 : sizes[zero - 2]);
+    uint32_t place = *entered;
+    if (place == places) return NO_ROOM;
+    *entered = place + 1;
+    enter_part(p, tags, places, place);
+    sizes[place] = size;
+    return place + 2;
+}
+
+zdd_measured tuned_size_compact(READ, uint32_t p, uint64_t *tags, size_t scratch_words) {
+    (void)lookup;
+    if (!fits(s, node_words, lookup_words)) return (zdd_measured){s, ZDD_DAMAGED, 0};
+    if (!holds(s, p)) return (zdd_measured){s, ZDD_HANDLE, 0};
+    if (p < 2) return (zdd_measured){s, 0, p};
+    uint32_t places = scratch_words / 2 < s.count ? (uint32_t)(scratch_words / 2) : s.count, entered = 0;
+    if (places == 0) return (zdd_measured){s, ZDD_SCRATCH, 0};
+    memset(tags, 0, places * sizeof *tags);
+    uint32_t number = enter_parts(p, nodes, tags, places, &entered);
+    if (number == NO_ROOM) return (zdd_measured){s, ZDD_SCRATCH, 0};
+    uint64_t size = tags[(size_t)places + (number - 2)];
+    return size == 0 ? (zdd_measured){s, ZDD_LARGE, 0} : (zdd_measured){s, 0, size};
 }
 
 static inline bool is_empty(const uint32_t words[16]) {

@@ -85,7 +85,7 @@ typedef struct {
     uint32_t added;
 } zdd_placed;
 
-/* What Size gives. */
+/* What Size gives, by either entry. */
 typedef struct {
     zdd_store store;
     uint32_t refusal;
@@ -191,7 +191,8 @@ zdd_placed zdd_even(zdd_store store, uint32_t *nodes, size_t node_words, uint32_
 zdd_placed zdd_odd(zdd_store store, uint32_t *nodes, size_t node_words, uint32_t *lookup, size_t lookup_words,
                    uint32_t *cache, size_t cache_words, uint32_t p);
 
-/* Size: the number of members of p.
+/* Size: the number of members of p, by way of every node held. The quickest where p is much of the store, or where many
+ * families of one store are to be sized: scratch then has the sizes of all.
  * Needs: p at most count + 1; scratch_words at least store.count, words of 64 bits.
  * Leaves: scratch[j] has the size of node j + 2, or 18,446,744,073,709,551,615 if that is smaller, for each node held,
  *   after 6 too; later scratch words and all store words stay.
@@ -199,6 +200,17 @@ zdd_placed zdd_odd(zdd_store store, uint32_t *nodes, size_t node_words, uint32_t
 zdd_measured zdd_size(zdd_store store, const uint32_t *nodes, size_t node_words,
                       const uint32_t *lookup, size_t lookup_words, uint32_t p,
                       uint64_t *scratch, size_t scratch_words);
+
+/* Size compact: the same number or the same 6, by way of the parts of p alone. For a small family in a crowded store, and
+ * where scratch is short: what it needs does not grow with the store. Its time grows with the parts of p, and with
+ * scratch_words / 2 or store.count, whichever is smaller: so many words are cleared first.
+ * Needs: p at most count + 1; scratch_words at least 2 for each different part of p, words of 64 bits. {} and {{}} have no
+ *   part; no family has more than store.count, and the file of p has their number in its bytes 1 to 4.
+ * Leaves: all scratch words free, after 6 and 7 too (after 10 and 4 they stay); all store words stay.
+ * Refusals: 10, 4, 7, 6. A size of exactly 18,446,744,073,709,551,615 is given. */
+zdd_measured zdd_size_compact(zdd_store store, const uint32_t *nodes, size_t node_words,
+                              const uint32_t *lookup, size_t lookup_words, uint32_t p,
+                              uint64_t *scratch, size_t scratch_words);
 
 /* Has: whether the combination is a member of p; one with an item above store.limit never is.
  * Needs: p at most count + 1.

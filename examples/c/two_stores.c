@@ -1,6 +1,7 @@
 /* A pocket tester with the items 1 to 64 and final test with 512, each with a store of its own. A family of each goes to
- * the other as a file, loaded and saved again; a file with an item above 64 is refused by the pocket tester. Ends with
- * status 0 exactly when the bytes are equal both ways, that refusal is 13, and both stores are sound. */
+ * the other as a file, loaded and saved again, and is sized in both: by all nodes held where it comes from, in two words for
+ * each of its parts where it goes. A file with an item above 64 is refused by the pocket tester. Ends with status 0 exactly
+ * when bytes and sizes are equal both ways, that refusal is 13, and both stores are sound. */
 #include <stdio.h>
 #include <stdlib.h>
 #include <string.h>
@@ -70,6 +71,21 @@ static uint64_t size_of(const shelf *s, uint32_t family) {
     return measured.size;
 }
 
+/* The same in scratch for so many parts, however full the store is. */
+static uint64_t compact_size_of(const shelf *s, uint32_t family, size_t parts) {
+    uint64_t *scratch = lend(2 * parts, sizeof *scratch);
+    zdd_measured measured = zdd_size_compact(s->record, WORDS(s), family, scratch, 2 * parts);
+    free(scratch);
+    if (measured.refusal) stop("Size compact", measured.refusal);
+    return measured.size;
+}
+
+/* How many different parts the family of a file has: its bytes 1 to 4, the lowest first; the files of {} and {{}} end before. */
+static size_t parts_in(const uint8_t *file, size_t length) {
+    if (length < 5) return 0;
+    return file[1] + ((size_t)file[2] << 8) + ((size_t)file[3] << 16) + ((size_t)file[4] << 24);
+}
+
 /* The file of a family, in memory that the caller frees. */
 static uint8_t *save(const shelf *s, uint32_t family, size_t *length) {
     size_t room = 5 + 11 * (size_t)s->record.count;
@@ -89,18 +105,21 @@ static zdd_placed load(shelf *s, const uint8_t *file, size_t length) {
     return placed;
 }
 
-/* Whether a family of one store, loaded in the other and saved there, has the same bytes. Says what the Load cost. */
+/* Whether a family of one store, loaded in the other, has the same size there and, saved again, the same bytes. Says what the
+ * Load cost. */
 static bool travels(const shelf *from, uint32_t family, shelf *to) {
     size_t length = 0, again = 0;
     uint8_t *file = save(from, family, &length);
     zdd_placed placed = load(to, file, length);
     uint32_t loaded = handle_of(to, "Load", placed);
     uint8_t *copy = save(to, loaded, &again);
-    bool same = length == again && memcmp(file, copy, length) == 0;
-    printf("limit %u to %u: handle %u with %llu members, %zu bytes; there handle %u, %u nodes added, %zu bytes: %s\n",
-           (unsigned)from->record.limit, (unsigned)to->record.limit, (unsigned)family,
-           (unsigned long long)size_of(from, family), length, (unsigned)loaded, (unsigned)placed.added, again,
-           same ? "equal" : "NOT EQUAL");
+    size_t parts = parts_in(file, length);
+    uint64_t here = size_of(from, family), there = compact_size_of(to, loaded, parts);
+    bool same = length == again && memcmp(file, copy, length) == 0 && here == there;
+    printf("limit %u to %u: handle %u with %llu members in %zu parts, %zu bytes; there handle %u with %llu members, %u nodes added, "
+           "%zu bytes: %s\n",
+           (unsigned)from->record.limit, (unsigned)to->record.limit, (unsigned)family, (unsigned long long)here, parts, length,
+           (unsigned)loaded, (unsigned long long)there, (unsigned)placed.added, again, same ? "equal" : "NOT EQUAL");
     free(file);
     free(copy);
     return same;

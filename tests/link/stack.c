@@ -85,6 +85,11 @@ static uint32_t even_damaged(void) { return zdd_even(LENT, cut).refusal; }
 static uint32_t odd(void) { return zdd_odd(LENT, subsets).refusal; }
 static uint32_t odd_damaged(void) { return zdd_odd(LENT, cut).refusal; }
 static uint32_t size(void) { return zdd_size(READ, singles, sizes, CAPACITY).refusal; }
+static uint32_t in_two_words(uint32_t family) { return zdd_size_compact(READ, family, sizes, 3 * CAPACITY).refusal; }
+static uint32_t compact(void) { return in_two_words(subsets); }
+static uint32_t compact_nested(void) { return in_two_words(nested); }
+static uint32_t compact_cut(void) { return in_two_words(cut); }
+static uint32_t compact_deep(void) { return in_two_words(deep); }
 static uint32_t has(void) { return zdd_has(READ, subsets, (zdd_combination){{0}}).refusal; }
 static uint32_t by_members(uint32_t family) {
     return zdd_weight_by_members(READ, family, weights, ZDD_LARGEST_ITEM, sizes, 3 * CAPACITY).refusal;
@@ -128,6 +133,10 @@ static const struct job {
     {"Save, damaged words", save_damaged, build_damaged, ZDD_DAMAGED},
     {"Load", load, build, 0},
     {"Size", size, build, 0},
+    {"Size compact", compact, build, ZDD_LARGE},
+    {"Size compact, nested", compact_nested, build, 0},
+    {"Size compact, damaged", compact_cut, build_damaged, ZDD_SCRATCH},
+    {"Size compact, deep damage", compact_deep, build_damaged, 0},
     {"Has", has, build, 0},
     {"By members, one by one", members, build, 0},
     {"By members, nested", members_nested, build, 0},
@@ -172,7 +181,7 @@ int main(void) {
     if (posix_memalign((void **)&stack, 4096, STACK_BYTES)) stop("no memory", 0);
     for (size_t k = 0; k < sizeof jobs / sizeof *jobs; k++) {
         size_t bytes = measure(&jobs[k]);
-        printf("stack: %-24s %7lu bytes\n", jobs[k].name, (unsigned long)bytes);
+        printf("stack: %-25s %7lu bytes\n", jobs[k].name, (unsigned long)bytes);
         if (refusal != jobs[k].refusal) stop("refused with", refusal);
         if (bytes > most) most = bytes;
     }

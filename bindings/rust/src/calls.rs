@@ -111,20 +111,27 @@ pub fn odd(store: Record, words: Words<'_>, p: u32) -> Placed {
     parity(raw::zdd_odd, store, words, p)
 }
 
-/// The number of members of p; the scratch then holds the size of every node held.
-pub fn size(store: Record, nodes: &[u32], lookup: &[u32], p: u32, scratch: &mut [u64]) -> Measured {
+fn measuring(
+    call: raw::Measuring,
+    store: Record,
+    [nodes, lookup]: [&[u32]; 2],
+    p: u32,
+    scratch: &mut [u64],
+) -> Measured {
     unsafe {
-        raw::zdd_size(
-            store,
-            nodes.as_ptr(),
-            nodes.len(),
-            lookup.as_ptr(),
-            lookup.len(),
-            p,
-            scratch.as_mut_ptr(),
-            scratch.len(),
-        )
+        call(store, nodes.as_ptr(), nodes.len(), lookup.as_ptr(), lookup.len(), p, scratch.as_mut_ptr(), scratch.len())
     }
+}
+
+/// The number of members of p, by way of every node held: the scratch, a word for each, then holds the sizes of all.
+pub fn size(store: Record, nodes: &[u32], lookup: &[u32], p: u32, scratch: &mut [u64]) -> Measured {
+    measuring(raw::zdd_size, store, [nodes, lookup], p, scratch)
+}
+
+/// The same number, by way of the parts of p alone, in scratch of two words for each different part of it, whatever else
+/// the store holds. {} and {{}} need none.
+pub fn size_compact(store: Record, nodes: &[u32], lookup: &[u32], p: u32, scratch: &mut [u64]) -> Measured {
+    measuring(raw::zdd_size_compact, store, [nodes, lookup], p, scratch)
 }
 
 /// Whether the combination is a member of p.

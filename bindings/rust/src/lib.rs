@@ -12,6 +12,7 @@
 //! let two = store.change(Store::BASE, 512)?;
 //! let both = store.union(one, two)?;
 //! assert_eq!((store.size(both)?, store.added(), store.record().count), (2, 1, 3));
+//! assert_eq!(store.size_compact(both, &mut [0; 4])?, 2); // two words for each of its two parts
 //! assert!(store.has(both, Combination::of([512])?)?);
 //! assert_eq!(store.change(both, 513), Err(Refusal::Item));
 //! assert_eq!((store.even(both)?, store.odd(both)?), (Store::EMPTY, both));

@@ -13,16 +13,6 @@ extern "C" {
     ) -> Freshened;
     pub fn zdd_empty() -> u32;
     pub fn zdd_base() -> u32;
-    pub fn zdd_size(
-        store: Record,
-        nodes: *const u32,
-        node_words: usize,
-        lookup: *const u32,
-        lookup_words: usize,
-        p: u32,
-        scratch: *mut u64,
-        scratch_words: usize,
-    ) -> Measured;
     pub fn zdd_has(
         store: Record,
         nodes: *const u32,
@@ -74,6 +64,23 @@ pub type Operation =
 
 /// The shape of Even and Odd: the record, the words and a family.
 pub type Parity = unsafe extern "C" fn(Record, *mut u32, usize, *mut u32, usize, *mut u32, usize, u32) -> Placed;
+
+/// The shape of both entries of Size: the record, the words, a family and the scratch.
+pub type Measuring =
+    unsafe extern "C" fn(Record, *const u32, usize, *const u32, usize, u32, *mut u64, usize) -> Measured;
+
+macro_rules! measurings {
+    ($($name:ident)*) => {
+        extern "C" {
+            $(pub fn $name(store: Record, nodes: *const u32, node_words: usize, lookup: *const u32, lookup_words: usize, p: u32, scratch: *mut u64, scratch_words: usize) -> Measured;)*
+        }
+    };
+}
+
+measurings! {
+    zdd_size
+    zdd_size_compact
+}
 
 /// The shape of the two sums of weights: the record, the words, a family, the weights and the scratch.
 pub type Weighing = unsafe extern "C" fn(

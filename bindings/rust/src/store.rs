@@ -109,6 +109,27 @@ impl Store {
         calls::size(self.record, &self.nodes, &self.lookup, p, &mut scratch).result()
     }
 
+    /// The same number, in lent scratch of two words for each different part of p, whatever else the store holds; {} and
+    /// {{}} need none. For a small family in a crowded store: `size` takes a word for each node held. Refusals: Handle,
+    /// Scratch, Large.
+    ///
+    /// ```
+    /// # use zdd::{Refusal, Store};
+    /// let mut store = Store::new(1000, 64, 512)?;
+    /// for item in 1..=512 {
+    ///     store.change(Store::BASE, item)?;
+    /// }
+    /// let one = store.change(Store::BASE, 7)?;
+    /// let both = store.union(one, Store::BASE)?; // of one part, as {} and {{}} count as none
+    /// assert_eq!(store.size_compact(both, &mut [0; 2]), Ok(2));
+    /// assert_eq!(store.size_compact(both, &mut [0; 1]), Err(Refusal::Scratch));
+    /// assert_eq!(store.size_compact(Store::BASE, &mut []), Ok(1));
+    /// # Ok::<(), Refusal>(())
+    /// ```
+    pub fn size_compact(&self, p: u32, scratch: &mut [u64]) -> Result<u64, Refusal> {
+        calls::size_compact(self.record, &self.nodes, &self.lookup, p, scratch).result()
+    }
+
     /// Whether the combination is a member of p; one with an item above the limit never is. Refusal: Handle.
     pub fn has(&self, p: u32, combination: Combination) -> Result<bool, Refusal> {
         calls::has(self.record, &self.nodes, &self.lookup, p, combination).result()

@@ -2,7 +2,7 @@
 //! parts of the two.
 use crate::files::any_family;
 use crate::observe::compare;
-use crate::plain::book::Book;
+use crate::plain::book::{different_parts, Book};
 use crate::plain::call::Call;
 use crate::plain::family::Family;
 use crate::plain::file::file_of;
@@ -24,7 +24,7 @@ pub fn load(rng: &mut Random, shelf: &mut Shelf, book: &mut Book, f: &Family, ta
     let file = file_of(f);
     let scratch = 6 * file.len();
     compare(shelf, book, &Call::Load { file, scratch }, CACHE, rng, tally);
-    (book.number(f).expect("held"), Book::start().missing(f))
+    (book.number(f).expect("held"), different_parts(f) as u32)
 }
 
 #[test]

@@ -60,10 +60,12 @@ fn unsound(before: &Shelf, after: &Shelf, call: &Call, seen: &Seen) {
     if refusal != 0 {
         assert_eq!(seen.answer, Answer { refusal, ..Answer::default() }, "{call:?} on {:?}", before.record);
     }
-    if let Call::Weight { .. } = call {
-        let free = 3 * before.record.count as usize;
-        assert_eq!(seen.scratch.get(free..), seen.scratch_before.get(free..), "the scratch after {call:?}");
-    }
+    let free = match call {
+        Call::Weight { .. } => 3 * before.record.count as usize,
+        Call::SizeCompact { p, .. } if *p > before.record.count + 1 => 0,
+        _ => seen.scratch.len(),
+    };
+    assert_eq!(seen.scratch.get(free..), seen.scratch_before.get(free..), "the scratch after {call:?}");
     let count = before.record.count + seen.answer.added;
     assert_eq!(after.record, Record { count, ..before.record }, "{call:?}");
 }
@@ -133,6 +135,7 @@ const CERTAIN: &[(&str, &[u32])] = &[
     ("Even", &[10]),
     ("Has", &[10]),
     ("Size", &[10]),
+    ("Size compact", &[10]),
     ("Weights by members", &[10]),
     ("Weights by nodes", &[10]),
     ("Save", &[10]),
@@ -157,6 +160,7 @@ fn stores_with_faults() {
             ("Even", &[0]),
             ("Odd", &[0]),
             ("Has", &[0]),
+            ("Size compact", &[0, 4, 7]),
             ("Weights by members", &[0, 4, 7, 11]),
             ("Weights by nodes", &[0, 4, 7, 11]),
             ("Save", &[0]),

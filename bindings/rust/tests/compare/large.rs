@@ -7,7 +7,8 @@ use crate::random::Random;
 use crate::shelf::record_of;
 use zdd::{Refusal, Store};
 
-fn eight_of_512(rng: &mut Random) -> Combination {
+/// A combination of 8 of 512 items.
+pub fn eight_of_512(rng: &mut Random) -> Combination {
     let mut c = Combination::new();
     while c.len() < 8 {
         c.insert(1 + rng.below(512) as u32);
@@ -15,7 +16,8 @@ fn eight_of_512(rng: &mut Random) -> Combination {
     c
 }
 
-fn built(store: &mut Store, family: &Family) -> Result<u32, Refusal> {
+/// The family, member by member.
+pub fn built(store: &mut Store, family: &Family) -> Result<u32, Refusal> {
     let mut all = Store::EMPTY;
     for combination in family {
         let mut one = Store::BASE;

@@ -1,7 +1,7 @@
 //! Random lists of calls from Fresh: short and long, on small and larger stores.
 use crate::observe::compare;
 use crate::parity::parted;
-use crate::plain::book::Book;
+use crate::plain::book::{different_parts, Book};
 use crate::plain::call::Call;
 use crate::plain::file::file_of;
 use crate::random::{limit_of, Random};
@@ -39,9 +39,13 @@ pub fn any_call(rng: &mut Random, book: &Book, makings: &Makings) -> Call {
     let (p, q) = (handle(rng, count), handle(rng, count));
     match rng.below(20) {
         0..=4 => Call::Operation { op: rng.pick(&[1, 2, 3, 3, 3]), p, q: item(rng, makings) },
-        5..=9 => Call::Operation { op: rng.pick(&[4, 4, 4, 5, 6]), p, q },
+        5..=9 => Call::Operation { op: rng.pick(&[4, 4, 4, 5, 5, 6]), p, q },
         10..=11 => Call::Operation { op: rng.pick(&[7, 8]), p, q: 0 },
-        12 => Call::Size { p, scratch: rng.about(held) },
+        12 if rng.once_in(2) => Call::Size { p, scratch: rng.about(held) },
+        12 => {
+            let need = 2 * book.at(p).map_or(1, different_parts);
+            Call::SizeCompact { p, scratch: if rng.once_in(3) { rng.below(2 * held + 4) } else { rng.about(need) } }
+        }
         13 => Call::Has { p, combination: asked(rng, book, p, makings) },
         14..=15 => {
             let length = book.at(p).map_or(5, |f| file_of(f).len());
@@ -131,7 +135,7 @@ fn long_lists() {
 
 #[test]
 fn stores_of_one_to_three_nodes() {
-    lists(3, 1500, 3, 60, 3).close(
+    lists(3, 2500, 3, 60, 3).close(
         "stores of one to three nodes",
         5,
         &[

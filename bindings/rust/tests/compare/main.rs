@@ -1,5 +1,6 @@
 //! Comparison runs: every call of the library against the plain implementation of documents 01 and 02 in `plain`.
 mod added;
+mod compact;
 mod damage;
 mod faults;
 mod files;

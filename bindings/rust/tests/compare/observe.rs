@@ -58,9 +58,11 @@ fn cache_words(before: &Shelf, after: &Shelf, book: &Book, call: &Call, lent: us
     }
 }
 
-// The needed scratch words have the sizes, or are free; later ones and all of a short scratch stay. The output has the file.
+// The needed scratch words have the sizes, or are free; later ones and all of a short scratch stay. All of Size compact's are free,
+// but after 4. The output has the file.
 fn scratch_words(seen: &Seen, book: &Book, call: &Call, held: usize, refusal: u32) {
     let needed = match call {
+        Call::SizeCompact { scratch, .. } if refusal != 4 => *scratch,
         _ if [4, 7, 11].contains(&refusal) => 0,
         Call::Load { file, .. } => 6 * file.len(),
         Call::Size { .. } | Call::Save { .. } => held,

@@ -8,7 +8,7 @@ use crate::shelf::record_of;
 use crate::tally::Tally;
 use zdd::{Combination, Record, Refusal, Store};
 
-// The call through the store's own methods, which choose scratch and output themselves.
+// The call through the store's own methods, which choose scratch and output themselves; Size compact is lent its scratch.
 fn call(store: &mut Store, call: &Call) -> Result<Answer, Refusal> {
     let mut answer = Answer::default();
     match call {
@@ -21,6 +21,7 @@ fn call(store: &mut Store, call: &Call) -> Result<Answer, Refusal> {
         Call::Operation { op: 7, p, .. } => answer.handle = store.even(*p)?,
         Call::Operation { p, .. } => answer.handle = store.odd(*p)?,
         Call::Size { p, .. } => answer.size = store.size(*p)?,
+        Call::SizeCompact { p, scratch } => answer.size = store.size_compact(*p, &mut vec![5; *scratch])?,
         Call::Has { p, combination } => answer.yes = store.has(*p, record_of(combination))?,
         Call::Weight { by_nodes: false, p, weights, .. } => answer.sum = store.weight_by_members(*p, weights)?,
         Call::Weight { by_nodes: true, p, weights, .. } => answer.sum = store.weight_by_nodes(*p, weights)?,
@@ -82,6 +83,7 @@ fn lists_on_an_owned_store() {
             ("Change", &[0, 3, 4, 5]),
             ("Even", &[0, 4]),
             ("Odd", &[0, 4]),
+            ("Size compact", &[0, 4, 7]),
             ("Weights by members", &[0, 4, 11]),
             ("Weights by nodes", &[0, 4, 11]),
             ("Load", &[0, 9, 13]),

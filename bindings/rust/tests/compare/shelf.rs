@@ -4,7 +4,7 @@ use crate::plain::call::{Answer, Call};
 use crate::plain::family::Combination;
 use crate::random::Random;
 use zdd::calls::{self, Words};
-use zdd::{Placed, Record};
+use zdd::{Measured, Placed, Record};
 
 const MARK: u32 = 0xA5A5_5A5A;
 
@@ -100,10 +100,8 @@ impl Shelf {
         let (store, answer) = match call {
             Call::Operation { op, p, q } => placed(self.operation(*op, *p, *q, cache)),
             Call::Load { file, .. } => placed(calls::load(record, self.lend(cache), file, words.words_mut())),
-            Call::Size { p, .. } => {
-                let r = calls::size(record, nodes, lookup, *p, sizes.words_mut());
-                (r.store, Answer { refusal: r.refusal, size: r.size, ..Answer::default() })
-            }
+            Call::Size { p, .. } => measured(calls::size(record, nodes, lookup, *p, sizes.words_mut())),
+            Call::SizeCompact { p, .. } => measured(calls::size_compact(record, nodes, lookup, *p, sizes.words_mut())),
             Call::Has { p, combination } => {
                 let r = calls::has(record, nodes, lookup, *p, record_of(combination));
                 (r.store, Answer { refusal: r.refusal, yes: r.member, ..Answer::default() })
@@ -133,9 +131,15 @@ fn placed(r: Placed) -> (Record, Answer) {
     (r.store, Answer { refusal: r.refusal, handle: r.handle, added: r.added, ..Answer::default() })
 }
 
+fn measured(r: Measured) -> (Record, Answer) {
+    (r.store, Answer { refusal: r.refusal, size: r.size, ..Answer::default() })
+}
+
 fn lengths(call: &Call) -> (usize, usize, usize) {
     match call {
-        Call::Size { scratch, .. } | Call::Weight { scratch, .. } => (*scratch, 0, 0),
+        Call::Size { scratch, .. } | Call::SizeCompact { scratch, .. } | Call::Weight { scratch, .. } => {
+            (*scratch, 0, 0)
+        }
         Call::Save { scratch, out, .. } => (0, *scratch, *out),
         Call::Load { scratch, .. } => (0, *scratch, 0),
         _ => (0, 0, 0),

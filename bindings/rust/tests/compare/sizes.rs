@@ -1,4 +1,7 @@
 //! Sizes about 2^64, where members cannot be listed: the plain side is arithmetic on 128 bits.
+use crate::compact::every_length;
+use crate::random::Random;
+use crate::weights::shelf_of;
 use zdd::{calls, Combination, Refusal, Store};
 
 const MOST: u128 = u64::MAX as u128;
@@ -14,7 +17,7 @@ pub fn all_subsets(store: &mut Store, n: u32) -> Vec<u32> {
     all
 }
 
-// The size through the library is as given, and its scratch has every node's size, at most 2^64 - 1.
+// The size through the library is as given, and its scratch has every node's size, at most 2^64 - 1; the second entry gives the same.
 fn expect(store: &Store, p: u32, size: u128) {
     let record = store.record();
     let mut scratch = vec![7; record.count as usize + 2];
@@ -35,6 +38,7 @@ fn expect(store: &Store, p: u32, size: u128) {
     }
     let told: Vec<u128> = scratch[..record.count as usize].iter().map(|word| u128::from(*word)).collect();
     assert_eq!(told, sums[2..].iter().map(|sum| *sum.min(&MOST)).collect::<Vec<_>>());
+    every_length(&mut Random::new(u64::from(p)), &shelf_of(store), p, size);
 }
 
 #[test]
@@ -59,6 +63,10 @@ fn sizes_about_2_to_the_64() {
             expect(&store, more, size);
             let twice = store.union(high, all[1]).expect("room");
             expect(&store, twice, size + 1);
+            // few members with the item beside many without
+            let few = store.change(all[1], item).expect("room");
+            let beside = store.union(less_one, few).expect("room");
+            expect(&store, beside, size + 1);
         }
     }
     assert!(store.audit());

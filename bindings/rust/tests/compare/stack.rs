@@ -11,7 +11,8 @@ fn the_header_has_the_same_number() {
     assert!(header.contains(&format!("#define ZDD_STACK_BYTES {STACK_BYTES}u")));
 }
 
-// All subsets of the items 1 to 512, saved and loaded; the sets of the largest items, one of each length, weighed by members.
+// All subsets of the items 1 to 512, saved and loaded; the sets of the largest items, one of each length, weighed by members; both sized
+// in two words for each part.
 fn deep() -> Result<(), Refusal> {
     let mut store = Store::new(10_000, 4_096, 512)?;
     let mut subsets = Store::BASE;
@@ -33,6 +34,8 @@ fn deep() -> Result<(), Refusal> {
         nested = store.union(with, Store::BASE)?;
     }
     assert_eq!(store.weight_by_members(nested, &[1; 512])?, 512 * 513 / 2);
+    assert_eq!(store.size_compact(nested, &mut [0; 1024])?, 513);
+    assert_eq!(store.size_compact(subsets, &mut [0; 1024]), Err(Refusal::Large));
     let file = store.save(subsets)?;
     assert_eq!(store.load(&file)?, subsets);
     Ok(())

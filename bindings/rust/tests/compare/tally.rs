@@ -49,6 +49,7 @@ pub const OUTCOMES: &[(&str, &[u32])] = &[
     ("Even", &[0, 4, 5]),
     ("Odd", &[0, 4, 5]),
     ("Size", &[0, 4, 7]),
+    ("Size compact", &[0, 4, 7]),
     ("Has", &[0, 4]),
     ("Weights by members", &[0, 4, 7, 11]),
     ("Weights by nodes", &[0, 4, 7, 11]),

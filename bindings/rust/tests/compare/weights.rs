@@ -16,7 +16,8 @@ const VAST: u128 = 1 << 90;
 // By members, then by nodes.
 const WAYS: [bool; 2] = [false, true];
 
-fn shelf_of(store: &Store) -> Shelf {
+/// The words and the record of a store.
+pub fn shelf_of(store: &Store) -> Shelf {
     Shelf::new(store.record(), store.nodes(), store.lookup(), &[])
 }
 
@@ -363,9 +364,9 @@ fn lists_and_scratch_on_stores_of_every_limit() -> Result<(), Refusal> {
     Ok(())
 }
 
-// Node words of items up to 9 or of any value, with children anywhere: ten different items on a way down at most, so that even by
-// members a call is short.
-fn any_words(rng: &mut Random, most: usize) -> Shelf {
+/// Node words of items up to 9 or of any value, with children anywhere: ten different items on a way down at most, so that even by
+/// members a call is short.
+pub fn any_words(rng: &mut Random, most: usize) -> Shelf {
     let capacity = 1 + rng.below(most);
     let count = rng.below(capacity + 1);
     let mut nodes = Vec::new();

@@ -9,6 +9,11 @@ pub struct Book {
     numbers: HashMap<Family, u32>,
 }
 
+/// How many different parts a family has.
+pub fn different_parts(f: &Family) -> usize {
+    Book::start().missing(f) as usize
+}
+
 impl Book {
     /// {} and {{}}.
     pub fn start() -> Book {

@@ -1,5 +1,5 @@
 //! 'Calls' and 'Numbers and trade words': the answer of each call, worked out from the book.
-use super::book::Book;
+use super::book::{different_parts, Book};
 use super::family::{named, sum_of_weights, top, Combination, Family};
 use super::file::{family_of, file_of};
 
@@ -16,6 +16,7 @@ pub struct Opening {
 pub enum Call {
     Operation { op: u32, p: u32, q: u32 },
     Size { p: u32, scratch: usize },
+    SizeCompact { p: u32, scratch: usize },
     Has { p: u32, combination: Combination },
     Weight { by_nodes: bool, p: u32, weights: Vec<u32>, scratch: usize },
     Save { p: u32, scratch: usize, out: usize },
@@ -49,6 +50,7 @@ impl Call {
         match self {
             Call::Operation { op, .. } => NAMES[*op as usize],
             Call::Size { .. } => "Size",
+            Call::SizeCompact { .. } => "Size compact",
             Call::Has { .. } => "Has",
             Call::Weight { by_nodes: false, .. } => "Weights by members",
             Call::Weight { by_nodes: true, .. } => "Weights by nodes",
@@ -79,7 +81,12 @@ impl Book {
             Call::Size { p, scratch } => match self.at(*p) {
                 None => refused(4),
                 Some(_) if *scratch < held => refused(7),
-                Some(f) => Answer { size: f.len() as u64, ..Answer::default() },
+                Some(f) => measured(f),
+            },
+            Call::SizeCompact { p, scratch } => match self.at(*p) {
+                None => refused(4),
+                Some(f) if *scratch < 2 * different_parts(f) => refused(7),
+                Some(f) => measured(f),
             },
             Call::Weight { p, weights, scratch, .. } => match self.at(*p) {
                 None => refused(4),
@@ -124,6 +131,11 @@ impl Book {
         }
         Answer { handle: self.place(f), added, ..Answer::default() }
     }
+}
+
+/// The answer of either entry of Size, where the members can be listed.
+fn measured(f: &Family) -> Answer {
+    Answer { size: f.len() as u64, ..Answer::default() }
 }
 
 /// The answer of either sum of weights, by the true sum.
