@@ -1,6 +1,5 @@
 // The table: as many places as there are tags, and as many sizes behind them. A chain starts at the handle modulo the
 // places: handles of one family mostly stand side by side.
-ghost use mathlib.Core.Path.{_≡_};
 ghost use Rattle.query_parts.specs.Inner.{ClearAsks, Cleared, FindAsks, Found, EnterAsks, Entered};
 use crate::tag::handle_of;
 use crate::tag::head_of;

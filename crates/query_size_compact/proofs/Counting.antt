@@ -10,7 +10,7 @@ use lib.ListN.{length}
 use borrow.Author.Tests.{lt-ltb, le-ltb}
 use Rattle.words.specs.Words.{most}
 use Rattle.words.proofs.Cases.{by-eq}
-use Rattle.family.specs.Family.{Family, empty, base, node, top, size, inhabited}
+use Rattle.family.specs.Family.{Family, empty, base, top, size}
 use Rattle.family.specs.Book.{start, at, number, Held, place, Book}
 use Rattle.family.specs.Parts.{partCount}
 use Rattle.family.proofs.Books.{book-start, number-at, held-at, grown-held}

@@ -7,14 +7,14 @@ use mathlib.Core.List.{List, [], _∷_, _++_}
 use native.Mathlib.Omega.{arith}
 use lib.ListN.{length, length-append}
 use lib.Seq.{getD-at}
-use Rattle.family.specs.Family.{Family, empty, node, top, size}
+use Rattle.family.specs.Family.{Family, empty, top, size}
 use Rattle.family.specs.Book.{start, at, number, Held, Grown, Book}
-use Rattle.family.proofs.Books.{number-at, held-at, number-empty, grown-at, book-start}
+use Rattle.family.proofs.Books.{number-at, number-empty, grown-at, book-start}
 use Rattle.words.proofs.Cases.{by-lt}
 use Rattle.store.specs.Inner.{Holds}
 use Rattle.store.proofs.Held.{at-inj, at-node, within}
 use Rattle.query_parts.specs.Inner.{handleAt, sizeAt, Table, FoundAmong, Entered}
-use Rattle.query_size_compact.specs.Inner.{asWord, sizeOf, none, Part, Listed, Came, Went, Appended}
+use Rattle.query_size_compact.specs.Inner.{asWord, sizeOf, none, Part, Listed, Appended}
 use Rattle.query_size_compact.proofs.Sums.{size-leaf, size-part, word-low}
 
 -- a node's family has an item

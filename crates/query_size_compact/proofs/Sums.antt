@@ -1,7 +1,7 @@
 -- Sizes in one word: how the word of a number is read, and the word of a sum of two sizes.
 -- A size of at least 1 is its word, or is above the largest and has the word 0; a sum is above it where a side is.
 use Prim.Native.Nat.{ℕ, _+_, _-_, _≤_, _<_}
-use mathlib.Core.Path.{_≡_, refl, sym, ap, _∙_}
+use mathlib.Core.Path.{_≡_, sym, ap, _∙_}
 use mathlib.Core.List.{List}
 use native.Mathlib.Omega.{arith}
 use lib.ListN.{getD}

@@ -1,13 +1,13 @@
 -- Each way out of the walk: a part that was entered changes nothing, else its sides are walked and it is put behind them,
 -- which places it in the local book; where there are more parts than places the book is longer than the table.
 -- A side has a smaller top than the part, so that walking it cannot enter the part.
-use Prim.Native.Nat.{ℕ, zero, suc, _+_, _*_, _-_, _≤_, _<_}
+use Prim.Native.Nat.{ℕ, _+_, _*_, _-_, _≤_, _<_}
 use mathlib.Core.Path.{_≡_, refl, sym, ap, _∙_}
 use mathlib.Core.List.{List, [], _∷_, _++_}
 use native.Mathlib.Omega.{arith}
 use lib.ListN.{length, getD}
-use Rattle.family.specs.Family.{Family, empty, node, top, size, Ordered}
-use Rattle.family.specs.Book.{at, number, Held, add, place, Book}
+use Rattle.family.specs.Family.{Family, node, top, size, Ordered}
+use Rattle.family.specs.Book.{at, number, Held, place, Book}
 use Rattle.family.proofs.Books.{held-at, grown-length, grown-at, add-new, add-grown}
 use Rattle.family.proofs.Placing.{book-place, place-grown, place-held, held-below}
 use Rattle.family.proofs.Reading.{not-empty}
@@ -16,7 +16,7 @@ use Rattle.store.specs.Inner.{Holds}
 use Rattle.store.proofs.Held.{at-0, at-1, at-node, entry, inside, within}
 use Rattle.query_sizes.proofs.Brims.{some-size}
 use Rattle.query_parts.specs.Inner.{Table, Found}
-use Rattle.query_size_compact.specs.Inner.{asWord, sizeOf, Summed, none, Listed, Came, Went, Appended, WalkAsks, Walked, Descended}
+use Rattle.query_size_compact.specs.Inner.{asWord, sizeOf, Summed, none, Listed, Came, Went, Appended, Walked, Descended}
 use Rattle.query_size_compact.proofs.Listing.{begin-0, begin-1, number-word, number-zero, found-none, found-some}
 
 -- no number, with the table that the walk came to

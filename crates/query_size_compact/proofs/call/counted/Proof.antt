@@ -1,7 +1,6 @@
 -- `counted` makes a table in the scratch, walks the family and reads its size.
 -- Each way out is one law of counting.
 use borrow.Author.Needs.{needs}
-use mathlib.Core.Path.{sym, _∙_}
 use native.Mathlib.Omega.{arith}
 use Rattle.query_size_compact.proofs.Counting.{counted-leaf, counted-none, counted-short, counted-large, counted-done}
 use Rattle.query_size_compact.proofs.call.counted.Statement.{statement}
