@@ -16,7 +16,6 @@ use Rattle.store.specs.declared.tests.Test.the-variants.{Refuses}
 use Rattle.store.specs.declared.record.Refusal.{Refusal}
 use Rattle.store.specs.declared.record.Store.{Store}
 use Rattle.store.specs.declared.record.Refusal.the-variants.{Large}
-use Rattle.store.specs.Scratch.{scratchTests}
 use Rattle.store.specs.Words.{bookOf, wordOf}
 use Rattle.store.specs.Sound.{Sound}
 use Rattle.store.proofs.Decoding.{sound-holds}
@@ -24,12 +23,12 @@ use Rattle.store.proofs.Calls.{refusal-some, sound-fits}
 use Rattle.query_size.specs.declared.SizeAnswer.the-variants.{Members, Refused}
 use Rattle.query_size.specs.declared.Measured.{Measured}
 use Rattle.words.specs.Words.{most}
-use Rattle.query_size.specs.Promise.{sizeGivenBy, sizeRefusal, sizeAnswer, sizeScratch, SizeCall}
+use Rattle.query_size.specs.Promise.{byNode, sizeGivenBy, sizeTests, sizeRefusal, sizeAnswer, sizeScratch, SizeCall}
 use Rattle.query_sizes.specs.Inner.{Filled, Exceeding}
 use Rattle.query_sizes.proofs.Summing.{size-known, filled-is}
 use Rattle.store.specs.Tests.{testsOf, Found}
 use Rattle.store.proofs.Testing.{Tested, tested-refuses}
-use Rattle.store.proofs.Tested.{scratch-number}
+use Rattle.store.proofs.Tested.{count-is}
 use Rattle.store.specs.Refusals.{refusalNumber}
 
 module _ (s : Store) (nodes lookup : List ℕ) (p : ℕ) where
@@ -38,8 +37,9 @@ module _ (s : Store) (nodes lookup : List ℕ) (p : ℕ) where
   B = bookOf nodes (s .count)
 
   module _ (scratch : List ℕ) (r : Measured) (es : r .store ≡ s) where
-    tests-are : Sound s nodes lookup [] → scratchTests B p (length scratch) ≡ testsOf (s .count) p 0 0 (length scratch) (s .count)
-    tests-are S = scratch-number B (s .count) p (length scratch) (sound-holds S .size)
+    tests-are : Sound s nodes lookup [] → sizeTests byNode B p (length scratch) ≡ testsOf (s .count) p 0 0 (length scratch) (s .count)
+    unfolding sizeTests
+    tests-are S = ap (λ k. testsOf k p 0 0 (length scratch) k) (count-is B (sound-holds S .size))
 
     pub size-refused : {a : Test} → Found s (length nodes) (length lookup) p 0 0 (length scratch) (s .count) a → {x : Refusal} → a ≡ Refuses x → r .answer ≡ Refused x
         → SizeCall s nodes lookup p scratch r scratch
@@ -56,7 +56,7 @@ module _ (s : Store) (nodes lookup : List ℕ) (p : ℕ) where
         })
 
     module _ (P : Tested s nodes lookup p 0 0 (length scratch) (s .count)) (scratch′ : List ℕ) (F : Filled nodes (s .count) (s .count) scratch scratch′) where
-      tests-none : Sound s nodes lookup [] → scratchTests B p (length scratch) ≡ 0
+      tests-none : Sound s nodes lookup [] → sizeTests byNode B p (length scratch) ≡ 0
       tests-none S = tests-are S ∙ P .number-is
 
       filled : Sound s nodes lookup [] → scratch′ ≡ sizeScratch B p scratch

@@ -1,2 +1,3 @@
 -- The laws of `query_size`.
+pub mod Agreeing
 pub mod Answering

@@ -15,8 +15,8 @@ use Rattle.query_size.specs.Promise.{sizeGivenBy, SizeGiven}
 use Rattle.query_parts.specs.Inner.{handleAt, sizeAt, Table}
 
 -- a size in one word: 0 where it is above the largest
-abbrev pub wordOf : ℕ → ℕ
-wordOf x = cond (ltb most x) 0 x
+abbrev pub asWord : ℕ → ℕ
+asWord x = cond (ltb most x) 0 x
 
 -- the word of a number in a table
 unfoldable pub sizeOf : List ℕ → ℕ → ℕ → ℕ
@@ -29,7 +29,7 @@ pub record SizeAsks (words : List ℕ) (places number : ℕ) : Type 0 where
 
 -- the word of a sum of two sizes, of which the first is 0 just where `zero` is, and the second is none
 pub record Summed (zero without with r : ℕ) : Type 0 where
-  pub is : (x y : ℕ) → (zero ≡ 0 → x ≡ 0) → ((zero ≡ 0 → ⊥) → 0 < x) → 0 < y → without ≡ wordOf x → with ≡ wordOf y → r ≡ wordOf (x + y)
+  pub is : (x y : ℕ) → (zero ≡ 0 → x ≡ 0) → ((zero ≡ 0 → ⊥) → 0 < x) → 0 < y → without ≡ asWord x → with ≡ asWord y → r ≡ asWord (x + y)
 
 -- what stands in place of a number: more parts than places, or words of no sound store
 abbrev pub none : ℕ
@@ -40,7 +40,7 @@ none = 4294967295
 pub record Part (B : List Family) (F : Family) (places : ℕ) (words : List ℕ) (e : ℕ) : Type 0 where
   pub held : handleAt words e < length B
   pub means : at B (handleAt words e) ≡ F
-  pub size-is : sizeAt places words e ≡ wordOf (size F)
+  pub size-is : sizeAt places words e ≡ asWord (size F)
 
 -- The table has the families of a local book C past {} and {{}}.
 pub record Listed (limit : ℕ) (B C : List Family) (places n : ℕ) (words : List ℕ) : Type 0 where
@@ -66,7 +66,7 @@ pub record AppendAsks (words : List ℕ) (places n p : ℕ) : Type 0 where
 -- the handle p is entered behind the others, with its size: a family is put at the local book's end
 pub record Appended (places p sizeIs : ℕ) (words : List ℕ) (n : ℕ) (words′ : List ℕ) (n′ r : ℕ) : Type 0 where
   pub went : Went places words words′ n′ r
-  pub sound : {limit : ℕ} (B C : List Family) (F : Family) → Listed limit B C places n words → p < length B → at B p ≡ F → sizeIs ≡ wordOf (size F)
+  pub sound : {limit : ℕ} (B C : List Family) (F : Family) → Listed limit B C places n words → p < length B → at B p ≡ F → sizeIs ≡ asWord (size F)
       → Book limit (C ++ (F ∷ [])) → Came limit B (C ++ (F ∷ [])) F places n′ words′ r
 
 -- the words of the nodes, and a table of at least one place
@@ -95,7 +95,7 @@ pub record Descended (p bound : ℕ) (nodes : List ℕ) (count places : ℕ) (wo
 -- what is answered for a handle that is held: 7 by its parts, then 6, then its size
 abbrev pub countedOf : Family → ℕ → SizeGiven
 countedOf F words =
-    record { refusal = cond (ltb words (2 * partCount F)) 7 (cond (ltb most (size F)) 6 0); size = cond (ltb words (2 * partCount F)) 0 (cond (ltb most (size F)) 0 (size F)) }
+    cond (ltb words (2 * partCount F)) (record { refusal = 7; size = 0 }) (cond (ltb most (size F)) (record { refusal = 6; size = 0 }) (record { refusal = 0; size = size F }))
 
 pub record Counted (nodes : List ℕ) (count p : ℕ) (scratch : List ℕ) (r : SizeAnswer) (scratch′ : List ℕ) : Type 0 where
   pub long : length scratch′ ≡ length scratch

@@ -20,7 +20,7 @@ use Rattle.query_sizes.specs.Inner.{Exceeding}
 use Rattle.query_sizes.proofs.Summing.{size-known}
 
 -- a family with a member has a size
-some-size : (F : Family) → Ordered F → T (inhabited F) → 1 ≤ size F
+pub some-size : (F : Family) → Ordered F → T (inhabited F) → 1 ≤ size F
 some-size empty o t = absurd t
 some-size base o t = omega arith
 some-size (node i a b) o t = let h = some-size b (o .4) (o .2) in omega arith

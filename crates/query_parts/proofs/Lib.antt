@@ -1,0 +1,3 @@
+-- The laws of `query_parts`.
+pub mod Chains
+pub mod Tables
