@@ -24,7 +24,7 @@ static size_t part_count(Family f) {
     static std::map<Family, size_t> known;
     if (known.count(f)) return known[f];
     known[f] = count_parts(f);
-    must_hold(known[f] == parts_of(f).size(), "the parts of a family are what Subset0 and Subset1 give from the top item down");
+    must_hold(known[f] == parts_of(f).size(), "a family has as many parts as Subset0 and Subset1 give from the top down");
     return known[f];
 }
 

@@ -90,12 +90,12 @@ pub fn limited(lent: Lent, limit: u32) -> Lent {
     }
 }
 
-// One or two words less; 0 where there are none.
-fn less(words: usize, by: usize) -> usize {
-    if words < by {
+// So many less; 0 where there are fewer.
+pub fn less(n: usize, by: usize) -> usize {
+    if n < by {
         return 0;
     }
-    words - by
+    n - by
 }
 
 // Scratch about a need, by a way: none, half of it, two words or one too few, just enough, one or two more, or all that
