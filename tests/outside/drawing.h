@@ -95,6 +95,21 @@ static size_t cache_part(u32 x, bool whole, size_t cache) {
     return cache;
 }
 
+// How much scratch is lent about a need, by a way: none, half of it, two words or one too few, just enough, one or two
+// more, or all.
+static size_t about(u32 way, size_t needed, size_t all) {
+    switch (way % 8) {
+    case 0: return 0;
+    case 1: return needed / 2;
+    case 2: return needed < 2 ? 0 : needed - 2;
+    case 3: return needed < 1 ? 0 : needed - 1;
+    case 4: return needed;
+    case 5: return needed + 1;
+    case 6: return needed + 2;
+    default: return all;
+    }
+}
+
 // How much scratch is lent: seldom one word too few or just enough, else all.
 static size_t scratch(u32 x, size_t needed, size_t all) {
     if (x % 8 == 0) return needed == 0 ? 0 : needed - 1;

@@ -29,6 +29,7 @@ static void must_hold(bool holds, const char *law) {
 
 static const char *calling; // the call under way
 static void called(const char *name) { calling = name; tally[std::string("call ") + name]++; }
+static void tally_call(bool counts, const char *what) { if (counts) tally[std::string(calling) + ": " + what]++; }
 static void refused(int n) {
     text(" refused");
     num(n);

@@ -53,10 +53,10 @@ static void turn(u32 items, bool whole, size_t cache) {
     }
 }
 
-// An operation with all words lent, and the size of what it gives.
-static u32 measured_operation(u32 op, u32 p, u32 q, size_t cache) {
+// An operation with all words lent, and the size of what it gives by both entries.
+static u32 measured_operation(u32 op, u32 p, u32 q, size_t cache, u32 way) {
     u32 handle = operation(op, p, q, lend(63), cache);
-    size_call(handle, lend(63), 1100);
+    size_calls(way, handle, lend(63));
     return handle;
 }
 
@@ -67,13 +67,13 @@ static u32 weighed_operation(u32 op, u32 p, u32 q, size_t cache) {
     return handle;
 }
 
-// All subsets of 1 to 64 items, families of 2^64 - 1 members and of one more, and two parts of 2^63 members each; the sums
-// of weights of the latter.
+// All subsets of 1 to 64 items, families of 2^64 - 1 members and of one more, and two parts of 2^63 members each; their
+// sizes by both entries, and the sums of weights of the latter.
 static void subsets(size_t cache) {
     u32 all = 1;
     for (u32 item = 1; item <= 64; item++) {
-        u32 changed = measured_operation(3, all, item, cache);
-        all = measured_operation(4, all, changed, cache);
+        u32 changed = measured_operation(3, all, item, cache, item - 1);
+        all = measured_operation(4, all, changed, cache, item - 1);
     }
     u32 less = weighed_operation(6, all, 1, cache);
     weighed_operation(3, less, 65, cache);
@@ -185,8 +185,8 @@ static void make_carried(size_t cache) {
     save_calls(count() + 1, lend(63), 1100, buffer.size());
 }
 
-// The calls of a list, after every seventh the sums of weights of a drawn family; the last make the file for the next list.
-// One with more than 16 items always lends its whole cache.
+// The calls of a list, after every seventh the sums of weights of a drawn family, after every fourth the size of one by both
+// entries; the last make the file for the next list. One with more than 16 items always lends its whole cache.
 static void calls_of_list(size_t cache, u32 items, u32 calls) {
     load_carried(cache);
     if (items == 70) subsets(cache);
@@ -195,6 +195,7 @@ static void calls_of_list(size_t cache, u32 items, u32 calls) {
     for (u32 left = calls; 0 < left; left--) {
         turn(items, 16 < items, cache);
         if (left % 7 == 0) drawn_weights(items);
+        if (left % 4 == 0) drawn_sizes();
     }
     make_carried(cache);
 }

@@ -1,6 +1,6 @@
 // Sums of weights: the lists of weights, the sum of a family in three ways, and the two calls of document 02, No. 1.
 #pragma once
-#include "calls.h"
+#include "compact.h"
 
 typedef std::vector<u32> Weights; // item i's weight at i - 1
 
@@ -99,9 +99,6 @@ static Size tested_sum(bool members, Family f, const Weights &weights) {
     return sum;
 }
 
-// A tally of the call under way.
-static void tally_call(bool counts, const char *what) { if (counts) tally[std::string(calling) + ": " + what]++; }
-
 // Writes a sum, or its 6.
 static void tell_sum(Family f, Size sum) {
     if (MOST < sum) refused(6);
@@ -154,8 +151,9 @@ static void weight_calls(bool few, u32 p, const Making &making, const Lent &lent
     weight_call(false, p, making, lent, words);
 }
 
-// Size, then both sums with the list of each number.
+// Size by both entries, then both sums with the list of each number.
 static void every_weight(u32 p, u32 item) {
+    every_compact(p);
     bool few = size_call(p, lend(63), 1100) <= 4096;
     for (u32 k = 0; k < 9; k++) weight_calls(few, p, making_of(k, item, state, 512), lend(63), 3300);
 }

@@ -1,6 +1,7 @@
 // A file that goes from one list's store to the next one's.
 use crate::draw::at_most;
 use crate::lend::everything;
+use crate::lend::less;
 use crate::loads;
 use crate::loads::Reading;
 use crate::loads::needed;
@@ -12,14 +13,6 @@ use crate::state::State;
 use crate::state::newest;
 use crate::state::with_file;
 use crate::state::with_placed;
-
-// One less; 0 for 0.
-fn less(n: usize) -> usize {
-    if n == 0 {
-        return 0;
-    }
-    n - 1
-}
 
 // Loads so many bytes in so much scratch.
 pub fn load(
@@ -50,9 +43,9 @@ fn refused(
     cache: &mut [u32],
     file: &[u8],
 ) -> State {
-    let short = less(needed(bytes));
+    let short = less(needed(bytes), 1);
     let first = load(bytes, short, state, nodes, lookup, cache, file);
-    load(less(bytes), 12400, first, nodes, lookup, cache, file)
+    load(less(bytes, 1), 12400, first, nodes, lookup, cache, file)
 }
 
 // Loads the file of the list before, first in two ways that are refused.

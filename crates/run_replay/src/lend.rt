@@ -90,6 +90,29 @@ pub fn limited(lent: Lent, limit: u32) -> Lent {
     }
 }
 
+// So many less; 0 where there are fewer.
+pub fn less(n: usize, by: usize) -> usize {
+    if n < by {
+        return 0;
+    }
+    n - by
+}
+
+// Scratch about a need, by a way: none, half of it, two words or one too few, just enough, one or two more, or all that
+// there is.
+pub fn about(way: u32, needed: usize, all: usize) -> usize {
+    match way % 8 {
+        0 => 0,
+        1 => needed / 2,
+        2 => less(needed, 2),
+        3 => less(needed, 1),
+        4 => needed,
+        5 => std::num::wrapping_add_usize(needed, 1),
+        6 => std::num::wrapping_add_usize(needed, 2),
+        _ => all,
+    }
+}
+
 // Scratch for so many words: seldom one too few or just enough, else all that there is.
 pub fn scratch(x: u32, needed: usize, all: usize) -> usize {
     let way = x % 8;

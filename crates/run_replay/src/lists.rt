@@ -14,6 +14,7 @@ use crate::settings::Setting;
 use crate::settings::is_drawn;
 use crate::settings::setting_of;
 use crate::shapes;
+use crate::sizes;
 use crate::state::State;
 use crate::state::with_file;
 use crate::state::with_fresh;
@@ -72,10 +73,13 @@ fn fresh_line(limit: u32, nodes: &mut [u32], lookup: &mut [u32], cache: &mut [u3
     freshened
 }
 
-// After every seventh call, the sums of weights of a drawn family.
-fn sums_after(left: u32, items: u32, state: State, nodes: &[u32], lookup: &[u32]) {
+// After every seventh call the sums of weights of a drawn family, after every fourth the size of one by both entries.
+fn asked_after(left: u32, items: u32, state: State, nodes: &[u32], lookup: &[u32]) {
     if left % 7 == 0 {
         weighing::drawn_lines(items, state, nodes, lookup);
+    }
+    if left % 4 == 0 {
+        sizes::drawn_lines(state, nodes, lookup);
     }
 }
 
@@ -93,7 +97,7 @@ fn turns(
     let mut left = calls;
     while 0 < left {
         state = turn(manner, state, nodes, lookup, cache, file);
-        sums_after(left, manner.items, state, nodes, lookup);
+        asked_after(left, manner.items, state, nodes, lookup);
         left = left - 1;
     }
     state

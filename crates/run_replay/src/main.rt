@@ -9,6 +9,7 @@ mod loads;
 mod members;
 mod output;
 mod parity;
+mod parts;
 mod path;
 mod placing;
 mod saves;

@@ -1,7 +1,8 @@
-// All subsets of 1 to 64 items, families of 2^64 - 1 members and of one more, and two parts of 2^63 members each; the sums
-// of weights of the latter.
+// All subsets of 1 to 64 items, families of 2^64 - 1 members and of one more, and two parts of 2^63 members each; their
+// sizes by both entries, and the sums of weights of the latter.
 use crate::lend::everything;
 use crate::parity;
+use crate::parts::needed;
 use crate::placing;
 use crate::placing::Operation;
 use crate::placing::handle_of;
@@ -73,11 +74,12 @@ fn run_step(
     placing::line(operation(step, built), lent, nodes, lookup, cache)
 }
 
-// Measures what a step gives; from 2^64 - 1 members on, writes the sums of its weights too.
+// Measures what a step gives by both entries; from 2^64 - 1 members on, writes the sums of its weights too.
 fn measured(step: u32, handle: u32, state: State, nodes: &[u32], lookup: &[u32]) {
     let lent = everything(state.store, lookup.len(), 0);
     if step < 128 {
-        sizes::line(handle, 1100, lent, nodes, lookup);
+        let need = needed(handle, state.store.count, nodes);
+        sizes::both(step / 2, need, handle, lent, nodes, lookup);
         return;
     }
     weighing::every(handle, 65, state.draw, lent, nodes, lookup);

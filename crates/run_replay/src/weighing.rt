@@ -156,8 +156,9 @@ pub fn lines(
     line(by_nodes, weights, lent, nodes, lookup);
 }
 
-// Measures p, asks for both sums with the list of each number, and writes the lines.
+// Measures p by both entries, asks for both sums with the list of each number, and writes the lines; everything is lent.
 pub fn every(p: u32, item: u32, draw: u32, lent: Lent, nodes: &[u32], lookup: &[u32]) {
+    sizes::every(p, lent, nodes, lookup);
     let few = sizes::few(p, lent, nodes, lookup);
     let mut k: u32 = 0;
     while k < 9 {

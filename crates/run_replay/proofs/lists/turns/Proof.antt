@@ -19,8 +19,8 @@ loop-holds c = search needs
 turn-requires : tie.Need-turn-requires Inv-loop μ-loop
 turn-requires c κs = search needs
 
-sums-after-requires : tie.Need-sums-after-requires Inv-loop μ-loop
-sums-after-requires c κs = search needs
+asked-after-requires : tie.Need-asked-after-requires Inv-loop μ-loop
+asked-after-requires c κs = search needs
 
 sub-left : tie.Need-sub-left Inv-loop μ-loop
 sub-left c = search needs
@@ -54,7 +54,7 @@ turns-spec =
     μ-loop
     loop-holds
     turn-requires
-    sums-after-requires
+    asked-after-requires
     sub-left
     loop-less
     loop-again

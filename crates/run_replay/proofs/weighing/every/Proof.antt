@@ -11,6 +11,9 @@ Inv-loop p item draw lent nodes lookup few k₀ k = k ≤ 9
 abbrev μ-loop : tie.MeasureT-loop
 μ-loop p item draw lent nodes lookup few k₀ k = 9 - k
 
+every-requires : tie.Need-every-requires Inv-loop μ-loop
+every-requires c κs = search needs
+
 few-requires : tie.Need-few-requires Inv-loop μ-loop
 few-requires c κs = search needs
 
@@ -41,6 +44,7 @@ every-spec =
     (tie.spec
     Inv-loop
     μ-loop
+    every-requires
     few-requires
     loop-holds
     numbered-requires
