@@ -6,7 +6,7 @@ ghost use Rattle.query_size_compact.specs.Inner.{Counted};
 ghost use Rattle.query_size_compact.specs.Promise.{CompactCall};
 use crate::sizes::size_of;
 use crate::walk::descend;
-use query_parts::table::clear;
+use query_parts::entries::clear;
 use query_size::Measured;
 use query_size::SizeAnswer;
 use store::record::Refusal;

@@ -4,8 +4,8 @@
 ghost use Rattle.query_size_compact.specs.Inner.{AppendAsks, Appended, DescendAsks, WalkAsks, Descended, Walked};
 use crate::sizes::size_of;
 use crate::sizes::sum_of;
-use query_parts::table::enter;
-use query_parts::table::find;
+use query_parts::entries::enter;
+use query_parts::entries::find;
 
 // Enters p with its size, where there is a place.
 fn append(table: &mut [u64], places: u32, entered: &mut u32, p: u32, size: u64) -> u32

@@ -13,7 +13,7 @@ use Rattle.query_size_compact.proofs.walk.+descend+reach.Lts-descend as
 use Rattle.query_size_compact.proofs.walk.reach.Reads as reach
 use Rattle.query_size_compact.proofs.walk.reach.Kinds as reach-kinds
 use Rattle.query_size_compact.proofs.walk.+descend+reach.Lts-reach as reach-lts
-use Rattle.query_parts.proofs.table.find.Reads as find-reads
+use Rattle.query_parts.proofs.entries.find.Reads as find-reads
 use Rattle.query_size_compact.proofs.sizes.size_of.Reads as size-of-reads
 use Rattle.query_size_compact.proofs.sizes.sum_of.Reads as sum-of-reads
 use Rattle.query_size_compact.proofs.walk.append.Reads as append-reads

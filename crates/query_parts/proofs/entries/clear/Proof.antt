@@ -8,8 +8,8 @@ use Rattle.words.specs.Words.{zeroed}
 use Rattle.words.proofs.Zeroed.{zeroed-none, zeroed-more}
 use Rattle.query_parts.proofs.Tables.{cleared}
 use borrow.Author.Needs.{needs}
-use Rattle.query_parts.proofs.table.clear.Statement.{statement}
-use Rattle.query_parts.proofs.table.clear.Tie as tie
+use Rattle.query_parts.proofs.entries.clear.Statement.{statement}
+use Rattle.query_parts.proofs.entries.clear.Tie as tie
 
 abbrev Inv-loop : tie.InvT-loop
 Inv-loop table₀ places k₀ table k = (table ≡ zeroed 0 k table₀) × (length table ≡ length table₀) × (k ≤ places)

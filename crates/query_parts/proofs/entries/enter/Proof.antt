@@ -6,8 +6,8 @@ use native.Mathlib.Nat.{mod-lt}
 use lib.ListN.{length-set}
 use Rattle.query_parts.proofs.Tables.{entered}
 use borrow.Author.Needs.{needs}
-use Rattle.query_parts.proofs.table.enter.Statement.{statement}
-use Rattle.query_parts.proofs.table.enter.Tie as tie
+use Rattle.query_parts.proofs.entries.enter.Statement.{statement}
+use Rattle.query_parts.proofs.entries.enter.Tie as tie
 
 start-in : (c : tie.Start) → c .args .handle % c .args .places < c .args .places
 start-in c = mod-lt (c .args .handle) (omega (arith, c .pre .room))

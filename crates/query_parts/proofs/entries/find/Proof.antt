@@ -5,8 +5,8 @@ use native.Mathlib.Omega.{arith}
 use native.Mathlib.Nat.{mod-lt}
 use Rattle.query_parts.proofs.Chains.{Sought, sought-head, sought-none, sought-here, sought-falls, sought-on}
 use borrow.Author.Needs.{needs}
-use Rattle.query_parts.proofs.table.find.Statement.{statement}
-use Rattle.query_parts.proofs.table.find.Tie as tie
+use Rattle.query_parts.proofs.entries.find.Statement.{statement}
+use Rattle.query_parts.proofs.entries.find.Tie as tie
 
 abbrev Inv-loop : tie.InvT-loop
 Inv-loop table places handle at₀ at = Sought table places handle at
