@@ -15,15 +15,18 @@ nextIn tag = tag / 1048576 % 1048576
 abbrev pub headIn : ℕ → ℕ
 headIn tag = tag / 1099511627776
 
+-- numbers that fit a tag
 pub record LinkAsks (handle next : ℕ) : Type 0 where
   pub handle-low : handle < 1048576
   pub next-low : next < 1048576
 
+-- a tag with another handle and another place before it
 pub record Linked (tag handle next r : ℕ) : Type 0 where
   pub handle-is : handleIn r ≡ handle
   pub next-is : nextIn r ≡ next
   pub head-stays : headIn r ≡ headIn tag
 
+-- a tag with another head
 pub record Headed (tag head r : ℕ) : Type 0 where
   pub handle-stays : handleIn r ≡ handleIn tag
   pub next-stays : nextIn r ≡ nextIn tag
@@ -57,6 +60,7 @@ pub record Table (places n : ℕ) (words : List ℕ) : Type 0 where
   pub links : (e : ℕ) → e < n → nextAt words e ≤ e
   pub leads : (e : ℕ) → e < n → Leads (λ k. nextAt words k) (headAt words (handleAt words e % places)) (suc e)
 
+-- words for so many places
 pub record ClearAsks (words : List ℕ) (places : ℕ) : Type 0 where
   pub long : 2 * places ≤ length words
   pub small : places ≤ 1000000
@@ -66,6 +70,7 @@ pub record Cleared (places : ℕ) (words words′ : List ℕ) : Type 0 where
   pub long : length words′ ≡ length words
   pub table : Table places 0 words′
 
+-- a table of at least one place
 pub record FindAsks (words : List ℕ) (places : ℕ) : Type 0 where
   pub some : 0 < places
   pub entered : ℕ
@@ -77,9 +82,11 @@ pub record FoundAmong (n : ℕ) (words : List ℕ) (handle r : ℕ) : Type 0 whe
   pub low : r ≤ n
   pub is : 0 < r → handleAt words (r - 1) ≡ handle
 
+-- the same, however many it has
 pub record Found (words : List ℕ) (places handle r : ℕ) : Type 0 where
   pub among : (n : ℕ) → Table places n words → FoundAmong n words handle r
 
+-- a table with a place left, and a handle that fits a tag
 pub record EnterAsks (words : List ℕ) (places n handle : ℕ) : Type 0 where
   pub table : Table places n words
   pub room : n < places

@@ -22,12 +22,13 @@ asWord x = cond (ltb most x) 0 x
 unfoldable pub sizeOf : List ℕ → ℕ → ℕ → ℕ
 sizeOf words places number = cond (ltb number 2) number (sizeAt places words (number - 2))
 
+-- a number that has a place in a table
 pub record SizeAsks (words : List ℕ) (places number : ℕ) : Type 0 where
   pub long : 2 * places ≤ length words
   pub low : number < places + 2
   pub small : places ≤ 1000000
 
--- the word of a sum of two sizes, of which the first is 0 just where `zero` is, and the second is none
+-- the word of the sum of two sizes, of which the first is 0 just where `zero` is and the second is at least 1
 pub record Summed (zero without with r : ℕ) : Type 0 where
   pub is : (x y : ℕ) → (zero ≡ 0 → x ≡ 0) → ((zero ≡ 0 → ⊥) → 0 < x) → 0 < y → without ≡ asWord x → with ≡ asWord y → r ≡ asWord (x + y)
 
@@ -59,6 +60,7 @@ pub record Went (places : ℕ) (words words′ : List ℕ) (n′ r : ℕ) : Type
   pub table : Table places n′ words′
   pub low : (r ≡ none → ⊥) → r < n′ + 2
 
+-- a table, and a handle that fits a tag
 pub record AppendAsks (words : List ℕ) (places n p : ℕ) : Type 0 where
   pub table : Table places n words
   pub handle-low : p < 1048576
@@ -70,14 +72,15 @@ pub record Appended (places p sizeIs : ℕ) (words : List ℕ) (n : ℕ) (words�
       → Book limit (C ++ (F ∷ [])) → Came limit B (C ++ (F ∷ [])) F places n′ words′ r
 
 -- the words of the nodes, and a table of at least one place
-pub record WalkAsks (bound : ℕ) (nodes : List ℕ) (count : ℕ) (words : List ℕ) (places n : ℕ) : Type 0 where
+pub record WalkAsks (nodes : List ℕ) (count : ℕ) (words : List ℕ) (places n : ℕ) : Type 0 where
   pub nodes-long : 3 * count ≤ length nodes
   pub few : count ≤ 1000000
   pub some : 0 < places
   pub table : Table places n words
 
-pub record DescendAsks (p bound : ℕ) (nodes : List ℕ) (count : ℕ) (words : List ℕ) (places n : ℕ) : Type 0 where
-  pub asks : WalkAsks bound nodes count words places n
+-- the same, and a handle that is neither {} nor {{}}
+pub record DescendAsks (p : ℕ) (nodes : List ℕ) (count : ℕ) (words : List ℕ) (places n : ℕ) : Type 0 where
+  pub asks : WalkAsks nodes count words places n
   pub part : 2 ≤ p
 
 -- the family of p is placed in the local book that the table lists
@@ -97,6 +100,7 @@ abbrev pub countedOf : Family → ℕ → SizeGiven
 countedOf F words =
     cond (ltb words (2 * partCount F)) (record { refusal = 7; size = 0 }) (cond (ltb most (size F)) (record { refusal = 6; size = 0 }) (record { refusal = 0; size = size F }))
 
+-- the answer is that, where the words hold a book
 pub record Counted (nodes : List ℕ) (count p : ℕ) (scratch : List ℕ) (r : SizeAnswer) (scratch′ : List ℕ) : Type 0 where
   pub long : length scratch′ ≡ length scratch
   pub is : {limit : ℕ} (B : List Family) (lookup : List ℕ) → Holds limit B count nodes lookup → sizeGivenBy r ≡ countedOf (at B p) (length scratch)

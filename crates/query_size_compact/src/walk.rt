@@ -31,7 +31,7 @@ pub fn descend(
     places: u32,
     entered: &mut u32,
 ) -> u32
-    requires { ⌜ DescendAsks p bound (now nodes) count (now table) places (now entered) ⌝ }
+    requires { ⌜ DescendAsks p (now nodes) count (now table) places (now entered) ⌝ }
     ensures { λ r. ⌜ Descended p bound (now (nodes .entry)) count places (now (table .entry)) (now (entered .entry)) (now (table .exit)) (now (entered .exit)) r ⌝ }
 {
     if count + 1 < p {
@@ -65,7 +65,7 @@ fn reach(
     places: u32,
     entered: &mut u32,
 ) -> u32
-    requires { ⌜ WalkAsks bound (now nodes) count (now table) places (now entered) ⌝ }
+    requires { ⌜ WalkAsks (now nodes) count (now table) places (now entered) ⌝ }
     ensures { λ r. ⌜ Walked p bound (now (nodes .entry)) count places (now (table .entry)) (now (entered .entry)) (now (table .exit)) (now (entered .exit)) r ⌝ }
 {
     if p < 2 {
