@@ -5,6 +5,7 @@ ghost use Rattle.store.specs.Inner.{HandleAsks};
 ghost use Rattle.query_size_compact.specs.Inner.{Counted};
 ghost use Rattle.query_size_compact.specs.Promise.{CompactCall};
 use crate::sizes::size_of;
+use crate::walk::NONE;
 use crate::walk::descend;
 use query_parts::entries::clear;
 use query_size::Measured;
@@ -40,7 +41,7 @@ fn counted(nodes: &[u32], count: u32, p: u32, scratch: &mut [u64]) -> SizeAnswer
     clear(scratch, places);
     let mut entered: u32 = 0;
     let number = descend(p, 513, nodes, count, scratch, places, &mut entered);
-    if number == 4294967295 {
+    if number == NONE {
         return SizeAnswer::Refused(Refusal::Scratch);
     }
     let members = size_of(scratch, places, number);

@@ -1,11 +1,13 @@
 // The walk over the parts of a family, without-side first; each part is entered once both its sides are. A number is
-// that of a local book: 0 for {}, 1 for {{}}, then the parts as they were entered. 2^32 - 1 is none: there are more parts
-// than places, or the words are those of no sound store.
+// that of a local book: 0 for {}, 1 for {{}}, then the parts as they were entered.
 ghost use Rattle.query_size_compact.specs.Inner.{AppendAsks, Appended, DescendAsks, WalkAsks, Descended, Walked};
 use crate::sizes::size_of;
 use crate::sizes::sum_of;
 use query_parts::entries::enter;
 use query_parts::entries::find;
+
+// No number: there are more parts than places, or the words are those of no sound store.
+pub const NONE: u32 = 4294967295;
 
 // Enters p with its size, where there is a place.
 fn append(table: &mut [u64], places: u32, entered: &mut u32, p: u32, size: u64) -> u32
@@ -14,7 +16,7 @@ fn append(table: &mut [u64], places: u32, entered: &mut u32, p: u32, size: u64) 
 {
     let n = *entered;
     if n == places {
-        return 4294967295;
+        return NONE;
     }
     enter(table, places, n, p, size);
     *entered = n + 1;
@@ -35,20 +37,20 @@ pub fn descend(
     ensures { λ r. ⌜ Descended p bound (now (nodes .entry)) count places (now (table .entry)) (now (entered .entry)) (now (table .exit)) (now (entered .exit)) r ⌝ }
 {
     if count + 1 < p {
-        return 4294967295;
+        return NONE;
     }
     let base = 3 * (p - 2) as usize;
     let item = nodes[base];
     if bound <= item {
-        return 4294967295;
+        return NONE;
     }
     let zero = reach(nodes[base + 1], item, nodes, count, table, places, entered);
-    if zero == 4294967295 {
-        return 4294967295;
+    if zero == NONE {
+        return NONE;
     }
     let one = reach(nodes[base + 2], item, nodes, count, table, places, entered);
-    if one == 4294967295 {
-        return 4294967295;
+    if one == NONE {
+        return NONE;
     }
     let without = size_of(table, places, zero);
     let with = size_of(table, places, one);
