@@ -24,7 +24,7 @@ use Rattle.store.proofs.Held.{at-0, at-1, held, within}
 use Rattle.query_size.specs.declared.SizeAnswer.the-variants.{Members, Refused}
 use Rattle.query_sizes.proofs.Brims.{some-size}
 use Rattle.query_parts.specs.Inner.{Cleared}
-use Rattle.query_size_compact.specs.Inner.{asWord, sizeOf, none, Listed, Came, Descended, countedOf, Counted}
+use Rattle.query_size_compact.specs.Inner.{asWord, sizeOf, none, Listed, Came, New, Walked, countedOf, Counted}
 use Rattle.query_size_compact.proofs.Sums.{word-none, word-some}
 use Rattle.query_size_compact.proofs.Listing.{has-item, past-two, list-start, number-word}
 
@@ -93,7 +93,7 @@ module _ (nodes : List ℕ) (count p : ℕ) (scratch : List ℕ) where
     pub counted-none : places ≡ 0 → Counted nodes count p scratch (Refused Scratch) scratch
     counted-none z = record { long = refl; is = λ B lookup H. sym (told-short (at B p) (length scratch) (short-of H (omega (arith, one-part H p (omega arith) h)))) }
 
-    module _ {cleared words : List ℕ} (K : Cleared places scratch cleared) {n r : ℕ} (D : Descended p 513 nodes count places cleared 0 words n r) where
+    module _ {cleared words : List ℕ} (K : Cleared places scratch cleared) {n r : ℕ} (D : Walked New p 513 nodes count places cleared 0 words n r) where
       long : length words ≡ length scratch
       long = D .went .long ∙ K .long
 

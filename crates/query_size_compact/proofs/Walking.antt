@@ -16,7 +16,7 @@ use Rattle.store.specs.Inner.{Holds}
 use Rattle.store.proofs.Held.{at-0, at-1, at-node, entry, inside, within}
 use Rattle.query_sizes.proofs.Brims.{some-size}
 use Rattle.query_parts.specs.Inner.{Table, Found}
-use Rattle.query_size_compact.specs.Inner.{asWord, sizeOf, Summed, none, Listed, Came, Went, Appended, Walked, Descended}
+use Rattle.query_size_compact.specs.Inner.{asWord, sizeOf, Summed, none, Listed, Came, Went, Appended, Any, New, Walked}
 use Rattle.query_size_compact.proofs.Listing.{begin-0, begin-1, number-word, number-zero, found-none, found-some}
 
 -- no number, with the table that the walk came to
@@ -33,31 +33,31 @@ stands L s l e = record { listed = λ q. (L, (l, e)); short = λ q. absurd (omeg
 
 module _ (p bound : ℕ) (nodes : List ℕ) (count places : ℕ) (words : List ℕ) (n : ℕ) (T : Table places n words) where
   -- {} and {{}} need no place
-  pub walked-leaf : p < 2 → Walked p bound nodes count places words n words n p
+  pub walked-leaf : p < 2 → Walked Any p bound nodes count places words n words n p
   walked-leaf l =
       record {
         went = record { long = refl; table = T; low = λ q. omega arith };
-        sound = λ B C lookup H m t L. by-eq p 0
+        sound = λ B C lookup H m t f L. by-eq p 0
             (λ e d. rw (e, at-0 H) (stands L (omega arith) (omega (arith, L .long)) (begin-0 (L .book))))
             (λ e d. let one : p ≡ 1 = omega arith in rw (one, at-1 H) (stands L (omega arith) (omega (arith, L .long)) (begin-1 (L .book))));
       }
 
   module _ (h : 2 ≤ p) {r : ℕ} (W : Found words places p r) where
-    pub walked-found : (r ≡ 0 → ⊥) → Walked p bound nodes count places words n words n (r + 1)
+    pub walked-found : (r ≡ 0 → ⊥) → Walked Any p bound nodes count places words n words n (r + 1)
     walked-found s =
         let W′ = W .among n T in
         record {
           went = record { long = refl; table = T; low = λ q. omega (arith, W′ .low) };
-          sound = λ B C lookup H m t L.
+          sound = λ B C lookup H m t f L.
               let e = found-some L H p h m W′ (omega arith) in
               let low : r + 1 < length C = omega (arith, W′ .low, L .long) in
               rw (place-held C (at B p) (L .book) (rw e at (held-at C (L .book) (r + 1) low))) (stands L (omega (arith, W′ .low, T .few, T .small)) low e);
         }
 
-    pub walked-on : r ≡ 0 → {words′ : List ℕ} {n′ r′ : ℕ} → Descended p bound nodes count places words n words′ n′ r′ → Walked p bound nodes count places words n words′ n′ r′
-    walked-on z D = record { went = D .went; sound = λ B C lookup H m t L. D .sound B C lookup H m t (found-none L H p h m (W .among n T) z) L }
+    pub walked-on : r ≡ 0 → {words′ : List ℕ} {n′ r′ : ℕ} → Walked New p bound nodes count places words n words′ n′ r′ → Walked Any p bound nodes count places words n words′ n′ r′
+    walked-on z D = record { went = D .went; sound = λ B C lookup H m t f L. D .sound B C lookup H m t (found-none L H p h m (W .among n T) z) L }
 
-  pub descended-outside : count + 1 < p → Descended p bound nodes count places words n words n none
+  pub descended-outside : count + 1 < p → Walked New p bound nodes count places words n words n none
   descended-outside o = record { went = stopped refl T; sound = λ B C lookup H m t f L. absurd (omega arith) }
 
   module _ (h : 2 ≤ p) where
@@ -71,7 +71,7 @@ module _ (p bound : ℕ) (nodes : List ℕ) (count places : ℕ) (words : List �
     abbrev o : ℕ
     o = getD nodes (3 * (p - 2) + 2) 0
 
-    pub descended-high : bound ≤ item → Descended p bound nodes count places words n words n none
+    pub descended-high : bound ≤ item → Walked New p bound nodes count places words n words n none
     descended-high l = record { went = stopped refl T; sound = λ B C lookup H m t f L. absurd (omega (arith, ap top (at-node H p h m))) }
 
     -- the sides of the node, on words that hold a book
@@ -92,28 +92,28 @@ module _ (p bound : ℕ) (nodes : List ℕ) (count places : ℕ) (words : List �
       first-shorter : (C : List Family) → length (place C (at B z)) ≤ length (place C (at B p))
       first-shorter C = omega (arith, both-shorter C, grown-length (place-grown (place C (at B z)) (at B o)))
 
-    module _ {words₁ : List ℕ} {n₁ r₁ : ℕ} (Z : Walked z item nodes count places words n words₁ n₁ r₁) where
+    module _ {words₁ : List ℕ} {n₁ r₁ : ℕ} (Z : Walked Any z item nodes count places words n words₁ n₁ r₁) where
       -- the without-side finds no place
-      pub descended-first : r₁ ≡ none → Descended p bound nodes count places words n words₁ n₁ none
+      pub descended-first : r₁ ≡ none → Walked New p bound nodes count places words n words₁ n₁ none
       descended-first e =
           record {
             went = stopped (Z .went .long) (Z .went .table);
-            sound = λ B C lookup H m t f L. outgrown (omega (arith, first-shorter H m C, Z .sound B C lookup H (z-held H m) (ordered H m .0) L .short e));
+            sound = λ B C lookup H m t f L. outgrown (omega (arith, first-shorter H m C, Z .sound B C lookup H (z-held H m) (ordered H m .0) tt L .short e));
           }
 
-      module _ (some₁ : r₁ ≡ none → ⊥) {words₂ : List ℕ} {n₂ r₂ : ℕ} (O : Walked o item nodes count places words₁ n₁ words₂ n₂ r₂) where
+      module _ (some₁ : r₁ ≡ none → ⊥) {words₂ : List ℕ} {n₂ r₂ : ℕ} (O : Walked Any o item nodes count places words₁ n₁ words₂ n₂ r₂) where
         long₂ : length words₂ ≡ length words
         long₂ = O .went .long ∙ Z .went .long
 
         module _ {limit : ℕ} {B C : List Family} {lookup : List ℕ} (H : Holds limit B count nodes lookup) (m : p < count + 2) (L : Listed limit B C places n words) where
           first : Listed limit B (place C (at B z)) places n₁ words₁ × ((r₁ < length (place C (at B z))) × (at (place C (at B z)) r₁ ≡ at B z))
-          first = Z .sound B C lookup H (z-held H m) (ordered H m .0) L .listed some₁
+          first = Z .sound B C lookup H (z-held H m) (ordered H m .0) tt L .listed some₁
 
           second : Came limit B (place (place C (at B z)) (at B o)) (at B o) places n₂ words₂ r₂
-          second = O .sound B (place C (at B z)) lookup H (o-held H m) (ordered H m .1) (first .0)
+          second = O .sound B (place C (at B z)) lookup H (o-held H m) (ordered H m .1) tt (first .0)
 
         -- the with-side finds no place
-        pub descended-second : r₂ ≡ none → Descended p bound nodes count places words n words₂ n₂ none
+        pub descended-second : r₂ ≡ none → Walked New p bound nodes count places words n words₂ n₂ none
         descended-second e =
             record {
               went = stopped long₂ (O .went .table);
@@ -163,7 +163,7 @@ module _ (p bound : ℕ) (nodes : List ℕ) (count places : ℕ) (words : List �
                 let K : Book limit (D ++ (node item (at B z) (at B o) ∷ [])) = rw placed at (book-place C (at B p) (L .book) (within H p m) .0) in
                 rw (placed, at-node H p h m) (A .sound B D (node item (at B z) (at B o)) (both .0) (inside H p m) (at-node H p h m) size-put K)
 
-          pub descended-done : Descended p bound nodes count places words n words₃ n₃ r
+          pub descended-done : Walked New p bound nodes count places words n words₃ n₃ r
           descended-done =
               record {
                 went = record { long = A .went .long ∙ long₂; table = A .went .table; low = A .went .low };

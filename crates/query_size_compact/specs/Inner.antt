@@ -83,16 +83,17 @@ pub record DescendAsks (p : ℕ) (nodes : List ℕ) (count : ℕ) (words : List 
   pub asks : WalkAsks nodes count words places n
   pub part : 2 ≤ p
 
--- the family of p is placed in the local book that the table lists
-pub record Walked (p bound : ℕ) (nodes : List ℕ) (count places : ℕ) (words : List ℕ) (n : ℕ) (words′ : List ℕ) (n′ r : ℕ) : Type 0 where
-  pub went : Went places words words′ n′ r
-  pub sound : {limit : ℕ} (B C : List Family) (lookup : List ℕ) → Holds limit B count nodes lookup → p < count + 2 → top (at B p) < bound
-      → Listed limit B C places n words → Came limit B (place C (at B p)) (at B p) places n′ words′ r
+-- what a walk is asked of a family and a local book: anything, or that the book does not hold the family
+abbrev pub Any : List Family → Family → Type 0
+Any C F = Unit {0}
 
--- the same of one that the local book does not hold
-pub record Descended (p bound : ℕ) (nodes : List ℕ) (count places : ℕ) (words : List ℕ) (n : ℕ) (words′ : List ℕ) (n′ r : ℕ) : Type 0 where
+abbrev pub New : List Family → Family → Type 0
+New C F = Held C F → ⊥
+
+-- the family of p is placed in the local book that the table lists, where the two are as asked
+pub record Walked (Asked : List Family → Family → Type 0) (p bound : ℕ) (nodes : List ℕ) (count places : ℕ) (words : List ℕ) (n : ℕ) (words′ : List ℕ) (n′ r : ℕ) : Type 0 where
   pub went : Went places words words′ n′ r
-  pub sound : {limit : ℕ} (B C : List Family) (lookup : List ℕ) → Holds limit B count nodes lookup → p < count + 2 → top (at B p) < bound → (Held C (at B p) → ⊥)
+  pub sound : {limit : ℕ} (B C : List Family) (lookup : List ℕ) → Holds limit B count nodes lookup → p < count + 2 → top (at B p) < bound → Asked C (at B p)
       → Listed limit B C places n words → Came limit B (place C (at B p)) (at B p) places n′ words′ r
 
 -- what is answered for a handle that is held: 7 by its parts, then 6, then its size

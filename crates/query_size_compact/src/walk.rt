@@ -1,6 +1,6 @@
 // The walk over the parts of a family, without-side first; each part is entered once both its sides are. A number is
 // that of a local book: 0 for {}, 1 for {{}}, then the parts as they were entered.
-ghost use Rattle.query_size_compact.specs.Inner.{AppendAsks, Appended, DescendAsks, WalkAsks, Descended, Walked};
+ghost use Rattle.query_size_compact.specs.Inner.{AppendAsks, Appended, DescendAsks, WalkAsks, Any, New, Walked};
 use crate::sizes::size_of;
 use crate::sizes::sum_of;
 use query_parts::entries::enter;
@@ -34,7 +34,7 @@ pub fn descend(
     entered: &mut u32,
 ) -> u32
     requires { ⌜ DescendAsks p (now nodes) count (now table) places (now entered) ⌝ }
-    ensures { λ r. ⌜ Descended p bound (now (nodes .entry)) count places (now (table .entry)) (now (entered .entry)) (now (table .exit)) (now (entered .exit)) r ⌝ }
+    ensures { λ r. ⌜ Walked New p bound (now (nodes .entry)) count places (now (table .entry)) (now (entered .entry)) (now (table .exit)) (now (entered .exit)) r ⌝ }
 {
     if count + 1 < p {
         return NONE;
@@ -68,7 +68,7 @@ fn reach(
     entered: &mut u32,
 ) -> u32
     requires { ⌜ WalkAsks (now nodes) count (now table) places (now entered) ⌝ }
-    ensures { λ r. ⌜ Walked p bound (now (nodes .entry)) count places (now (table .entry)) (now (entered .entry)) (now (table .exit)) (now (entered .exit)) r ⌝ }
+    ensures { λ r. ⌜ Walked Any p bound (now (nodes .entry)) count places (now (table .entry)) (now (entered .entry)) (now (table .exit)) (now (entered .exit)) r ⌝ }
 {
     if p < 2 {
         return p;

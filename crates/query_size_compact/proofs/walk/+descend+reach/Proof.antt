@@ -55,7 +55,7 @@ descend-reach-requires t c κs =
     let at-if2 : descend-lts.Else2 (descend-claims t) (descend-at t) descend.Post = search in
     let at-start : descend-lts.Start (descend-claims t) (descend-at t) descend.Post = search in
     let q = at-start .pre .1 .asks in
-    (omega (arith, at-start .pre .0, at-if2 .if2 .left), record { nodes-long = q .nodes-long; few = q .few; some = q .some; table = q .table })
+    (omega (arith, at-start .pre .0, at-if2 .if2 .left), q)
 
 descend-returns-3 : (t : ℕ) → descend-lts.Need-returns-3 (descend-claims t) (descend-at t) descend.Post
 descend-returns-3 t c = search descended-first
