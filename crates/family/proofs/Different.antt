@@ -32,7 +32,7 @@ distinct_except : (F : Family) (Gs : List Family) → distinct (except F Gs) ≡
 distinct_except F [] = refl
 distinct_except F (G ∷ Gs) =
     by_same G F
-    (λ p e. rw (e, distinct_except F Gs, p) (sym (except_twice F (distinct Gs))))
+    (λ p e. rw (e, distinct_except F Gs) (sym (except_twice F (distinct Gs)) ∙ ap (λ X. except F (except X (distinct Gs))) (sym p)))
     (λ p e. rw (e, distinct_except F Gs) (ap (λ X. G ∷ X) (except_swap G F (distinct Gs))))
 
 -- one more family held is one family less absent
@@ -77,6 +77,7 @@ except_mem F G (H ∷ Hs) m =
     (λ p e. ⊎_elim (λ q. (Memᴰ.head q, λ r. p (sym q ∙ r))) (λ q. let s = except_mem F G Hs q in (Memᴰ.tail s.0, s.1)) (Memᴰ.cases_cons (rw e at m)))
 
 mem_except : (F G : Family) {Hs : List Family} → Memᴰ G Hs → (G ≡ F → ⊥) → Memᴰ G (except F Hs)
+mem_except F G {Hs = []} m n = elim m [ ]
 mem_except F G {Hs = H ∷ Hs} (Memᴰ.head q) n =
     by_same H F (λ p e. absurd (n (q ∙ p))) (λ p e. rw e (Memᴰ.head q))
 mem_except F G {Hs = H ∷ Hs} (Memᴰ.tail m) n =
@@ -88,6 +89,7 @@ distinct_mem G (F ∷ Fs) m =
     ⊎_elim (λ q. Memᴰ.head q) (λ q. Memᴰ.tail (distinct_mem G Fs (except_mem F G (distinct Fs) q).0)) (Memᴰ.cases_cons m)
 
 pub mem_distinct : (G : Family) {Fs : List Family} → Memᴰ G Fs → Memᴰ G (distinct Fs)
+mem_distinct G {Fs = []} m = elim m [ ]
 mem_distinct G {Fs = F ∷ Fs} (Memᴰ.head q) = Memᴰ.head q
 mem_distinct G {Fs = F ∷ Fs} (Memᴰ.tail m) =
     by_same G F (λ p e. Memᴰ.head p) (λ p e. Memᴰ.tail (mem_except F G (mem_distinct G m) p))

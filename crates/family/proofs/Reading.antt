@@ -2,7 +2,7 @@
 -- the bytes, and the records of a book are read back as that book.
 -- A triple is taken exactly when its node is the book's next one, so each step adds one node to a book within the
 -- limit.
-use Prim.Native.Nat.{ℕ, zero, suc, ◌+◌, ◌<◌, ◌≤◌}
+use Prim.Native.Nat.{ℕ, zero, suc, ◌<◌, ◌≤◌}
 use mathlib.Core.Path.{◌≡◌, refl, sym, ap, ◌∙◌}
 use mathlib.Core.Bool.{true, cond}
 use mathlib.Core.List.{List, [], ◌∷◌, ◌++◌, append_assoc, append-nil}
@@ -11,7 +11,7 @@ use native.Mathlib.Omega.{arith}
 use lib.Dec.{T, leb}
 use lib.ListN.{length, length-append}
 use lib.Seq.{get_or-append_seam}
-use borrow.Author.Tests.{lt-ltb, le-ltb, le-leb, ltb-true, ltb-false, leb-true, not_true}
+use borrow.Author.Tests.{lt-ltb, le-ltb, le-leb, ltb-true, ltb-false, leb-true, not-true}
 use Rattle.family.specs.Family.{Family, empty, base, node, top, inhabited, Within}
 use Rattle.family.specs.Book.{at, number, Held, Grown, Book}
 use Rattle.family.specs.Record.{Bytes, front, Triple, triple, item_of, record_bytes, read_record}
@@ -43,7 +43,7 @@ module _ (limit : ℕ) where
         one_some = ltb-true _ _ d;
         zero_low = ltb-true _ _ f;
         one_low = ltb-true _ _ g;
-        new = ltb-false _ _ (not_true _ e);
+        new = ltb-false _ _ (not-true _ e);
       }))))))
 
   pub next_fits : (C : List Family) (i z o : ℕ) → Next limit C i z o → fits limit C (triple i z o) ≡ true

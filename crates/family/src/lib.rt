@@ -1,1 +1,2 @@
 // Families of combinations: this crate is definitions (specs/) and laws (proofs/).
+#![tactic(auto)]

@@ -1,7 +1,7 @@
 -- The lookup of n nodes holds each number once, at the slot where it was entered, and nothing else.
 -- By induction on n: entering takes a slot that was empty, so it moves no earlier number, and emptying it again gives
 -- the lookup of one node less.
-use Rattle.std.proofs.Common.{◌≡◌, ℕ, zero, suc, ◌+◌, ◌-◌, ◌<◌, ◌≤◌, Bool, true, ◌⊎◌, List, length, get_or, set, sym, refl, ap, ◌∙◌, subst, inl, inr, ⊎_elim, arith, length-set, get_or-set_other, get_or-set_same, set-set, eq-eqb, eqb-true}
+use Rattle.std.proofs.Common.{◌≡◌, ℕ, zero, suc, ◌+◌, ◌<◌, ◌≤◌, Bool, true, ◌⊎◌, List, length, get_or, set, sym, refl, ap, ◌∙◌, subst, inl, inr, ⊎_elim, arith, length-set, get_or-set_other, get_or-set_same, set-set, eq-eqb, eqb-true}
 use lib.Seq.{set-get_or}
 use Rattle.words.proofs.Cases.{by_eq}
 use Rattle.words.proofs.Zeroed.{zeros_length, zero_get_d}

@@ -1,10 +1,10 @@
 -- A search for words in the lookup of n nodes finds the slot of the node that has them, and else the first empty slot.
 -- A slot that stops the search before that would have been empty when the node was entered, or would hold an earlier
 -- node with the same words.
-use Rattle.std.proofs.Common.{◌≡◌, ℕ, ◌+◌, ◌*◌, ◌<◌, ◌≤◌, true, false, eqb, ◌⊎◌, List, get_or, sym, ◌∙◌, ⊎_elim, arith, ne_eqb}
+use Rattle.std.proofs.Common.{◌≡◌, ℕ, ◌+◌, ◌*◌, ◌<◌, ◌≤◌, true, false, eqb, List, get_or, sym, ◌∙◌, ⊎_elim, arith, ne_eqb}
 use Rattle.words.proofs.Cases.{by_test, by_lt}
 use Rattle.table.specs.Start.{start_of}
-use Rattle.table.specs.Probe.{scan, has_words_lem, stop_on, probe_of}
+use Rattle.table.specs.Probe.{scan, has_words, stop_on, probe_of}
 use Rattle.table.specs.Entered.{empty_slot, first_free, entered, start_at}
 use Rattle.table.proofs.Starts.{start_lt}
 use Rattle.table.proofs.Scan.{scan_ext}
@@ -60,8 +60,8 @@ module _ (nodes : List ℕ) (len : ℕ) (some : 0 < len) where
             → stop_on nodes n item z o (get_or (entered (start_at nodes len) len n) x 0) ≡ eqb (get_or (entered (start_at nodes len) len n) x 0) 0
         at_empty x e = rw e (stop_low nodes n item z o 0 (omega arith))
 
-        not_words : (k : ℕ) → k < n → has_words_lem nodes (k + 2) item z o ≡ false
-        not_words k l = by_test (has_words_lem nodes (k + 2) item z o) (λ e. absurd (none k l (words_has nodes k item z o e))) (λ e. e)
+        not_words : (k : ℕ) → k < n → has_words nodes (k + 2) item z o ≡ false
+        not_words k l = by_test (has_words nodes (k + 2) item z o) (λ e. absurd (none k l (words_has nodes k item z o e))) (λ e. e)
 
         at_number : (x : ℕ) → Number (start_at nodes len) len n x
             → stop_on nodes n item z o (get_or (entered (start_at nodes len) len n) x 0) ≡ eqb (get_or (entered (start_at nodes len) len n) x 0) 0

@@ -3,7 +3,7 @@
 -- Each is one branch of the test.
 use Rattle.std.proofs.Common.{◌≡◌, ℕ, ◌+◌, ◌-◌, ◌*◌, ◌<◌, ◌≤◌, true, false, ◌&&◌, eqb, List, get_or, ◌∙◌, arith, le-ltb, lt-ltb, eq-eqb, ne_eqb, eqb-true}
 use Rattle.words.proofs.Cases.{and_inv}
-use Rattle.table.specs.Probe.{has_words_lem, stop_on}
+use Rattle.table.specs.Probe.{has_words, stop_on}
 
 module _ (nodes : List ℕ) (count item z o h : ℕ) where
   pub stop_low : h < 2 → stop_on nodes count item z o h ≡ true
@@ -15,20 +15,20 @@ module _ (nodes : List ℕ) (count item z o h : ℕ) where
   stop_high p q = rw (le-ltb h 2 p, lt-ltb (count + 1) h q)
 
   module _ (p : 2 ≤ h) (q : h ≤ count + 1) where
-    pub stop_words : stop_on nodes count item z o h ≡ has_words_lem nodes h item z o
+    pub stop_words : stop_on nodes count item z o h ≡ has_words nodes h item z o
     unfolding stop_on
     stop_words = rw (le-ltb h 2 p, le-ltb (count + 1) h q)
 
     pub stop_item : (get_or nodes (3 * (h - 2)) 0 ≡ item → ⊥) → stop_on nodes count item z o h ≡ false
-    unfolding has_words_lem
+    unfolding has_words
     stop_item a = stop_words ∙ rw (ne_eqb _ _ a)
 
     pub stop_zero : get_or nodes (3 * (h - 2)) 0 ≡ item → (get_or nodes (3 * (h - 2) + 1) 0 ≡ z → ⊥) → stop_on nodes count item z o h ≡ false
-    unfolding has_words_lem
+    unfolding has_words
     stop_zero a b = stop_words ∙ rw (eq-eqb _ _ a, ne_eqb _ _ b)
 
     pub stop_one : get_or nodes (3 * (h - 2)) 0 ≡ item → get_or nodes (3 * (h - 2) + 1) 0 ≡ z → stop_on nodes count item z o h ≡ eqb (get_or nodes (3 * (h - 2) + 2) 0) o
-    unfolding has_words_lem
+    unfolding has_words
     stop_one a b = stop_words ∙ rw (eq-eqb _ _ a, eq-eqb _ _ b)
 
 -- node number k + 2 has these words
@@ -41,12 +41,12 @@ module _ (nodes : List ℕ) (k item z o : ℕ) where
   back : k + 2 - 2 ≡ k
   back = omega arith
 
-  pub has_words_lem : Has nodes k item z o → has_words_lem nodes (k + 2) item z o ≡ true
-  unfolding has_words_lem
+  pub has_words_lem : Has nodes k item z o → has_words nodes (k + 2) item z o ≡ true
+  unfolding has_words
   has_words_lem w = rw (back, eq-eqb _ _ w.item_is, eq-eqb _ _ w.zero_is, eq-eqb _ _ w.one_is)
 
-  pub words_has : has_words_lem nodes (k + 2) item z o ≡ true → Has nodes k item z o
-  unfolding has_words_lem
+  pub words_has : has_words nodes (k + 2) item z o ≡ true → Has nodes k item z o
+  unfolding has_words
   words_has e =
       let a = eqb (get_or nodes (3 * k) 0) item in
       let b = eqb (get_or nodes (3 * k + 1) 0) z in
@@ -57,5 +57,5 @@ module _ (nodes : List ℕ) (k item z o : ℕ) where
   pub stops_past : (count : ℕ) → count ≤ k → stop_on nodes count item z o (k + 2) ≡ true
   stops_past count h = stop_high nodes count item z o (k + 2) (omega arith) (omega arith)
 
-  pub stops_in : (count : ℕ) → k < count → stop_on nodes count item z o (k + 2) ≡ has_words_lem nodes (k + 2) item z o
+  pub stops_in : (count : ℕ) → k < count → stop_on nodes count item z o (k + 2) ≡ has_words nodes (k + 2) item z o
   stops_in count h = stop_words nodes count item z o (k + 2) (omega arith) (omega arith)

@@ -1,4 +1,6 @@
 // Lists of 32-bit words: zeroing a part. The case splits that all proofs use stand in proofs/.
+#![tactic(auto)]
+
 ghost use Rattle.std.specs.Prelude.{◌≡◌, ◌/◌, ◌*◌, length};
 ghost use Rattle.words.specs.Words.{zeroed};
 ghost use Rattle.words.specs.Inner.{Stretch};
