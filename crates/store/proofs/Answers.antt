@@ -1,6 +1,6 @@
 -- Answers: a handle or a refusal, never both, and what each says of the book.
 -- The two constructors differ, so an equation with one rules the other out.
-use Prim.Native.Nat.{ℕ, ◌≤◌, ◌-◌}
+use Prim.Native.Nat.{ℕ, ◌≤◌}
 use mathlib.Core.Path.{◌≡◌, refl}
 use mathlib.Core.List.{List}
 use native.Mathlib.Omega.{arith}
@@ -8,7 +8,6 @@ use lib.ListN.{length}
 use Rattle.family.specs.Family.{Family}
 use Rattle.store.specs.declared.record.Refusal.{Refusal}
 use Rattle.store.specs.Inner.{Reply, Handle, Refused, Handed, Outcome, gave, full}
-use Rattle.family.specs.Book.{at}
 use Rattle.store.specs.declared.record.Refusal.TheVariants.{Full, Damaged}
 
 pub not_both {ℓ} : {A : Type ℓ} {a : Reply} (h : ℕ) (x : Refusal) → a ≡ Handle h → a ≡ Refused x → A

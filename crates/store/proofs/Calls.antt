@@ -13,7 +13,7 @@ use Rattle.family.proofs.Different.{place_length}
 use Rattle.words.proofs.Cases.{clash}
 use Rattle.store.specs.declared.record.Store.{Store}
 use Rattle.store.specs.declared.record.Refusal.{Refusal}
-use Rattle.store.specs.declared.record.Refusal.TheVariants.{Full, Damaged}
+use Rattle.store.specs.declared.record.Refusal.TheVariants.{Damaged}
 use Rattle.store.specs.declared.record.PlaceAnswer.{PlaceAnswer}
 use Rattle.store.specs.declared.record.PlaceAnswer.TheVariants.{Refused}
 use Rattle.store.specs.declared.record.Placed.{Placed}
@@ -25,7 +25,7 @@ use Rattle.store.specs.Placing.{cost_of, too_large, place_answer}
 use Rattle.store.specs.Promise.{Left, placing, cache_refused, PlaceCall}
 use Rattle.store.specs.Inner.{fill_in, Roomy}
 use Rattle.store.proofs.Fitting.{fits_true, true_fits}
-use Rattle.store.proofs.Held.{top_at, within}
+use Rattle.store.proofs.Held.{top_at_lem, within}
 use Rattle.store.proofs.Decoding.{sound_holds}
 
 pub placed_is : {r : Placed} {s : Store} {a : PlaceAnswer} → r.store ≡ s → r.answer ≡ a → r ≡ record { store = s; answer = a }
@@ -111,7 +111,7 @@ module _ (s : Store) (nodes lookup cache : List ℕ) where
   pub call_high : (refusal : ℕ) (F : Family) (r : Placed) → fitting s (length nodes) (length lookup) ≡ true → (p : ℕ) → p ≤ s.count + 1 → s.limit < top_at nodes p → (x : Refusal) → r.store ≡ s → r.answer ≡ Refused x
       → PlaceCall refusal F s nodes lookup cache r nodes lookup cache
   call_high refusal F r e p held high x es ea =
-      call_unsound refusal F r e (λ S. let H = sound_holds S in omega (arith, top_at H p (omega arith), (within H p (omega arith)).low)) x es ea
+      call_unsound refusal F r e (λ S. let H = sound_holds S in omega (arith, top_at_lem H p (omega arith), (within H p (omega arith)).low)) x es ea
 
   -- refused before anything is placed
   pub call_refused : (n : ℕ) (F : Family) (r : Placed) (x : Refusal) → fitting s (length nodes) (length lookup) ≡ true → refusal_number x ≡ n → (n ≡ 5 → ⊥)

@@ -18,7 +18,7 @@ use Rattle.store.specs.declared.record.Store.{Store}
 use Rattle.store.specs.Words.{book_of}
 use Rattle.store.specs.Sound.{Node, Sound}
 use Rattle.store.specs.Inner.{Holds}
-use Rattle.store.proofs.Held.{top_at, within, positive_one, node_handle, node_has}
+use Rattle.store.proofs.Held.{top_at_lem, within, positive_one, node_handle, node_has}
 use Rattle.store.proofs.Extending.{extended}
 
 module _ {limit : ℕ} {B : List Family} {n : ℕ} {nodes lookup : List ℕ} (H : Holds limit B n nodes lookup) where
@@ -69,8 +69,8 @@ module _ (limit : ℕ) (limit_low : limit ≤ largest_item) (nodes : List ℕ) (
       fits =
           record {
             ordered = (
-              omega (arith, N.zero_below, top_at H z N.zero_before),
-              omega (arith, N.one_below, top_at H o N.one_before),
+              omega (arith, N.zero_below, top_at_lem H z N.zero_before),
+              omega (arith, N.one_below, top_at_lem H o N.one_before),
               positive_one H o N.one_before N.one_some,
               (within H z N.zero_before).ordered,
               (within H o N.one_before).ordered,

@@ -7,7 +7,7 @@ use mathlib.Core.List.{List, [], ◌∷◌, ◌++◌}
 use native.Mathlib.Omega.{arith}
 use lib.ListN.{length, get_or, take, drop, replicate, length-drop, take-append-drop, drop_of_length-le}
 use lib.Seq.{drop-cons, take-add, ext_get_or, get_or-drop, get_or-take, length-take-le, drop-drop}
-use Rattle.family.specs.Family.{Family, empty, node}
+use Rattle.family.specs.Family.{Family, empty}
 use Rattle.family.specs.Book.{at, number}
 use Rattle.family.specs.Record.{Triple, triple}
 use Rattle.family.specs.File.{triples_of}

@@ -6,7 +6,7 @@ use mathlib.Core.Path.{◌≡◌, sym, ◌∙◌}
 use mathlib.Core.Bool.{Bool, true, false, not, and-false}
 use native.Mathlib.Omega.{arith}
 use lib.Dec.{eqb, ltb, leb}
-use borrow.Author.Tests.{eq-eqb, ne_eqb, lt-ltb, le-ltb, le-leb, lt-leb, eqb-true, ltb-true, leb-true, leb-false, not_true, not_false}
+use borrow.Author.Tests.{eq-eqb, ne_eqb, lt-ltb, le-ltb, le-leb, lt-leb, eqb-true, ltb-true, leb-true, leb-false, not-true, not-false}
 use Rattle.words.proofs.Cases.{by_lt, and_inv}
 use Rattle.store.specs.declared.record.Store.{Store}
 use Rattle.store.specs.Capacity.{capacity_of, is_limit, fitting}
@@ -57,10 +57,10 @@ module _ (s : Store) (nodes lookup : ℕ) where
 
 -- what a test refused or passed says, by the equation that its function ensures
 pub test_refused : {x y : Bool} → x ≡ y → not x ≡ true → y ≡ false
-test_refused {x} e d = sym e ∙ not_true x d
+test_refused {x} e d = sym e ∙ not-true x d
 
 pub test_passed : {x y : Bool} → x ≡ y → not x ≡ false → y ≡ true
-test_passed {x} e d = sym e ∙ not_false x d
+test_passed {x} e d = sym e ∙ not-false x d
 
 pub handle_refused : {x : Bool} (h n : ℕ) → x ≡ leb h (n + 1) → not x ≡ true → n + 1 < h
 handle_refused h n e d = leb-false h (n + 1) (test_refused e d)

@@ -52,10 +52,10 @@ module _ {limit : ℕ} {B : List Family} {n : ℕ} {nodes lookup : List ℕ} (H 
   pub at_node : (p : ℕ) → 2 ≤ p → p < n + 2 → at B p ≡ node (get_or nodes (3 * (p - 2)) 0) (at B (get_or nodes (3 * (p - 2) + 1) 0)) (at B (get_or nodes (3 * (p - 2) + 2) 0))
   at_node p h l = ap (λ k. at B k) (omega arith) ∙ (entry p h l).is
 
-  pub top_at : (p : ℕ) → p < n + 2 → top_at nodes p ≡ top (at B p)
-  top_at zero l = top_leaf nodes 0 (omega arith) ∙ sym (ap top at_0)
-  top_at (suc zero) l = top_leaf nodes 1 (omega arith) ∙ sym (ap top at_1)
-  top_at (suc (suc p)) l = top_node nodes (suc (suc p)) (omega arith) ∙ sym (ap top (at_node (suc (suc p)) (omega arith) l))
+  pub top_at_lem : (p : ℕ) → p < n + 2 → top_at nodes p ≡ top (at B p)
+  top_at_lem zero l = top_leaf nodes 0 (omega arith) ∙ sym (ap top at_0)
+  top_at_lem (suc zero) l = top_leaf nodes 1 (omega arith) ∙ sym (ap top at_1)
+  top_at_lem (suc (suc p)) l = top_node nodes (suc (suc p)) (omega arith) ∙ sym (ap top (at_node (suc (suc p)) (omega arith) l))
 
   -- a handle that is a node's is no terminal
   pub node_handle : (h i : ℕ) (a b : Family) → h < n + 2 → at B h ≡ node i a b → 2 ≤ h
@@ -111,4 +111,4 @@ module _ {limit : ℕ} {B : List Family} {n : ℕ} {nodes lookup : List ℕ} (H 
 
 -- a handle whose top is at most t
 pub low_at : {limit : ℕ} {B : List Family} {n : ℕ} {nodes lookup : List ℕ} → Holds limit B n nodes lookup → (h t : ℕ) → h ≤ n + 1 → top_at nodes h ≤ t → Within t (at B h)
-low_at H h t l m = record { ordered = (within H h (omega arith)).ordered; low = omega (arith, top_at H h (omega arith)) }
+low_at H h t l m = record { ordered = (within H h (omega arith)).ordered; low = omega (arith, top_at_lem H h (omega arith)) }

@@ -2,7 +2,7 @@
 -- of the recursion.
 -- Operations 4 to 6 are one combination by a rule on memberships; 1 to 3 are the three restrictions by an item; 7 and 8
 -- are the parts of either parity.
-use Prim.Native.Nat.{ℕ, suc, ◌-◌, ◌≤◌, ◌<◌}
+use Prim.Native.Nat.{ℕ, suc, ◌≤◌, ◌<◌}
 use mathlib.Core.Path.{◌≡◌, refl, sym, ap, ◌∙◌}
 use mathlib.Core.Bool.{Bool, true, false, ◌&&◌, ◌||◌, or_comm, and_comm}
 use mathlib.Core.List.{List}

@@ -1,6 +1,6 @@
 -- A sound store from a book that its words hold, and that what Fresh leaves is sound.
 -- Each rule of a sound store is read off the book's laws; a lookup and a cache of zeros are those of no node.
-use Prim.Native.Nat.{ℕ, ◌+◌, ◌*◌, ◌-◌, ◌/◌, ◌≤◌, ◌<◌}
+use Prim.Native.Nat.{ℕ, ◌+◌, ◌*◌, ◌/◌, ◌≤◌, ◌<◌}
 use mathlib.Core.Path.{◌≡◌, refl, sym, ap, ◌∙◌}
 use mathlib.Core.List.{List, []}
 use mathlib.Core.Logic.{inl}
@@ -19,7 +19,7 @@ use Rattle.store.specs.Words.{book_of}
 use Rattle.store.specs.Cache.{Group, True}
 use Rattle.store.specs.Sound.{Node, Sound}
 use Rattle.store.specs.Inner.{Holds}
-use Rattle.store.proofs.Held.{within, top_at, one_positive, words_apart}
+use Rattle.store.proofs.Held.{within, top_at_lem, one_positive, words_apart}
 use Rattle.store.proofs.Decoding.{decoded}
 
 module _ {limit : ℕ} {B : List Family} {n : ℕ} {nodes lookup : List ℕ} (H : Holds limit B n nodes lookup) where
@@ -36,8 +36,8 @@ module _ {limit : ℕ} {B : List Family} {n : ℕ} {nodes lookup : List ℕ} (H 
         one_some = one_positive H o lo w.ordered.2;
         zero_before = E.zero_before;
         one_before = E.one_before;
-        zero_below = omega (arith, w.ordered.0, top_at H z lz);
-        one_below = omega (arith, w.ordered.1, top_at H o lo);
+        zero_below = omega (arith, w.ordered.0, top_at_lem H z lz);
+        one_below = omega (arith, w.ordered.1, top_at_lem H o lo);
       }
 
 pub holds_sound : {B : List Family} {nodes lookup cache : List ℕ} (s : Store) → 1 ≤ s.limit → Holds s.limit B s.count nodes lookup → s.capacity ≡ capacity_of (length nodes) → s.capacity < length lookup → s.count ≤ s.capacity

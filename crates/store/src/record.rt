@@ -3,7 +3,7 @@ ghost use Rattle.std.specs.Prelude.{◌≡◌, true, false, ◌+◌, leb};
 ghost use Rattle.store.specs.Capacity.{capacity_of, is_limit, fitting, counting};
 
 // The refusals, numbered 1 to 11 in this order, and 13.
-#[derive(Drop)]
+#[derive(Clone, Copy)]
 pub enum Refusal {
     Tiny,
     ShortLookup,
@@ -22,7 +22,7 @@ pub enum Refusal {
 // The record, laid out as C has it: how many nodes there is room for, how many are held, and the largest item that
 // they may have.
 #[repr(C)]
-#[derive(Drop)]
+#[derive(Clone, Copy)]
 pub struct Store {
     pub capacity: u32,
     pub count: u32,
@@ -30,14 +30,14 @@ pub struct Store {
 }
 
 // What a call that places a family answers: its handle and how many nodes were added, or a refusal.
-#[derive(Drop)]
+#[derive(Clone, Copy)]
 pub enum PlaceAnswer {
     Handle(u32, u32),
     Refused(Refusal),
 }
 
 // What a call that places a family gives back.
-#[derive(Drop)]
+#[derive(Clone, Copy)]
 pub struct Placed {
     pub store: Store,
     pub answer: PlaceAnswer,

@@ -5,7 +5,7 @@ ghost use Rattle.store.specs.Tests.{test_number, item_test, Found};
 use crate::record::{Refusal, Store};
 
 // What tests find: nothing, or what refuses the call.
-#[derive(Drop)]
+#[derive(Clone, Copy)]
 pub enum Test {
     Clear,
     Refuses(Refusal),

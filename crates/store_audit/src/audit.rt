@@ -9,7 +9,7 @@ use store::record::Store;
 use words::zero_groups;
 
 // What Audit gives back: the record as it came, and whether the store is sound.
-#[derive(Drop)]
+#[derive(Clone, Copy)]
 pub struct Audited {
     pub store: Store,
     pub sound: bool,

@@ -1,4 +1,6 @@
 // Fresh, Empty and Base.
+#![tactic(auto)]
+
 ghost use Rattle.std.specs.Prelude.{◌≡◌};
 ghost use Rattle.store_fresh.specs.Promise.{no_store, FreshCall};
 
@@ -6,14 +8,14 @@ use store::record::{Refusal, Store, capacity_of, is_limit};
 use words::{zero, zero_groups};
 
 // What Fresh answers.
-#[derive(Drop)]
+#[derive(Clone, Copy)]
 pub enum FreshAnswer {
     Done,
     Refused(Refusal),
 }
 
 // What Fresh gives back.
-#[derive(Drop)]
+#[derive(Clone, Copy)]
 pub struct Freshened {
     pub store: Store,
     pub answer: FreshAnswer,

@@ -63,7 +63,7 @@ module _ (s : Fill) (nodes lookup : List ℕ) (i z o : ℕ) (A : NodeAsks s node
     -- a handle that `make` gave is held
     given : (x : Made) → m ≡ x → (h : ℕ) → answer_by x ≡ Handle h → h ≤ held_after s.count x + 1
     given (Found k) e h d = omega (arith, (M.found_is k e).0, handle_is d)
-    given (New k) e h d = omega (arith, M.New-is k e, handle_is d)
+    given (New k) e h d = omega (arith, M.new_is k e, handle_is d)
     given NoRoom e h d = refused_not h refl d
     given Bad e h d = damaged_not h refl d
 

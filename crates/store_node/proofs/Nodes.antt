@@ -1,7 +1,7 @@
 -- Each way out of `make`: where the words hold a book the probe's slot tells whether the book holds the node, so it
 -- is found, new at the book's end, or has no room, and never damaged.
 -- A new node's words and slot give the words of the book with that node.
-use Prim.Native.Nat.{ℕ, suc, ◌+◌, ◌*◌, ◌-◌, ◌≤◌, ◌<◌}
+use Prim.Native.Nat.{ℕ, suc, ◌+◌, ◌*◌, ◌≤◌, ◌<◌}
 use mathlib.Core.Path.{◌≡◌, refl, sym, ap, ◌∙◌}
 use mathlib.Core.List.{List, [], ◌∷◌, ◌++◌}
 use mathlib.Core.Logic.{⊎_elim}

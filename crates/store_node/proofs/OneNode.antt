@@ -9,7 +9,6 @@ use Rattle.family.specs.Book.{at, place, made}
 use Rattle.family.proofs.Placing.{place_mk}
 use Rattle.store_node.specs.Inner.{NodeIt}
 use Rattle.store.specs.Inner.{Fill, Reached, Holds, RanPlain}
-use Rattle.store.proofs.Held.{held}
 use Rattle.store.proofs.Plain.{place_at}
 
 -- placing the node of two held sides

@@ -1,6 +1,6 @@
 -- What making a node promises: on any words that fit, and where the words hold a book. A reader of the promises can
 -- pass this page over.
-use Rattle.std.specs.Prelude.{ℕ, ◌+◌, ◌≤◌, ◌-◌, ◌<◌, ◌*◌, ◌≡◌, List, [], ◌∷◌, ◌++◌, length, set}
+use Rattle.std.specs.Prelude.{ℕ, ◌+◌, ◌≤◌, ◌<◌, ◌*◌, ◌≡◌, List, [], ◌∷◌, ◌++◌, length, set}
 use Rattle.family.specs.Family.{Family, node, Within, top, mk, largest_item}
 use Rattle.family.specs.Book.{at, number, made}
 use Rattle.store.specs.declared.record.Refusal.TheVariants.{Full, Damaged}

@@ -6,7 +6,7 @@ ghost use Rattle.store_node.specs.Inner.{SlotAsks, EnteredIt, NodeAsks, MadeIt};
 use table::probe::probe;
 
 // What making a node comes to: found among the nodes, a new node, no room, or words that no sound store has.
-#[derive(Drop)]
+#[derive(Clone, Copy)]
 pub enum Made {
     Found(u32),
     New(u32),

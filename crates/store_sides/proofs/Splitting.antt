@@ -8,7 +8,7 @@ use mathlib.Core.List.{List}
 use native.Mathlib.Omega.{arith}
 use lib.ListN.{get_or}
 use borrow.Author.Tests.{eq-eqb}
-use Rattle.family.specs.Family.{Family, node, top, Within, largest_item}
+use Rattle.family.specs.Family.{Family, node, Within, largest_item}
 use Rattle.family.specs.Operation.{lacking, holding}
 use Rattle.family.specs.Book.{at}
 use Rattle.family.proofs.Diagrams.{lacking_above, holding_above}
@@ -16,7 +16,7 @@ use Rattle.words.proofs.Cases.{by_lt}
 use Rattle.store.specs.Words.{top_at}
 use Rattle.store.specs.Inner.{Holds, Added}
 use Rattle.store_sides.specs.Inner.{Low, Halves}
-use Rattle.store.proofs.Held.{at_0, top_leaf, top_node, top_at, within, entry, at_node}
+use Rattle.store.proofs.Held.{at_0, top_leaf, top_node, top_at_lem, within, entry, at_node}
 use Rattle.store.proofs.Growing.{added_self, added_trans, added_top}
 
 -- what is low now
@@ -33,11 +33,11 @@ low_top {p = p} h l = record { falls = λ B m words lookup K H. omega (arith, ad
 
 -- a book's items are within its limit, and no limit is above the largest item
 pub low_largest : {nodes : List ℕ} {n p : ℕ} → p ≤ n + 1 → Low nodes n (largest_item + 1) p
-low_largest {p = p} h = record { falls = λ B m words lookup K H. let l = K.grows in omega (arith, top_at H p (omega arith), (within H p (omega arith)).low, H.limit_low) }
+low_largest {p = p} h = record { falls = λ B m words lookup K H. let l = K.grows in omega (arith, top_at_lem H p (omega arith), (within H p (omega arith)).low, H.limit_low) }
 
 module _ (nodes : List ℕ) (n p level : ℕ) (lp : p ≤ n + 1) (some : 0 < level) where
   below_top : {limit : ℕ} {B : List Family} {lookup : List ℕ} → Holds limit B n nodes lookup → top_at nodes p < level → Within (level - 1) (at B p)
-  below_top H l = record { ordered = (within H p (omega arith)).ordered; low = omega (arith, top_at H p (omega arith)) }
+  below_top H l = record { ordered = (within H p (omega arith)).ordered; low = omega (arith, top_at_lem H p (omega arith)) }
 
   one_level : suc (level - 1) ≡ level
   one_level = omega arith
@@ -75,8 +75,8 @@ module _ (nodes : List ℕ) (n p level : ℕ) (lp : p ≤ n + 1) (some : 0 < lev
         let w = rw (is_node H) at (within H p (omega arith)) in
         let l = zero_inside H in
         let m = one_inside H in (
-          omega (arith, top_at H (get_or nodes (3 * (p - 2) + 1) 0) (omega arith), w.ordered.0),
-          omega (arith, top_at H (get_or nodes (3 * (p - 2) + 2) 0) (omega arith), w.ordered.1),
+          omega (arith, top_at_lem H (get_or nodes (3 * (p - 2) + 1) 0) (omega arith), w.ordered.0),
+          omega (arith, top_at_lem H (get_or nodes (3 * (p - 2) + 2) 0) (omega arith), w.ordered.1),
         )
 
 module _ (nodes : List ℕ) (n p level : ℕ) (lp : p ≤ n + 1) (some : 0 < level) (high : level ≤ top_at nodes p) (fits : top_at nodes p ≤ level) where

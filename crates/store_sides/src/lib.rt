@@ -1,4 +1,6 @@
 // Reading nodes: the top of a handle, and its two sides at an item. Every child is tested before it is handed on.
+#![tactic(auto)]
+
 ghost use Rattle.std.specs.Prelude.{◌≡◌, ◌+◌, ◌*◌, ◌<◌};
 ghost use Rattle.store.specs.Words.{top_at};
 ghost use Rattle.store_sides.specs.Inner.{TopAsks, CofactorsAsks, CofactorsOf, SidesAsks, SidesOf};
@@ -15,7 +17,7 @@ pub fn top_of(nodes: &[u32], count: u32, p: u32) -> u32
 }
 
 // The two sides of a family at an item; or words that no sound store has.
-#[derive(Drop)]
+#[derive(Clone, Copy)]
 pub enum Cofactors {
     Two { zero: u32, one: u32 },
     Broken,
@@ -45,7 +47,7 @@ pub fn cofactors_at(nodes: &[u32], count: u32, p: u32, top: u32, level: u32) -> 
 }
 
 // The two sides with their tops, which are below the item; or words that no sound store has.
-#[derive(Drop)]
+#[derive(Clone, Copy)]
 pub enum Sides {
     Two {
         zero: u32,

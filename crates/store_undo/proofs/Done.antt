@@ -23,7 +23,7 @@ use Rattle.store.specs.Capacity.{capacity_of, counting, fitting}
 use Rattle.store.specs.Refusals.{refusal_number, refused_by, given_by}
 use Rattle.store.specs.Words.{book_of, lookup_of}
 use Rattle.store.specs.Sound.{Sound}
-use Rattle.store.specs.Placing.{cost_of, too_large_lem, place_answer, place_book}
+use Rattle.store.specs.Placing.{cost_of, too_large, place_answer, place_book}
 use Rattle.store.specs.Promise.{leaves, placing, cache_refused, PlaceCall}
 use Rattle.store_undo.specs.Inner.{RolledBack, Finished}
 use Rattle.store.specs.Coded.{answer_of, reached_as}
@@ -54,7 +54,7 @@ module _ (s : Store) (nodes lookup cache : List ℕ) where
         given : Handed s.limit (place (book_of nodes s.count) (F (book_of nodes s.count))) (F (book_of nodes s.count)) h held nodes₁ lookup₁
         given = handed_of eh (R.sound (book_of nodes s.count) low (sound_holds S) S.cached)
 
-        fits : too_large_lem s.capacity (book_of nodes s.count) (F (book_of nodes s.count)) ≡ false
+        fits : too_large s.capacity (book_of nodes s.count) (F (book_of nodes s.count)) ≡ false
         fits = not_large s.capacity (book_of nodes s.count) (F (book_of nodes s.count)) s.count (sound_holds S).size S.within (omega (arith, given.holds.size, K.fits))
 
         past : drop (3 * s.capacity) nodes₁ ≡ drop (3 * s.capacity) nodes
@@ -146,7 +146,7 @@ module _ (s : Store) (nodes lookup cache : List ℕ) where
         same_lookup : lookup₂ ≡ lookup
         same_lookup = undone_lookup roomy K U (sound_holds S) over.holds
 
-        too_large_lem : too_large_lem s.capacity (book_of nodes s.count) (F (book_of nodes s.count)) ≡ true
+        too_large_lem : too_large s.capacity (book_of nodes s.count) (F (book_of nodes s.count)) ≡ true
         too_large_lem = large s.capacity (book_of nodes s.count) (F (book_of nodes s.count)) s.count (sound_holds S).size S.within over.big
 
         full_left : leaves r nodes₂ lookup₂ ≡ placing 0 (F (book_of nodes s.count)) s nodes lookup

@@ -1,4 +1,6 @@
 // Taking back the newest nodes, and the end of a call that places.
+#![tactic(auto)]
+
 ghost use Rattle.store.specs.Capacity.{counting};
 ghost use Rattle.store_undo.specs.Inner.{UndoAsks, RolledBack, Finished};
 
