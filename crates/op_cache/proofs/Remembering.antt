@@ -9,7 +9,6 @@ use native.Mathlib.Omega.{arith}
 use lib.ListN.{length, get_or, set, length-set}
 use lib.Seq.{get_or-set_same, get_or-set_other}
 use Rattle.family.specs.Family.{Family}
-use Rattle.family.specs.Book.{at}
 use Rattle.words.proofs.Cases.{by_eq}
 use Rattle.store.specs.Cache.{Group, Truth, True}
 use Rattle.op_cache.specs.declared.Call.{Call}

@@ -1,16 +1,18 @@
 // The cache: groups of four words, operation, two operands, result.
+#![tactic(auto)]
+
 ghost use Rattle.std.specs.Prelude.{◌/◌, ◌<◌, ◌≤◌};
 ghost use Rattle.op_cache.specs.Inner.{RecallOf, Remembered};
 
 // An operation by its number, with its two operands.
-#[derive(Drop)]
+#[derive(Clone, Copy)]
 pub struct Call {
     pub op: u32,
     pub p: u32,
     pub q: u32,
 }
 
-#[derive(Drop)]
+#[derive(Clone, Copy)]
 pub enum Recalled {
     Hit(u32),
     Miss,

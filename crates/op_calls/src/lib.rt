@@ -1,4 +1,6 @@
 // Any of the six operations.
+#![tactic(auto)]
+
 ghost use Rattle.op_promise.specs.Promise.{number_of, OperationCall};
 
 use op_families::calls::{diff, intsec, union};

@@ -5,8 +5,7 @@ use Prim.Native.Nat.{ℕ, zero, suc, ◌+◌, ◌≤◌, ◌<◌, max}
 use mathlib.Core.Path.{◌≡◌}
 use mathlib.Core.List.{List}
 use native.Mathlib.Omega.{arith}
-use Rattle.family.specs.Family.{Family, top}
-use Rattle.family.specs.Book.{at}
+use Rattle.family.specs.Family.{Family}
 use Rattle.store.specs.Words.{top_at}
 use Rattle.store.specs.Inner.{Holds}
 use Rattle.store.proofs.Held.{within, at_node, top_node}

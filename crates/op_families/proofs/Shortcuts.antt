@@ -3,9 +3,8 @@
 use Prim.Native.Nat.{ℕ, ◌+◌, ◌≤◌}
 use mathlib.Core.Path.{◌≡◌, sym, ◌∙◌}
 use mathlib.Core.List.{List}
-use mathlib.Core.Logic.{◌⊎◌, ⊎_elim}
+use mathlib.Core.Logic.{⊎_elim}
 use native.Mathlib.Omega.{arith}
-use Rattle.family.specs.Book.{at}
 use Rattle.store.specs.Coded.{answer_of, reached_as}
 use Rattle.store.specs.Inner.{Handle, Fill, Reached, Ran}
 use Rattle.store.proofs.Codes.{coded_held}

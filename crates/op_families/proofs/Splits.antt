@@ -12,7 +12,7 @@ use Rattle.store.proofs.Naming.{named_families, families_step, families_within}
 use Rattle.store.specs.Inner.{Fill}
 use Rattle.op_families.specs.Inner.{FamilyCall, ApplyAsks}
 use Rattle.op_step.proofs.Steps.{Taken, Split}
-use Rattle.store.proofs.Held.{top_at, within, low_at}
+use Rattle.store.proofs.Held.{top_at_lem, within, low_at}
 use Rattle.store_sides.proofs.Splitting.{low_now}
 
 module _ {call : Call} {bound : ℕ} {s : Fill} {nodes lookup : List ℕ} (A : ApplyAsks call bound s nodes lookup) where
@@ -39,7 +39,7 @@ module _ {call : Call} {bound : ℕ} {s : Fill} {nodes lookup : List ℕ} (A : A
         taken = taken_families;
         other = record { operation = (omega arith, omega arith); first = omega (arith, K.first.one_within); second = (λ k. absurd (omega arith), λ k. omega (arith, K.second.one_within), λ k. absurd (omega arith)) };
         level_within = λ B H.
-            omega (arith, K.level_is, top_at H call.p (omega arith), top_at H call.q (omega arith), (within H call.p (omega arith)).low, (within H call.q (omega arith)).low);
+            omega (arith, K.level_is, top_at_lem H call.p (omega arith), top_at_lem H call.q (omega arith), (within H call.p (omega arith)).low, (within H call.q (omega arith)).low);
         is = λ B H.
             named_families call.op B call.p call.q l m
             ∙ families_step call.op level (at B call.p) (at B call.q) (low_at H call.p level I.first (omega (arith, K.level_is))) (low_at H call.q level I.second (omega (arith, K.level_is))) K.some

@@ -22,7 +22,7 @@ fn larger(a: u32, b: u32) -> u32
 }
 
 // The larger top of two families with the sides of both at it; or words that no sound store has.
-#[derive(Drop)]
+#[derive(Clone, Copy)]
 pub enum Fork {
     Two {
         level: u32,

@@ -8,7 +8,7 @@ use native.Mathlib.Omega.{arith}
 use Rattle.family.specs.Family.{top}
 use Rattle.family.specs.Book.{at}
 use Rattle.store_sides.specs.Inner.{TwoSides}
-use Rattle.store.proofs.Held.{top_at, within, low_at}
+use Rattle.store.proofs.Held.{top_at_lem, within, low_at}
 use Rattle.op_cache.specs.declared.Call.{Call}
 use Rattle.store.proofs.Naming.{named_item, restrict_step, restrict_within}
 use Rattle.store.specs.Coded.{reached_as}
@@ -41,10 +41,10 @@ module _ {call : Call} {level : ℕ} {s : Fill} {nodes lookup : List ℕ} (E : I
       record {
         taken = taken_item call.p I.held;
         other = taken_item o K.halves.one_within;
-        level_within = λ B H. omega (arith, E.asks.level_is, top_at H call.p (omega arith), (within H call.p (omega arith)).low);
+        level_within = λ B H. omega (arith, E.asks.level_is, top_at_lem H call.p (omega arith), (within H call.p (omega arith)).low);
         is = λ B H.
             named_item call.op B call.p call.q (omega arith)
-            ∙ restrict_step call.op call.q level (at B call.p) (sym (top_at H call.p (omega arith)) ∙ sym E.asks.level_is) E.below
+            ∙ restrict_step call.op call.q level (at B call.p) (sym (top_at_lem H call.p (omega arith)) ∙ sym E.asks.level_is) E.below
             ∙ rw (← K.halves.lacks B lookup H, ← K.halves.holds B lookup H, named_item call.op B z call.q (omega arith), named_item call.op B o call.q (omega arith));
         low = λ B H.
             let w = restrict_within call.op call.q (at B z) I.item_some (omega arith) (low_at H z (level - 1) K.halves.zero_within (omega (arith, K.zero_below, K.ztop))) in

@@ -13,7 +13,7 @@ use Rattle.store.specs.Coded.{answer_of, reached_as}
 use Rattle.store.specs.Operations.{parity_number}
 use Rattle.store.specs.Inner.{Handle, Fill, Holds, Kept, Ran}
 use Rattle.store.proofs.Codes.{coded_held}
-use Rattle.store.proofs.Held.{at_0, top_at, within, low_at}
+use Rattle.store.proofs.Held.{at_0, top_at_lem, within, low_at}
 use Rattle.store.proofs.Growing.{kept_top, kept_roomy}
 use Rattle.store.proofs.Naming.{named_part}
 use Rattle.store.proofs.Plain.{plain_coded, plain_ran}
@@ -49,7 +49,7 @@ module _ (even : Bool) {p level : ℕ} {s : Fill} {nodes lookup : List ℕ} (A :
   leaf_means none limit B H =
       let l = A.held in
       chosen even
-      ∙ sym (named_part even B p 0 ∙ parity_leaf even (at B p) (within H p (omega arith)).ordered (sym (top_at H p (omega arith)) ∙ sym A.level_is ∙ none))
+      ∙ sym (named_part even B p 0 ∙ parity_leaf even (at B p) (within H p (omega arith)).ordered (sym (top_at_lem H p (omega arith)) ∙ sym A.level_is ∙ none))
     where
       chosen : (even : Bool) → at B (cond even p 0) ≡ cond even (at B p) empty
       chosen true = refl
@@ -90,7 +90,7 @@ module _ {p level : ℕ} {s : Fill} {nodes lookup : List ℕ} (E : PartStepAsks 
         record {
           taken = taken_part even s.count p l;
           other = taken_part (not even) s.count o K.halves.one_within;
-          level_within = λ B H. omega (arith, E.asks.level_is, top_at H p (omega arith), (within H p (omega arith)).low);
+          level_within = λ B H. omega (arith, E.asks.level_is, top_at_lem H p (omega arith), (within H p (omega arith)).low);
           is = λ B H.
               named_part even B p 0 ∙ parity_step even level (at B p)
               ∙ rw (← K.halves.lacks B lookup H, ← K.halves.holds B lookup H, named_part even B z 0, named_part (not even) B o 0);

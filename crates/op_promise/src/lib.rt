@@ -1,10 +1,12 @@
 // The six operations and their numbers; in specs/ and proofs/ their promise, the laws of their ways out, and the bound
 // on the nodes that Union, Intsec and Diff add.
+#![tactic(auto)]
+
 ghost use Rattle.std.specs.Prelude.{◌≡◌};
 ghost use Rattle.op_promise.specs.Promise.{number_of, operation_number};
 
 // The six operations.
-#[derive(Drop)]
+#[derive(Clone, Copy)]
 pub enum Operation {
     Subset1,
     Subset0,

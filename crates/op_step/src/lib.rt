@@ -1,4 +1,6 @@
 // The end of a step of the recursions of document 001, and the laws of their steps.
+#![tactic(auto)]
+
 ghost use Rattle.store.specs.Coded.{answer_of};
 ghost use Rattle.op_step.specs.Inner.{RememberedAnswer};
 

@@ -14,7 +14,7 @@ use Rattle.store_node.specs.Inner.{NodeIt}
 use Rattle.store.specs.Inner.{Fill, Reached, Holds, RanPlain}
 use Rattle.store_sides.specs.Inner.{Halves}
 use Rattle.store_sides.proofs.Splitting.{low_now, halves_below}
-use Rattle.store.proofs.Held.{top_at}
+use Rattle.store.proofs.Held.{top_at_lem}
 use Rattle.op_cache.specs.declared.Call.{Call}
 use Rattle.op_terminal.specs.Inner.{ItemCall}
 use Rattle.store.proofs.Naming.{named_item, side_subset1, side_subset0, side_change}
@@ -31,7 +31,7 @@ module _ (call : Call) (s : Fill) (nodes lookup : List ℕ) (I : ItemCall call s
   -- the sides at the item
   module _ (not_below : top_at nodes call.p ≤ call.q) {z o : ℕ} (T : Halves nodes s.count call.p call.q z o) where
     low : {limit : ℕ} {B : List Family} → Holds limit B s.count nodes lookup → top (at B call.p) ≤ call.q
-    low H = omega (arith, top_at H call.p (omega arith))
+    low H = omega (arith, top_at_lem H call.p (omega arith))
 
     pub leaf_one : call.op ≡ 1 → RanPlain call.q (λ B. named call.op B call.p call.q) s nodes lookup (reached_as s.capacity s.count o) nodes lookup
     leaf_one e =
@@ -47,8 +47,8 @@ module _ (call : Call) (s : Fill) (nodes lookup : List ℕ) (I : ItemCall call s
         plain_node call.q F s nodes lookup call.q o z (omega arith) T.one_within T.zero_within r N
         (λ l B H. (
           item B ∙ side_change call.op call.q (at B call.p) (low H) n k ∙ rw (T.lacks B lookup H, T.holds B lookup H),
-          omega (arith, low_now T.one_low H, top_at H o (omega (arith, T.one_within))),
-          omega (arith, low_now T.zero_low H, top_at H z (omega (arith, T.zero_within))),
+          omega (arith, low_now T.one_low H, top_at_lem H o (omega (arith, T.one_within))),
+          omega (arith, low_now T.zero_low H, top_at_lem H z (omega (arith, T.zero_within))),
         ))
 
   -- the item above the top

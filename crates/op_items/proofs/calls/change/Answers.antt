@@ -1,0 +1,6 @@
+-- `change` keeps the promise of its operation.
+-- `of_item` keeps that of the operation whose number it is handed.
+use Rattle.op_items.proofs.calls.change.Goals as goal
+
+pub returns : goal.returns
+returns c = c.of_item.ensures

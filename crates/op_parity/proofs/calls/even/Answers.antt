@@ -1,0 +1,6 @@
+-- `even` keeps its promise.
+-- `of_parity` keeps that of the parity which it is handed.
+use Rattle.op_parity.proofs.calls.even.Goals as goal
+
+pub returns : goal.returns
+returns c = c.of_parity.ensures
