@@ -1,11 +1,10 @@
 -- Each way out of Has keeps the promise: what is refused, in its order, and what is answered.
 -- The tests of the call decide the definition's own tests; on a sound store the words hold the book that the answer
 -- is read in.
-use Prim.Native.Nat.{ℕ, ◌-◌}
+use Prim.Native.Nat.{ℕ}
 use mathlib.Core.Path.{◌≡◌, ap, ◌∙◌, sym}
 use mathlib.Core.Bool.{Bool, true, false}
 use mathlib.Core.List.{List, []}
-use native.Mathlib.Omega.{arith}
 use lib.ListN.{length}
 use borrow.Author.Tests.{ne_eqb}
 use Rattle.family.specs.Family.{Family}

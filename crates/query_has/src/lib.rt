@@ -1,4 +1,6 @@
 // Has: whether a combination is a member.
+#![tactic(auto)]
+
 ghost use Rattle.std.specs.Prelude.{◌≡◌, false, ◌+◌, ◌*◌, ◌≤◌, length};
 ghost use Rattle.store.specs.Inner.{HandleAsks};
 ghost use Rattle.family.specs.Combination.{is_none, items_of};
@@ -10,7 +12,7 @@ use store::record::{Refusal, Store};
 use store::tests::{Test, tested};
 
 // What Has answers.
-#[derive(Drop)]
+#[derive(Clone, Copy)]
 pub enum HasAnswer {
     Yes,
     No,
@@ -18,7 +20,7 @@ pub enum HasAnswer {
 }
 
 // What Has gives back.
-#[derive(Drop)]
+#[derive(Clone, Copy)]
 pub struct Asked {
     pub store: Store,
     pub answer: HasAnswer,

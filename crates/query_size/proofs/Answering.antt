@@ -1,7 +1,7 @@
 -- Each way out of Size keeps the promise: what is refused, in its order, and what is answered.
 -- The tests of the call decide the definition's own tests; on a sound store the words hold the book that the answer
 -- is read in.
-use Prim.Native.Nat.{ℕ, ◌-◌, ◌≤◌, min}
+use Prim.Native.Nat.{ℕ, ◌≤◌, min}
 use mathlib.Core.Path.{◌≡◌, refl, sym, ap, ◌∙◌}
 use mathlib.Core.Bool.{Bool, true, false}
 use mathlib.Core.List.{List, []}

@@ -1,4 +1,6 @@
 // Size: the number of members.
+#![tactic(auto)]
+
 ghost use Rattle.query_size.specs.Promise.{SizeCall};
 
 use query_sizes::{exceeds, fill_sizes, size_at};
@@ -6,14 +8,14 @@ use store::record::{Refusal, Store};
 use store::tests::{Test, tested};
 
 // What Size answers.
-#[derive(Drop)]
+#[derive(Clone, Copy)]
 pub enum SizeAnswer {
     Members(u64),
     Refused(Refusal),
 }
 
 // What Size gives back.
-#[derive(Drop)]
+#[derive(Clone, Copy)]
 pub struct Measured {
     pub store: Store,
     pub answer: SizeAnswer,

@@ -1,7 +1,7 @@
 -- Each way out of `counted` answers by the parts and the size of the family.
 -- The walk from an empty table comes to the family's own book, which has {}, {{}} and each different part once, and no family
 -- has more parts than the store has nodes.
-use Prim.Native.Nat.{ℕ, ◌+◌, ◌*◌, ◌-◌, ◌/◌, ◌≤◌, ◌<◌, min}
+use Prim.Native.Nat.{ℕ, ◌+◌, ◌*◌, ◌/◌, ◌≤◌, ◌<◌, min}
 use mathlib.Core.Path.{◌≡◌, refl, sym, ap, subst, ◌∙◌}
 use mathlib.Core.Logic.{⊎_elim}
 use mathlib.Core.List.{List}

@@ -1,4 +1,6 @@
 // Size in two words for each part of the asked family.
+#![tactic(auto)]
+
 pub mod call;
 pub mod sizes;
 pub mod walk;

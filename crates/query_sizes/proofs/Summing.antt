@@ -6,7 +6,7 @@ use mathlib.Core.List.{List, [], ◌∷◌, ◌++◌, map}
 use native.Mathlib.Omega.{arith}
 use lib.ListN.{length, get_or, set, drop, length-set, length-map, length-append, length-drop, get_or-append}
 use lib.Seq.{get_or-set_same, get_or-set_other, get_or-append-add, get_or-drop, ext_get_or}
-use Rattle.family.specs.Family.{Family, empty, node, size}
+use Rattle.family.specs.Family.{Family, empty, size}
 use Rattle.family.specs.Book.{at}
 use Rattle.words.proofs.Cases.{by_lt, by_eq}
 use Rattle.store.specs.Inner.{Holds}

@@ -1,5 +1,5 @@
 -- What the functions below Size promise each other. A reader of the promise can pass this page over.
-use Rattle.std.specs.Prelude.{ℕ, ◌+◌, ◌-◌, ◌≤◌, ◌<◌, min, ◌*◌, ◌≡◌, Bool, List, ltb, length, get_or}
+use Rattle.std.specs.Prelude.{ℕ, ◌+◌, ◌≤◌, ◌<◌, min, ◌*◌, ◌≡◌, Bool, List, ltb, length, get_or}
 use Rattle.family.specs.Family.{Family, size}
 use Rattle.family.specs.Book.{at}
 use Rattle.store.specs.Inner.{Holds}

@@ -1,4 +1,6 @@
 // The sizes of the nodes held, each from those of its sides; and whether one is above the largest number.
+#![tactic(auto)]
+
 ghost use Rattle.std.specs.Prelude.{◌≡◌, ◌+◌, ◌*◌, min};
 ghost use Rattle.store.specs.Inner.{HandleAsks};
 ghost use Rattle.words.specs.Words.{most};

@@ -69,7 +69,7 @@ module _ (nodes weights : List ℕ) (n : ℕ) where
   -- the sum of p, read once the numbers up to p are put
   pub filled_sum : {p : ℕ} {words words' : List ℕ} → p < n + 2 → Filled nodes weights n (p - 1) words words' → (r : Both) → BothKept words' n p r
       → {limit : ℕ} (B : List Family) (lookup : List ℕ) → Holds limit B n nodes lookup → Keeps (sum_by_nodes weights (at B p)) r.sum
-  filled_sum {p} {words} {words'} l F r K B lookup H = K.sum_is_lem l weights (at B p) (stands H weights words' (p - 1) (F.each B lookup H) p (omega arith))
+  filled_sum {p} {words} {words'} l F r K B lookup H = K.sum_is l weights (at B p) (stands H weights words' (p - 1) (F.each B lookup H) p (omega arith))
 
   -- the words past those of the nodes stay
   pub filled_rest : {j : ℕ} {words words' : List ℕ} → Filled nodes weights n j words words' → drop (3 * n) words' ≡ drop (3 * n) words

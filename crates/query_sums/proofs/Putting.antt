@@ -14,7 +14,7 @@ use Rattle.family.specs.Weights.{item_weight, sum_by_nodes}
 use Rattle.query_sums.specs.declared.kept.Kept.{Kept}
 use Rattle.query_sums.specs.declared.numbers.Pair.{Pair}
 use Rattle.query_sums.specs.declared.numbers.Both.{Both}
-use Rattle.query_sums.specs.Inner.{Keeps, Added, Multiplied, size_word, sum_word, mark_word, mark_of, size_mark, sum_mark, Carries, Paired, Told, BothKept, Small, put_small_lem, put_numbers, NodePut}
+use Rattle.query_sums.specs.Inner.{Keeps, Added, Multiplied, size_word, sum_word, mark_word, mark_of, size_mark, sum_mark, Carries, Paired, Told, BothKept, Small, put_small, put_numbers, NodePut}
 use Rattle.query_sums.proofs.Keeping.{told_keeps}
 
 module _ (words : List ℕ) (n p : ℕ) where
@@ -110,7 +110,7 @@ small_carries weights i a b za zb zm oa ob om C D la lb ma mb k lk ek m =
 module _ (words : List ℕ) (n j : ℕ) (long : 3 * n ≤ length words) (l : j < n) (k zero one : ℕ) where
   -- the plain way: the words of two small handles
   pub put_small_lem : k ≤ 4294967295 → (z o : Pair) → Paired words n zero z → Paired words n one o → Small z
-      → Small o → (words' : List ℕ) → words' ≡ put_small_lem words j k z o
+      → Small o → (words' : List ℕ) → words' ≡ put_small words j k z o
       → NodePut n j k zero one words words'
   put_small_lem lk z o P Q sz so words' e =
       rw e

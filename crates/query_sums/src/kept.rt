@@ -3,7 +3,7 @@ ghost use Rattle.std.specs.Prelude.{◌≡◌, false};
 ghost use Rattle.query_sums.specs.Inner.{Added, Multiplied};
 
 // A number, at most 2^64 - 1, and whether it is above that.
-#[derive(Drop)]
+#[derive(Clone, Copy)]
 pub struct Kept {
     pub low: u64,
     pub above: bool,

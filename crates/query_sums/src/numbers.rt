@@ -6,14 +6,14 @@ ghost use Rattle.query_sums.specs.Inner.{mark_word, mark_of, WordsAsk, Paired, T
 use crate::kept::Kept;
 
 // The size and the sum of a handle as its words have them.
-#[derive(Drop)]
+#[derive(Clone, Copy)]
 pub struct Pair {
     pub size: u64,
     pub sum: u64,
 }
 
 // The size and the sum of a handle.
-#[derive(Drop)]
+#[derive(Clone, Copy)]
 pub struct Both {
     pub size: Kept,
     pub sum: Kept,

@@ -2,7 +2,7 @@
 -- many sizes more.
 -- By induction on the words that are still to be gone through.
 use Prim.Native.Nat.{ℕ, zero, suc, ◌+◌, ◌*◌, ◌≤◌, ◌<◌}
-use mathlib.Core.Path.{◌≡◌, refl}
+use mathlib.Core.Path.{◌≡◌, refl, sym, subst}
 use mathlib.Core.List.{List}
 use native.Mathlib.Omega.{arith}
 use native.Mathlib.Nat.{zero-mul, add-mul}
@@ -23,12 +23,11 @@ module _ (B : List Family) (low : ℕ) where
   worth_rises words k ways zero l m = absurd (omega arith)
   worth_rises words k ways (suc left) l m =
       by_eq k left
-      (λ e d. rw (
-        e,
+      (λ e d. subst (λ j. worth B low (set words j (get_or words j 0 + ways)) (suc left) ≡ worth B low words (suc left) + ways * size (at B (low + j))) (sym e) (rw (
         worth_same words (set words left (get_or words left 0 + ways)) left (λ i h. get_or-set_other words left i (get_or words left 0 + ways) 0 (λ q. omega arith)),
         get_or-set_same words left (get_or words left 0 + ways) 0 (omega arith),
         add-mul,
-      ) (omega arith))
+      ) (omega arith)))
       (λ n d. rw (worth_rises words k ways left (omega arith) (omega arith), get_or-set_other words k left (get_or words k 0 + ways) 0 (λ q. omega arith)) (omega arith))
 
   -- no ways are worth nothing

@@ -8,7 +8,7 @@ use query_walk::sizes::size_of;
 use query_walk::walk::{NONE, reach};
 
 // How the words are laid out: the handle of the first, the words of the window, the places of the table behind it.
-#[derive(Drop)]
+#[derive(Clone, Copy)]
 pub struct Layout {
     pub low: u32,
     pub width: u32,
