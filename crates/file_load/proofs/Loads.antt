@@ -1,7 +1,7 @@
 -- Each way out of `load` keeps its promise: refused as damaged, for its scratch, for its bytes or for the store's
 -- limit, or with the file's family placed.
 -- What the bytes hold decides the promise's own tests, and placing ends as for every call.
-use Prim.Native.Nat.{ℕ, ◌+◌, ◌*◌, ◌-◌, ◌/◌, ◌≤◌, ◌<◌}
+use Prim.Native.Nat.{ℕ, ◌+◌, ◌*◌, ◌/◌, ◌≤◌, ◌<◌}
 use mathlib.Core.Path.{◌≡◌, refl, ◌∙◌, sym}
 use mathlib.Core.Bool.{true}
 use mathlib.Core.List.{List}
@@ -30,7 +30,7 @@ use Rattle.store_undo.specs.Inner.{Finished}
 use Rattle.store.specs.Coded.{reached_as}
 use Rattle.store.specs.Inner.{fill_in, Holds}
 use Rattle.store.specs.Words.{top_at}
-use Rattle.store.proofs.Held.{at_0, at_1, top_at}
+use Rattle.store.proofs.Held.{at_0, at_1, top_at_lem}
 use Rattle.store_undo.proofs.Finishing.{finished_held}
 use Rattle.store_undo.proofs.Done.{call_done}
 use Rattle.store.proofs.Calls.{refusal_some, call_refused}
@@ -166,7 +166,7 @@ module _ (s : Store) (nodes lookup cache file words : List ℕ) (r : Placed) whe
 
         -- the word read is the top of the family
         top_is : top_at words₁ (n + 1) ≡ top (at R.book (n + 1))
-        top_is = top_at R.table (n + 1) (omega arith)
+        top_is = top_at_lem R.table (n + 1) (omega arith)
 
         pub load_above : s.limit < top_at words₁ (n + 1) → r.store ≡ s → r.answer ≡ Refused AboveLimit → LoadCall s nodes lookup cache file words r nodes lookup cache words₁
         load_above h es ea =

@@ -1,4 +1,6 @@
 // Load: places the family of a file. The file is read and tested whole before the first part is placed.
+#![tactic(auto)]
+
 ghost use Rattle.file_load.specs.Promise.{LoadCall};
 
 use file_place::place_parts;

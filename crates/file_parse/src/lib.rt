@@ -1,4 +1,6 @@
 // One record of a file read: its fields, and what they stand for.
+#![tactic(auto)]
+
 ghost use Rattle.std.specs.Prelude.{◌≡◌, ◌+◌, ◌*◌, ◌≤◌, ◌<◌, length, drop};
 ghost use Rattle.std.proofs.Math.Option.{some};
 ghost use Rattle.family.specs.Record.{front, read_number};
@@ -29,7 +31,7 @@ pub fn read_number(bytes: &[u8], width: usize) -> u32
 }
 
 // A field: its value and how many bytes it took; or bytes that are none.
-#[derive(Drop)]
+#[derive(Clone, Copy)]
 pub enum Field {
     Value { value: u32, taken: usize },
     Bad,
@@ -60,7 +62,7 @@ fn read_field(bytes: &[u8], width: usize, stands: bool, other: u32) -> Field
 }
 
 // A record: its part and how many bytes it took; or bytes that are none.
-#[derive(Drop)]
+#[derive(Clone, Copy)]
 pub enum Record {
     Taken { part: Part, bytes: usize },
     Bad,

@@ -1,4 +1,6 @@
 // Placing the local parts in the store, one after another; the scratch keeps the handle of each.
+#![tactic(auto)]
+
 ghost use Rattle.std.specs.Prelude.{◌≡◌, ◌+◌, ◌*◌, ◌<◌, ◌≤◌, length, get_or};
 ghost use Rattle.store.specs.Coded.{reached_as};
 ghost use Rattle.store.specs.Inner.{fill_of};

@@ -1,7 +1,7 @@
 -- Each way out of `read_table`: the records are read into an empty local table, and the walk from the last part
 -- tells whether they stand in placing order.
 -- Then the local book is the last family's own book, by the law of that walk.
-use Prim.Native.Nat.{ℕ, suc, ◌+◌, ◌*◌, ◌-◌, ◌≤◌}
+use Prim.Native.Nat.{ℕ, suc, ◌+◌, ◌*◌, ◌≤◌}
 use mathlib.Core.Path.{◌≡◌, refl, sym, ap, ◌∙◌}
 use mathlib.Core.Bool.{Bool, true, false, cond}
 use mathlib.Core.List.{List}

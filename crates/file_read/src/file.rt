@@ -8,7 +8,7 @@ use file_parse::read_number;
 use words::zero;
 
 // What a file holds: {} or {{}} by its handle, so many parts in the local table, or no family.
-#[derive(Drop)]
+#[derive(Clone, Copy)]
 pub enum Content {
     Leaf(u32),
     Parts(u32),

@@ -2,7 +2,7 @@
 ghost use Rattle.file_read.specs.Inner.{OrderAsks, OrderOf};
 
 // The last number placed, or parts out of their order.
-#[derive(Drop)]
+#[derive(Clone, Copy)]
 pub enum Order {
     Upto(u32),
     Broken,

@@ -1,7 +1,7 @@
 // What a record says, and what it goes by.
 
 // A part: its item, and its children by local numbers.
-#[derive(Drop)]
+#[derive(Clone, Copy)]
 pub struct Part {
     pub item: u32,
     pub zero: u32,
@@ -9,7 +9,7 @@ pub struct Part {
 }
 
 // The record before: its item and its local number; 0 and 1 before the first.
-#[derive(Drop)]
+#[derive(Clone, Copy)]
 pub struct Last {
     pub item: u32,
     pub number: u32,

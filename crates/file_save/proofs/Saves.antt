@@ -23,7 +23,7 @@ use Rattle.store.specs.Scratch.{scratch_tests}
 use Rattle.store.specs.Words.{top_at, book_of}
 use Rattle.store.specs.Sound.{Sound}
 use Rattle.store.specs.Inner.{Holds}
-use Rattle.store.proofs.Held.{at_0, at_1, top_at, within, at_node}
+use Rattle.store.proofs.Held.{at_0, at_1, top_at_lem, within, at_node}
 use Rattle.store.proofs.Decoding.{sound_holds}
 use Rattle.store.proofs.Calls.{refusal_some, sound_fits}
 use Rattle.store.proofs.Testing.{Tested, tested_refuses}
@@ -91,8 +91,8 @@ module _ (s : Store) (p : ℕ) (nodes links out : List ℕ) (two : 2 ≤ p) (lp 
         long = refl;
         long_out = refl;
         rest = λ k l. refl;
-        refused = λ B lookup H l. absurd (omega (arith, top_at H p (omega arith), (within H p (omega arith)).low));
-        gave = λ B lookup H l. absurd (omega (arith, top_at H p (omega arith), (within H p (omega arith)).low));
+        refused = λ B lookup H l. absurd (omega (arith, top_at_lem H p (omega arith), (within H p (omega arith)).low));
+        gave = λ B lookup H l. absurd (omega (arith, top_at_lem H p (omega arith), (within H p (omega arith)).low));
       }
 
   module _ (room : s.count ≤ length links) {links₁ : List ℕ} (el : links₁ ≡ zeroed 0 s.count links)

@@ -1,5 +1,7 @@
 // Save: the file of a family. A walk over the diagram links the parts in placing order; then each record is written
 // behind the one before.
+#![tactic(auto)]
+
 ghost use Rattle.std.specs.Prelude.{◌≡◌, cond, ◌∷◌, ◌≤◌, eqb, length};
 ghost use Rattle.std.proofs.lemmas.List.Edits.{sets};
 ghost use Rattle.family.specs.Record.{bytes_of};
@@ -18,14 +20,14 @@ use store_sides::top_of;
 use words::zero;
 
 // What Save answers.
-#[derive(Drop)]
+#[derive(Clone, Copy)]
 pub enum SaveAnswer {
     Length(usize),
     Refused(Refusal),
 }
 
 // What Save gives back.
-#[derive(Drop)]
+#[derive(Clone, Copy)]
 pub struct Saved {
     pub store: Store,
     pub answer: SaveAnswer,

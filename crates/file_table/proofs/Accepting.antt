@@ -15,7 +15,7 @@ use Rattle.family.specs.File.{fits}
 use Rattle.family.proofs.Reading.{Next, fits_next, next_fits}
 use Rattle.words.proofs.Cases.{by_test, clash, and_inv}
 use Rattle.store.specs.Words.{top_at}
-use Rattle.store.proofs.Held.{top_at, within, positive_one}
+use Rattle.store.proofs.Held.{top_at_lem, within, positive_one}
 use Rattle.file_record.specs.declared.field.Part.{Part}
 use Rattle.file_table.specs.Inner.{Local, follows, Entering, new, old, EnterOf, PartTaken, fit, unfit, TakeOf}
 
@@ -93,16 +93,16 @@ module _ (words : List ℕ) (b k : ℕ) (part : Part) where
           zero_in = omega (arith, f.zero_in, H.size);
           one_in = omega (arith, f.one_in, H.size);
           one_some = f.one_some;
-          zero_low = omega (arith, f.zero_low, top_at H part.zero (omega (arith, f.zero_in, H.size)));
-          one_low = omega (arith, f.one_low, top_at H part.one (omega (arith, f.one_in, H.size)));
+          zero_low = omega (arith, f.zero_low, top_at_lem H part.zero (omega (arith, f.zero_in, H.size)));
+          one_low = omega (arith, f.one_low, top_at_lem H part.one (omega (arith, f.one_in, H.size)));
         }
 
     module _ (f : CanFollow words k part.item part.zero part.one) where
       zero_top : top (at C part.zero) < part.item
-      zero_top = omega (arith, f.zero_low, top_at H part.zero (omega (arith, f.zero_in)))
+      zero_top = omega (arith, f.zero_low, top_at_lem H part.zero (omega (arith, f.zero_in)))
 
       one_top : top (at C part.one) < part.item
-      one_top = omega (arith, f.one_low, top_at H part.one (omega (arith, f.one_in)))
+      one_top = omega (arith, f.one_low, top_at_lem H part.one (omega (arith, f.one_in)))
 
       is_within : Within largest_item (node part.item (at C part.zero) (at C part.one))
       is_within =

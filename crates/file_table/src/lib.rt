@@ -1,5 +1,7 @@
 // The local table in the scratch of a file: three node words, two lookup words and one handle for each byte of the
 // file.
+#![tactic(auto)]
+
 ghost use Rattle.std.specs.Prelude.{◌≡◌, ◌*◌, ◌<◌, ◌≤◌, length};
 ghost use Rattle.file_table.specs.Inner.{TableRoom, EnterAsks, follows, EnterOf, TakeOf};
 

@@ -3,7 +3,7 @@
 -- The handles of the book's families are their numbers in the store's book, different for different families.
 use Prim.Native.Nat.{ℕ, zero, suc, ◌+◌, ◌-◌, ◌≤◌, ◌<◌}
 use mathlib.Core.Path.{◌≡◌, refl, sym, ap, ◌∙◌}
-use mathlib.Core.Bool.{true, false, not}
+use mathlib.Core.Bool.{true, false}
 use mathlib.Core.List.{List, [], ◌∷◌, ◌++◌}
 use native.Mathlib.Omega.{arith}
 use native.Mathlib.Numerals.{add-one}
@@ -19,7 +19,7 @@ use Rattle.family.proofs.Different.{no_longer}
 use Rattle.family.proofs.Lengths.{book_snoc}
 use Rattle.words.proofs.Cases.{by_lt, by_eq, clash}
 use Rattle.store.specs.Inner.{Holds}
-use Rattle.store.proofs.Held.{at_0, at_1, handle_of, held, within, node_handle}
+use Rattle.store.proofs.Held.{at_0, at_1, handle_of, within, node_handle}
 use Rattle.file_record.specs.Widths.{widths}
 use Rattle.file_record.proofs.Laying.{widths_length}
 use Rattle.file_trail.specs.declared.trail.Trail.{Trail}

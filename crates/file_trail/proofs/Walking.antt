@@ -2,7 +2,7 @@
 -- which places it in the local book.
 -- A side has a smaller top than the part, so that walking it cannot meet the part; on words that hold a book
 -- nothing is broken.
-use Prim.Native.Nat.{ℕ, ◌+◌, ◌-◌, ◌≤◌, ◌<◌}
+use Prim.Native.Nat.{ℕ, ◌+◌, ◌≤◌, ◌<◌}
 use mathlib.Core.Path.{◌≡◌, refl, sym, ap, ◌∙◌}
 use mathlib.Core.Bool.{Bool, true, false, not}
 use mathlib.Core.List.{List}
@@ -20,7 +20,7 @@ use Rattle.store_sides.specs.declared.Sides.TheVariants.{Two, Broken}
 use Rattle.store.specs.Words.{top_at}
 use Rattle.store.specs.Inner.{Holds}
 use Rattle.store_sides.specs.Inner.{TwoSides, SidesOf, two as two-sides, broken as no_sides}
-use Rattle.store.proofs.Held.{top_at, top_node, within, held, at_node}
+use Rattle.store.proofs.Held.{top_at_lem, top_node, within, held, at_node}
 use Rattle.file_trail.specs.declared.trail.Trail.{Trail}
 use Rattle.file_trail.specs.declared.walk.Walked.{Walked}
 use Rattle.file_trail.specs.declared.walk.Walked.TheVariants.{Went, Broken as NoWay}
@@ -174,9 +174,9 @@ module _ (t : Trail) (p : ℕ) (nodes : List ℕ) (n : ℕ) (links : List ℕ) w
           lacks {B} {C} H T h =
               unmet_not H T p (omega arith) unmet
               (held_below C (at B q₁) (at B p) (within H q₁ (omega (arith, S₁.inside))).ordered
-              (omega (arith, S₁.below, top_at H q₁ (omega (arith, S₁.inside)), top_at H p (omega arith)))
+              (omega (arith, S₁.below, top_at_lem H q₁ (omega (arith, S₁.inside)), top_at_lem H p (omega arith)))
               (held_below (place C (at B q₁)) (at B q₂) (at B p) (within H q₂ (omega (arith, S₂.inside))).ordered
-              (omega (arith, S₂.below, top_at H q₂ (omega (arith, S₂.inside)), top_at H p (omega arith))) h))
+              (omega (arith, S₂.below, top_at_lem H q₂ (omega (arith, S₂.inside)), top_at_lem H p (omega arith))) h))
 
           pub walk_many : n ≤ 1000000 → 1000000 ≤ second.parts → WalkOf t p nodes n links NoWay links₂
           walk_many l m =
@@ -199,10 +199,10 @@ module _ (t : Trail) (p : ℕ) (nodes : List ℕ) (n : ℕ) (links : List ℕ) w
         is_node = go (at B p) refl
           where
             go : (F : Family) → at B p ≡ F → F ≡ node level (at B z) (at B o)
-            go empty e = absurd (omega (arith, K.some, top_at H p (omega arith), ap top e))
-            go base e = absurd (omega (arith, K.some, top_at H p (omega arith), ap top e))
+            go empty e = absurd (omega (arith, K.some, top_at_lem H p (omega arith), ap top e))
+            go base e = absurd (omega (arith, K.some, top_at_lem H p (omega arith), ap top e))
             go (node j a b) e =
-                let ej : j ≡ level = sym (ap top e) ∙ sym (top_at H p (omega arith)) ∙ sym is-level in
+                let ej : j ≡ level = sym (ap top e) ∙ sym (top_at_lem H p (omega arith)) ∙ sym is-level in
                 let ez : at B z ≡ a = K.sides.halves.lacks B lookup H ∙ ap (λ F. lacking level F) e ∙ rw (eq-eqb j level ej) in
                 let eo : at B o ≡ b = K.sides.halves.holds B lookup H ∙ ap (λ F. holding level F) e ∙ rw (eq-eqb j level ej) in
                 rw (ej, ez, eo)

@@ -7,7 +7,7 @@ use file_record::write::length_of;
 
 // The first part and the last one by their handles, the item of the last, how many there are, and the length of the
 // file so far. The walk carries them as five words in this order.
-#[derive(Drop)]
+#[derive(Clone, Copy)]
 pub struct Trail {
     pub first: u32,
     pub last: u32,

@@ -6,7 +6,7 @@ use crate::trail::{Trail, is_met, visit};
 use store_sides::{Sides, sides_at};
 
 // A walk that came to its end, or words that no sound store has.
-#[derive(Drop)]
+#[derive(Clone, Copy)]
 pub enum Walked {
     Went(Trail),
     Broken,

@@ -1,7 +1,7 @@
 -- What writing the records promises. A reader of the promise can pass this page over.
 use Rattle.std.specs.Prelude.{ℕ, ◌+◌, ◌*◌, ◌-◌, ◌≤◌, ◌<◌, ◌≡◌, Bool, true, List, ◌++◌, length, get_or, take, drop}
 use Rattle.family.specs.Family.{Family, largest_item}
-use Rattle.family.specs.Book.{at, number, Held, place, Book}
+use Rattle.family.specs.Book.{at, number, Held, Book}
 use Rattle.family.specs.File.{triples_of, records_bytes}
 use Rattle.store.specs.Words.{word_of}
 use Rattle.store.specs.Inner.{Holds}

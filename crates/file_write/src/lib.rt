@@ -1,5 +1,7 @@
 // Writing the records in placing order, each behind the one before. A part that is written has its local number in
 // place of its link.
+#![tactic(auto)]
+
 ghost use Rattle.std.specs.Prelude.{◌≡◌, ◌+◌, ◌≤◌, length};
 ghost use Rattle.store.specs.Words.{word_of};
 ghost use Rattle.file_trail.specs.Inner.{Lent};
@@ -9,7 +11,7 @@ use file_record::field::{Last, Part};
 use file_record::write::{length_of, put_record};
 
 // The part to be written next, what its record goes by, and the record's place.
-#[derive(Drop)]
+#[derive(Clone, Copy)]
 pub struct Cursor {
     pub at: u32,
     pub last: Last,
@@ -17,7 +19,7 @@ pub struct Cursor {
 }
 
 // The cursor after a record, or words that no sound store has.
-#[derive(Drop)]
+#[derive(Clone, Copy)]
 pub enum Turn {
     Next(Cursor),
     Broken,
