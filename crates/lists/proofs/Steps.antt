@@ -86,14 +86,14 @@ module _ {bounds : Bounds} {slots : ℕ} {B : List Family} {x : State} (I : Inv 
   has_step : {p : ℕ} (w : List ℕ) {r : Asked} → HasCall x.store x.nodes x.lookup p (items_of w) r
       → BookStep bounds slots B (Has p w) (has_returns (has_given_by r.answer)) (same_words x r.store)
   unfolding book_answer book_effect
-  has_step {p} w P = query_step (Has p w) (λ X. has_returns (has_answer X p (items_of w))) refl refl (ap has_returns (P.answer_is no_cache)) P.Store-is
+  has_step {p} w P = query_step (Has p w) (λ X. has_returns (has_answer X p (items_of w))) refl refl (ap has_returns (P.answer_is no_cache)) P.store_is
 
   weigh_step : {way : Way} {p : ℕ} {weights scratch scratch' : List ℕ} {r : Weighed} → WeightCall way x.store x.nodes x.lookup p weights scratch r scratch'
       → BookStep bounds slots B (Weigh way p weights (length scratch)) (weight_returns (weight_given_by r.answer)) (same_words x r.store)
   unfolding book_answer book_effect
   weigh_step {way} {p} {weights} {scratch} P =
       query_step (Weigh way p weights (length scratch)) (λ X. weight_returns (weight_answer way X p weights (length scratch))) refl refl
-      (ap weight_returns (P.answer_is no_cache)) P.Store-is
+      (ap weight_returns (P.answer_is no_cache)) P.store_is
 
   save_step : {p : ℕ} {scratch out scratch' out' : List ℕ} {r : Saved} → SaveCall x.store x.nodes x.lookup p scratch out r scratch' out'
       → BookStep bounds slots B (Save p (length scratch) (length out)) (save_returns (save_given_by r.answer) out') (same_words x r.store)
@@ -102,7 +102,7 @@ module _ {bounds : Bounds} {slots : ℕ} {B : List Family} {x : State} (I : Inv 
       query_step (Save p (length scratch) (length out)) (λ X. save_returns (save_answer X p (length scratch) (length out)) (save_output X p (length scratch) out)) refl
       (save_answers bounds.capacity B p (length scratch) out)
       (ap (λ g. save_returns g out') (P.answer_is no_cache)
-      ∙ ap (λ l. save_returns (save_answer (book_of x.nodes x.store.count) p (length scratch) (length out)) l) (P.out_is no_cache)) P.Store-is
+      ∙ ap (λ l. save_returns (save_answer (book_of x.nodes x.store.count) p (length scratch) (length out)) l) (P.out_is no_cache)) P.store_is
 
   audit_step : (lent : ℕ) {r : Audited} {part : List ℕ} → AuditCall x.store x.nodes x.lookup (take lent x.cache) r part
       → BookStep bounds slots B Audit (audit_returns r.sound) (with_part x lent r.store x.nodes x.lookup part)
@@ -110,7 +110,7 @@ module _ {bounds : Bounds} {slots : ℕ} {B : List Family} {x : State} (I : Inv 
   audit_step lent {r} {part} P =
       record {
         answer_is = ap audit_returns (P.sound_yes (sound_with part I.sound (true_of (book_of x.nodes x.store.count))));
-        after = rw P.Store-is record {
+        after = rw P.store_is record {
           sound = sound_with (part ++ drop lent x.cache) I.sound
               (joined_true (grown_self (book_of x.nodes x.store.count)) x.cache part lent long rest I.sound.cached (true_of (book_of x.nodes x.store.count)));
           book_is = I.book_is;
@@ -134,8 +134,8 @@ module _ {bounds : Bounds} {slots : ℕ} {B : List Family} {x : State} (I : Inv 
   pub step : {call : Call} {answer : Answer} {y : State} → Step x call answer y → BookStep bounds slots B call answer y
   step (operates lent {op = op} {p = p} {q = q} P) = operate_step lent {op = op} {p = p} {q = q} P
   step (parts lent {even = even} {p = p} P) = parity_step lent {even = even} {p = p} P
-  step (sizes P) = size_step by_node (P.answer_is no_cache) P.Store-is
-  step (sizes_by_part P) = size_step by_part (P.answer_is no_cache) P.Store-is
+  step (sizes P) = size_step by_node (P.answer_is no_cache) P.store_is
+  step (sizes_by_part P) = size_step by_part (P.answer_is no_cache) P.store_is
   step (asks {combination = w} P) = has_step w P
   step (weighs P) = weigh_step P
   step (saves P) = save_step P

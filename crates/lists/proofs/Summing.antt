@@ -17,13 +17,13 @@ sum_snoc (b ∷ answers) a = omega (arith, sum_snoc answers a)
 step_counts : {x y : State} {call : Call} {answer : Answer} → Step x call answer y → y.store.count ≡ x.store.count + added_by answer.value
 step_counts (operates lent P) = P.counted
 step_counts (parts lent P) = P.counted
-step_counts (sizes P) = omega (arith, ap (λ s. s.count) P.Store-is)
-step_counts (sizes_by_part P) = omega (arith, ap (λ s. s.count) P.Store-is)
-step_counts (asks P) = omega (arith, ap (λ s. s.count) P.Store-is)
-step_counts (weighs P) = omega (arith, ap (λ s. s.count) P.Store-is)
-step_counts (saves P) = omega (arith, ap (λ s. s.count) P.Store-is)
+step_counts (sizes P) = omega (arith, ap (λ s. s.count) P.store_is)
+step_counts (sizes_by_part P) = omega (arith, ap (λ s. s.count) P.store_is)
+step_counts (asks P) = omega (arith, ap (λ s. s.count) P.store_is)
+step_counts (weighs P) = omega (arith, ap (λ s. s.count) P.store_is)
+step_counts (saves P) = omega (arith, ap (λ s. s.count) P.store_is)
 step_counts (loads lent P) = P.places.counted
-step_counts (audits lent P) = omega (arith, ap (λ s. s.count) P.Store-is)
+step_counts (audits lent P) = omega (arith, ap (λ s. s.count) P.store_is)
 
 pub sums : {o : Opening} {calls : List Call} {answers : List Answer} {x : State} → Runs o calls answers x → added_sum answers ≡ x.store.count
 sums {o} (fresh P e) = omega (arith, size (fresh_inv o P e))

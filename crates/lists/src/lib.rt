@@ -1,1 +1,2 @@
 // Lists of calls: theory only, in specs/ and proofs/.
+#![tactic(auto)]
