@@ -1,4 +1,6 @@
 // The answers as C sees them. The record is the same for C.
+#![tactic(auto)]
+
 ghost use Rattle.std.specs.Prelude.{◌≡◌};
 ghost use Rattle.store.specs.Refusals.{refusal_number};
 ghost use Rattle.c_records.specs.Promise.{freshened_of, placed_of, measured_of, asked_of, weighed_of, saved_of, audited_of};
@@ -13,7 +15,7 @@ use store_fresh::{FreshAnswer, Freshened};
 
 // What Fresh gives back. A refusal is its number, 0 where there is none, here and below.
 #[repr(C)]
-#[derive(Drop)]
+#[derive(Clone, Copy)]
 pub struct CFreshened {
     pub store: Store,
     pub refusal: u32,
@@ -21,7 +23,7 @@ pub struct CFreshened {
 
 // What a call that places a family gives back; the handle and the number added are 0 where it is refused.
 #[repr(C)]
-#[derive(Drop)]
+#[derive(Clone, Copy)]
 pub struct CPlaced {
     pub store: Store,
     pub refusal: u32,
@@ -31,7 +33,7 @@ pub struct CPlaced {
 
 // What Size gives back; the size is 0 where it is refused.
 #[repr(C)]
-#[derive(Drop)]
+#[derive(Clone, Copy)]
 pub struct CMeasured {
     pub store: Store,
     pub refusal: u32,
@@ -40,7 +42,7 @@ pub struct CMeasured {
 
 // What Has gives back; no where it is refused.
 #[repr(C)]
-#[derive(Drop)]
+#[derive(Clone, Copy)]
 pub struct CAsked {
     pub store: Store,
     pub refusal: u32,
@@ -49,7 +51,7 @@ pub struct CAsked {
 
 // What a sum of weights gives back; the sum is 0 where it is refused.
 #[repr(C)]
-#[derive(Drop)]
+#[derive(Clone, Copy)]
 pub struct CWeighed {
     pub store: Store,
     pub refusal: u32,
@@ -58,7 +60,7 @@ pub struct CWeighed {
 
 // What Save gives back; the length is 0 where it is refused.
 #[repr(C)]
-#[derive(Drop)]
+#[derive(Clone, Copy)]
 pub struct CSaved {
     pub store: Store,
     pub refusal: u32,
@@ -67,7 +69,7 @@ pub struct CSaved {
 
 // What Audit gives back.
 #[repr(C)]
-#[derive(Drop)]
+#[derive(Clone, Copy)]
 pub struct CAudited {
     pub store: Store,
     pub sound: bool,

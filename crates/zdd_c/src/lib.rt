@@ -1,4 +1,6 @@
 // The public calls for C and Rust: each function hands on the answer of one call.
+#![tactic(auto)]
+
 pub mod asking;
 pub mod auditing;
 pub mod filing;

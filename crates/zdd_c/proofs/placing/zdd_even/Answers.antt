@@ -1,0 +1,8 @@
+-- `zdd_even` keeps the promise of `even`.
+-- Why: it hands its record and its words to that call, and that call's result on to C.
+use Rattle.zdd_c.proofs.placing.zdd_even.Goals as goal
+
+pub returns : goal.returns
+returns c =
+    let b = c.even in
+    record { behind = b.result; keeps = b.ensures; given_is = c.placed.ensures }

@@ -1,0 +1,8 @@
+-- `zdd_subset1` keeps the promise of `subset1`.
+-- Why: it hands its record and its words to that call, and that call's result on to C.
+use Rattle.zdd_c.proofs.placing.zdd_subset1.Goals as goal
+
+pub returns : goal.returns
+returns c =
+    let b = c.subset1 in
+    record { behind = b.result; keeps = b.ensures; given_is = c.placed.ensures }
