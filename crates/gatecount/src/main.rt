@@ -1,11 +1,15 @@
 // Reads a log of passed and returned panels from standard input, and prints the sizes of what passed, what came back,
 // both and only the latter.
-use libc::STDIN_FILENO;
+#![tactic(auto)]
 
-fn main() {
+use std::io;
+
+fn main(rt: HostRuntime) -> io::Result<()> {
+    let mut input = rt.stdin();
     let mut out = [0u8; 128];
-    let run = report_run::report_on(STDIN_FILENO, 65536, &mut out);
+    let run = report_run::report_on(&rt, &mut input, 65536, &mut out);
     if !run.written {
-        os::fail(b"gatecount");
+        eprintln!(rt; "gatecount: no report could be made")?;
     }
+    Ok(())
 }

@@ -1,23 +1,25 @@
 // Prints the report on each file that its arguments name, read seven bytes at a time.
-use libc::STDOUT_FILENO;
+#![tactic(auto)]
 
-fn report_file(i: usize) {
-    let mut path = io::buffer();
-    let bytes = os::arg(i, &mut path);
-    io::write_all(STDOUT_FILENO, &path[..bytes]);
-    io::write_all(STDOUT_FILENO, b":\n");
-    let fd = os::open_read(&path[..bytes]);
+use std::fs::File;
+use std::rt::Files;
+use std::{env, io};
+
+// Prints the name of a file and the report on it; says on standard error where none could be made.
+fn report_file(rt: &(impl Files + Print + Eprint), path: &str) -> io::Result<()> {
+    println!(rt; "{path}:")?;
+    let mut file = File::open(rt, path)?;
     let mut out = [0u8; 128];
-    let run = report_run::report_on(fd, 7, &mut out);
+    let run = report_run::report_on(rt, &mut file, 7, &mut out);
     if !run.written {
-        os::fail(&path[..bytes]);
+        eprintln!(rt; "{path}: no report could be made")?;
     }
-    libc::close(fd);
+    Ok(())
 }
 
-fn main() {
-    let count = os::arg_count();
-    for i in 1..count {
-        report_file(i);
+fn main(rt: HostRuntime) -> io::Result<()> {
+    for path in env::args(&rt)?.skip(1) {
+        report_file(&rt, path.as_str())?;
     }
+    Ok(())
 }

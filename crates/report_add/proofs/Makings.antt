@@ -6,7 +6,7 @@ use mathlib.Core.Bool.{Bool, true, false, not}
 use mathlib.Core.List.{List, [], ◌∷◌}
 use native.Mathlib.Omega.{arith}
 use lib.ListN.{length}
-use borrow.Author.Tests.{not_true, not_false}
+use borrow.Author.Tests.{not-true, not-false}
 use Rattle.words.proofs.Cases.{by_test}
 use Rattle.family.specs.Family.{Family, largest_item}
 use Rattle.family.specs.Operation.{change, union}
@@ -70,7 +70,7 @@ next_going capacity f a e = rw e
 -- one turn of the loop
 module _ (m : Placed) (nodes lookup cache : List ℕ) (c : List ℕ) (v : ℕ) where
   pub turn_absent : {t : Bool} → t ≡ holds v c → not t ≡ true → ChangeIt m nodes lookup cache c v m nodes lookup cache
-  turn_absent e d = record { after = λ capacity a A. rw (sym e ∙ not_true _ d) A }
+  turn_absent e d = record { after = λ capacity a A. rw (sym e ∙ not-true _ d) A }
 
   pub turn_refused : (x : Refusal) → m.answer ≡ Refused x → ChangeIt m nodes lookup cache c v m nodes lookup cache
   turn_refused x e =
@@ -84,7 +84,7 @@ module _ (m : Placed) (nodes lookup cache : List ℕ) (c : List ℕ) (v : ℕ) w
       go capacity a A =
           let G = gives A h eh in
           let Q = change_after A.sound A.limit_is h G.inside v i.low i.high P in
-          rw (sym e ∙ not_false _ d, next_going capacity (change v) a G.going, ← A.capacity_is, ← A.book_is, ← G.means) Q
+          rw (sym e ∙ not-false _ d, next_going capacity (change v) a G.going, ← A.capacity_is, ← A.book_is, ← G.means) Q
 
 -- the loop over the items: before each turn, the combination of the smaller items is made
 pub record Making (m₀ : Placed) (nodes₀ lookup₀ cache₀ w nodes lookup cache : List ℕ) (m : Placed) (item : ℕ) : Type 0 where

@@ -1,6 +1,6 @@
 -- A call that places, on a sound store: it leaves what the definition `called` says of the book that the words hold.
 -- Its promise has two ways here, no room and placed; the words of the placed book mean that book.
-use Prim.Native.Nat.{ℕ, ◌+◌, ◌-◌, ◌≤◌, ◌<◌}
+use Prim.Native.Nat.{ℕ, ◌+◌, ◌≤◌, ◌<◌}
 use mathlib.Core.Path.{◌≡◌, refl, ap, ◌∙◌}
 use mathlib.Core.Bool.{true, false}
 use mathlib.Core.List.{List}

@@ -1,4 +1,6 @@
 // Adding a combination to a family: made by Change from handle 1 in rising items, then one Union.
+#![tactic(auto)]
+
 ghost use Rattle.family.specs.Combination.{items_of};
 ghost use Rattle.report_add.specs.Promise.{AddCall};
 ghost use Rattle.report_add.specs.Inner.{InRange, ChangeIt, MakeIt};

@@ -1,14 +1,12 @@
 -- The end of a report: the sizes of the two families, of what is in both and only in the returned one; or the line
 -- that ended the log. The two calls leave the families' handles as they are, and Size tells the size of each family
 -- that the store holds.
-use Prim.Native.Nat.{ℕ, suc, ◌+◌, ◌-◌, ◌≤◌, ◌<◌}
+use Prim.Native.Nat.{ℕ, suc, ◌+◌, ◌≤◌, ◌<◌}
 use mathlib.Core.Path.{◌≡◌, refl, sym, ap, ◌∙◌}
 use mathlib.Core.Bool.{true, false}
-use mathlib.Core.List.{List, [], ◌∷◌}
+use mathlib.Core.List.{List, []}
 use native.Mathlib.Omega.{arith}
 use lib.ListN.{length, take}
-use types.Run.{OneOf, miss}
-use denote.Enum.Declared.{tag_of}
 use borrow.Author.Tests.{lt-ltb, le-ltb}
 use Rattle.words.proofs.Cases.{by_test, by_lt}
 use Rattle.family.specs.Family.{Family, size, largest_item}
@@ -35,11 +33,9 @@ use Rattle.query_size.specs.Promise.{by_node, size_given_by, size_tests, size_re
 use Rattle.family.specs.Combination.{items_of}
 use Rattle.report_line.specs.declared.Side.{Side}
 use Rattle.report_line.specs.declared.Stage.{Stage}
-use Rattle.report_line.specs.contracts.Stage.{the_type as the-stage}
 use Rattle.report_close.specs.declared.FourHandles.{FourHandles}
 use Rattle.report_tally.specs.declared.Ending.{Ending}
 use Rattle.report_tally.specs.declared.Ending.TheVariants.{Going}
-use Rattle.report_tally.specs.contracts.Ending.{the_type as the-ending}
 use Rattle.report_tally.specs.declared.Tally.{Tally}
 use Rattle.report_line.specs.Line.{progress_of}
 use Rattle.report_add.specs.Promise.{Added, called, After}
@@ -181,13 +177,13 @@ next_line_lem : {capacity : ℕ} {t : Tally} {nodes lookup cache : List ℕ} {g 
 next_line_lem K n e = omega (arith, K.lines_is)
 
 -- how a log ends with its last byte
-ended_text : (capacity : ℕ) (g : Log) (x : Ending) → OneOf (1 ∷ 2 ∷ []) (tag_of the-ending x) → end_of capacity g x ≡ end_text capacity g x
-ended_text capacity g Ending.Going b = absurd (miss (1 ∷ 2 ∷ []) 0 tt b)
+ended_text : (capacity : ℕ) (g : Log) (x : Ending) → (x ≡ Going → ⊥) → end_of capacity g x ≡ end_text capacity g x
+ended_text capacity g Ending.Going b = absurd (b refl)
 ended_text capacity g Ending.Refused b = refl
 ended_text capacity g Ending.Full b = refl
 
-begun_text : (capacity : ℕ) (g : Log) (st : Stage) (d : Side) (c : List ℕ) (k : ℕ) → OneOf (1 ∷ 2 ∷ 3 ∷ 4 ∷ 5 ∷ []) (tag_of the-stage st) → last_line capacity g (progress_of st d c k) ≡ end_text capacity g Ending.Refused
-begun_text capacity g Stage.Blank d c k b = absurd (miss (1 ∷ 2 ∷ 3 ∷ 4 ∷ 5 ∷ []) 0 tt b)
+begun_text : (capacity : ℕ) (g : Log) (st : Stage) (d : Side) (c : List ℕ) (k : ℕ) → (st ≡ Stage.Blank → ⊥) → last_line capacity g (progress_of st d c k) ≡ end_text capacity g Ending.Refused
+begun_text capacity g Stage.Blank d c k b = absurd (b refl)
 begun_text capacity g Stage.Letter d c k b = refl
 begun_text capacity g Stage.Space d c k b = refl
 begun_text capacity g Stage.Number d c k b = refl
@@ -195,7 +191,7 @@ begun_text capacity g Stage.Whole d c k b = refl
 begun_text capacity g Stage.Malformed d c k b = refl
 
 module _ {t : Tally} where
-  pub end_told : OneOf (1 ∷ 2 ∷ []) (tag_of the-ending t.ending) → EndIs t t.ending
+  pub end_told : (t.ending ≡ Going → ⊥) → EndIs t t.ending
   unfolding output_of
   end_told b = record { is = λ capacity nodes lookup cache g K. ap (λ x. end_of capacity g x) (sym K.ending_is) ∙ ended_text capacity g t.ending b }
 
@@ -210,7 +206,7 @@ module _ {t : Tally} where
     pub end_blank : t.reading.stage ≡ Stage.Blank → EndIs t Going
     end_blank d = record { is = λ capacity nodes lookup cache g K. at_progress K d }
 
-    pub end_begun : OneOf (1 ∷ 2 ∷ 3 ∷ 4 ∷ 5 ∷ []) (tag_of the-stage t.reading.stage) → EndIs t Ending.Refused
+    pub end_begun : (t.reading.stage ≡ Stage.Blank → ⊥) → EndIs t Ending.Refused
     end_begun b =
         record { is = λ capacity nodes lookup cache g K. at_progress K refl ∙ begun_text capacity g t.reading.stage t.reading.side (items_of t.reading.items.words) t.reading.item b }
 

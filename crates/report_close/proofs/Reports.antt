@@ -5,7 +5,6 @@ use Prim.Native.Nat.{ℕ, suc, ◌+◌, ◌-◌, ◌*◌}
 use mathlib.Core.Path.{◌≡◌, refl, sym, ap, ◌∙◌}
 use mathlib.Core.Bool.{Bool, true, false, cond, ◌&&◌}
 use mathlib.Core.List.{List, [], ◌∷◌, foldl}
-use native.Mathlib.Omega.{arith}
 use lib.Dec.{eqb, leb}
 use borrow.Author.Tests.{ne_eqb}
 use Rattle.words.proofs.Cases.{by_test, by_eq}
@@ -110,6 +109,10 @@ module _ (capacity : ℕ) (bs : List ℕ) (rec : Goes capacity bs) (g : Log) whe
 
   after_newline : (s : LineState) (p : Progress) → Ended p
       → output_of capacity (feed capacity (read_on capacity g s p) bs) ≡ on_line capacity (suc g.lines) g.lot p (λ m. report_from capacity (suc (suc g.lines)) m (lines_of bs))
+  after_newline s blank x = elim x [ ]
+  after_newline s (letter _ _) x = elim x [ ]
+  after_newline s (space _ _) x = elim x [ ]
+  after_newline s (numeral _ _ _) x = elim x [ ]
   after_newline s (whole d c) is_whole = after_line (take_line capacity g.lot d c)
   after_newline s malformed is_malformed = stopped capacity (record { lot = g.lot; lines = g.lines; line = s; ending = Refused }) Refused refl (λ u w. refl) bs
 
@@ -130,6 +133,8 @@ module _ (capacity : ℕ) (bs : List ℕ) (rec : Goes capacity bs) (g : Log) whe
 
   after_other : (b : ℕ) (s : LineState) → next_byte g.line b ≡ s → (p : Progress) → s.progress ≡ p → Open p
       → output_of capacity (feed capacity (read_on capacity g s p) bs) ≡ mid_report capacity g (onto b (lines_of bs))
+  after_other b s e blank m x = elim x [ ]
+  after_other b s e (whole _ _) m x = elim x [ ]
   after_other b s e (letter d c) m at_letter =
       let k : Log = record { lot = g.lot; lines = g.lines; line = s; ending = Going } in
       rec k refl ∙ open_lines s b e k refl refl refl (rw m) (lines_of bs)

@@ -1,4 +1,6 @@
 // The end of a report: the closing sums, or the line that ended the log.
+#![tactic(auto)]
+
 ghost use Rattle.std.specs.Prelude.{◌≤◌, length};
 ghost use Rattle.report_close.specs.Promise.{CloseCall};
 ghost use Rattle.report_close.specs.Inner.{SizeIt, SizesIt, SumsIt, EndIs};
@@ -11,7 +13,7 @@ use report_text::{put_line, put_sums, put_word};
 use store::record::{PlaceAnswer, Store};
 
 // The families of which the sizes are printed.
-#[derive(Drop)]
+#[derive(Clone, Copy)]
 pub struct FourHandles {
     pub passed: u32,
     pub returned: u32,

@@ -19,7 +19,7 @@ use Rattle.report_line.specs.Line.{Progress, letter, space, numeral, whole, malf
 -- the state of a line at another stage
 pub staged_state : {line : Reading} {st : Stage} {r : Reading} → AtStage line st r
     → state_of r ≡ record { progress = progress_of st line.side (items_of line.items.words) line.item; left = line.left }
-staged_state A = λ i. record { progress = progress_of (A.Stage-is i) (A.side_is i) (items_of (A.items_is i).words) (A.item_is i); left = A.left_is i }
+staged_state A = λ i. record { progress = progress_of (A.stage_is i) (A.side_is i) (items_of (A.items_is i).words) (A.item_is i); left = A.left_is i }
 
 -- the same state, its progress named otherwise
 pub progress_is : {s : LineState} {p q : Progress} {l : ℕ} → s ≡ record { progress = p; left = l } → q ≡ p → s ≡ record { progress = q; left = l }

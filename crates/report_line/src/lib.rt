@@ -1,4 +1,6 @@
 // Reading one line of a log, byte by byte.
+#![tactic(auto)]
+
 ghost use Rattle.std.specs.Prelude.{◌≡◌, [], ◌+◌, ◌*◌, ◌≤◌};
 ghost use Rattle.family.specs.Combination.{including, items_of};
 ghost use Rattle.report_line.specs.Line.{letter, numeral, malformed, first_byte, gap, opened, grown, closed, advance, state_of};
@@ -8,7 +10,7 @@ ghost use Rattle.report_line.specs.Inner.{AtStage};
 use combination::Combination;
 
 // Which family a line is for.
-#[derive(Drop)]
+#[derive(Clone, Copy)]
 pub enum Side {
     Passed,
     Returned,
@@ -16,7 +18,7 @@ pub enum Side {
 
 // How far a line is read: before its letter, behind its letter or an item taken, behind a space, within an item,
 // behind its newline.
-#[derive(Drop)]
+#[derive(Clone, Copy)]
 pub enum Stage {
     Blank,
     Letter,
@@ -27,7 +29,7 @@ pub enum Stage {
 }
 
 // A line that is being read: its side, the items taken, the item begun, and how many bytes it may still have.
-#[derive(Drop)]
+#[derive(Clone, Copy)]
 pub struct Reading {
     pub stage: Stage,
     pub side: Side,

@@ -8,8 +8,6 @@ use mathlib.Core.List.{List, [], ◌∷◌, foldl-append}
 use native.Mathlib.Omega.{arith}
 use lib.ListN.{length, get_or, take}
 use lib.Seq.{take-suc, take_all}
-use types.Run.{OneOf, miss}
-use denote.Enum.Declared.{tag_of}
 use Rattle.family.specs.Family.{Family}
 use Rattle.family.specs.Operation.{union}
 use Rattle.family.specs.Combination.{items_of}
@@ -25,12 +23,10 @@ use Rattle.store.proofs.Decoding.{sound_holds}
 use Rattle.report_line.specs.declared.Side.{Side}
 use Rattle.report_line.specs.declared.Side.TheVariants.{Passed, Returned}
 use Rattle.report_line.specs.declared.Stage.{Stage}
-use Rattle.report_line.specs.contracts.Stage.{the_type as the-stage}
 use Rattle.report_line.specs.declared.Reading.{Reading}
 use Rattle.report_tally.specs.declared.Ending.{Ending}
-use Rattle.report_tally.specs.declared.Ending.TheVariants.{Going, Refused, Full}
+use Rattle.report_tally.specs.declared.Ending.TheVariants.{Going, Full}
 use Rattle.report_tally.specs.declared.Tally.{Tally}
-use Rattle.report_tally.specs.contracts.Ending.{the_type as the-ending}
 use Rattle.report_line.specs.Line.{LineState, begin, next_byte, progress_of, state_of}
 use Rattle.report_add.specs.Promise.{Added, line_made, added, After, AddCall}
 use Rattle.report_tally.specs.Log.{Log, capped}
@@ -46,14 +42,14 @@ read_keeps : {capacity : ℕ} {t : Tally} {nodes lookup cache : List ℕ} {g : L
     → ReadOnIs t next e r → state_of next ≡ s → Keeps capacity r nodes lookup cache (record { lot = g.lot; lines = g.lines; line = s; ending = e })
 read_keeps {nodes = nodes} K O f =
     record {
-      sound = rw O.Store-is K.sound;
-      capacity_is = ap (λ x. x.capacity) O.Store-is ∙ K.capacity_is;
-      limit_is = ap (λ x. x.limit) O.Store-is ∙ K.limit_is;
-      book_is = ap (λ x. book_of nodes x.count) O.Store-is ∙ K.book_is;
-      passed_held = rw (O.Store-is, O.passed_is) K.passed_held;
-      passed_is = rw (O.Store-is, O.passed_is) K.passed_is;
-      returned_held = rw (O.Store-is, O.returned_is) K.returned_held;
-      returned_is = rw (O.Store-is, O.returned_is) K.returned_is;
+      sound = rw O.store_is K.sound;
+      capacity_is = ap (λ x. x.capacity) O.store_is ∙ K.capacity_is;
+      limit_is = ap (λ x. x.limit) O.store_is ∙ K.limit_is;
+      book_is = ap (λ x. book_of nodes x.count) O.store_is ∙ K.book_is;
+      passed_held = rw (O.store_is, O.passed_is) K.passed_held;
+      passed_is = rw (O.store_is, O.passed_is) K.passed_is;
+      returned_held = rw (O.store_is, O.returned_is) K.returned_held;
+      returned_is = rw (O.store_is, O.returned_is) K.returned_is;
       lines_is = O.lines_is ∙ K.lines_is;
       line_is = ap state_of O.reading_is ∙ f;
       ending_is = O.ending_is;
@@ -92,14 +88,14 @@ module _ {capacity : ℕ} {t : Tally} {nodes lookup cache : List ℕ} {g : Log} 
         → Keeps capacity r nodes' lookup' cache' (record { lot = record { book = a.book; passed = P; returned = R }; lines = k; line = begin; ending = e })
     line_keeps p q e T =
         record {
-          sound = rw T.Store-is A.sound;
-          capacity_is = ap (λ x. x.capacity) T.Store-is ∙ A.capacity_is;
-          limit_is = ap (λ x. x.limit) T.Store-is ∙ A.limit_is;
-          book_is = ap (λ x. book_of nodes' x.count) T.Store-is ∙ A.book_is;
-          passed_held = rw (T.Store-is, T.passed_is) p.held;
-          passed_is = rw (T.Store-is, T.passed_is) p.means;
-          returned_held = rw (T.Store-is, T.returned_is) q.held;
-          returned_is = rw (T.Store-is, T.returned_is) q.means;
+          sound = rw T.store_is A.sound;
+          capacity_is = ap (λ x. x.capacity) T.store_is ∙ A.capacity_is;
+          limit_is = ap (λ x. x.limit) T.store_is ∙ A.limit_is;
+          book_is = ap (λ x. book_of nodes' x.count) T.store_is ∙ A.book_is;
+          passed_held = rw (T.store_is, T.passed_is) p.held;
+          passed_is = rw (T.store_is, T.passed_is) p.means;
+          returned_held = rw (T.store_is, T.returned_is) q.held;
+          returned_is = rw (T.store_is, T.returned_is) q.means;
           lines_is = T.lines_is ∙ e;
           line_is = T.line_is;
           ending_is = T.ending_is;
@@ -201,25 +197,22 @@ next_read {t} {nodes} {lookup} {cache} b next e {st} d {r} end f h =
           (read_keeps K f (read_is b next e K));
     }
 
--- the stages at which a line goes on: blank, letter, space, number
-abbrev going : List ℕ
-going = 0 ∷ 1 ∷ 2 ∷ 3 ∷ []
-
-going_on : (st : Stage) → OneOf going (tag_of the-stage st) → (capacity : ℕ) (g : Log) (s : LineState) (d : Side) (c : List ℕ) (n : ℕ)
+-- at a stage that is neither whole nor malformed a line goes on
+going_on : (st : Stage) → (st ≡ Stage.Whole → ⊥) → (st ≡ Stage.Malformed → ⊥) → (capacity : ℕ) (g : Log) (s : LineState) (d : Side) (c : List ℕ) (n : ℕ)
     → read_on capacity g s (progress_of st d c n) ≡ record { lot = g.lot; lines = g.lines; line = s; ending = Going }
-going_on Stage.Blank k capacity g s d c n = refl
-going_on Stage.Letter k capacity g s d c n = refl
-going_on Stage.Space k capacity g s d c n = refl
-going_on Stage.Number k capacity g s d c n = refl
-going_on Stage.Whole k capacity g s d c n = absurd (miss going 4 tt k)
-going_on Stage.Malformed k capacity g s d c n = absurd (miss going 5 tt k)
+going_on Stage.Blank w m capacity g s d c n = refl
+going_on Stage.Letter w m capacity g s d c n = refl
+going_on Stage.Space w m capacity g s d c n = refl
+going_on Stage.Number w m capacity g s d c n = refl
+going_on Stage.Whole w m capacity g s d c n = absurd (w refl)
+going_on Stage.Malformed w m capacity g s d c n = absurd (m refl)
 
-pub next_going : {t : Tally} {nodes lookup cache : List ℕ} (b : ℕ) (next : Reading) → state_of next ≡ next_byte (state_of t.reading) b → OneOf going (tag_of the-stage next.stage) → {r : Tally}
+pub next_going : {t : Tally} {nodes lookup cache : List ℕ} (b : ℕ) (next : Reading) → state_of next ≡ next_byte (state_of t.reading) b → (next.stage ≡ Stage.Whole → ⊥) → (next.stage ≡ Stage.Malformed → ⊥) → {r : Tally}
     → ReadOnIs t next Going r → NextIt t nodes lookup cache b r nodes lookup cache
-next_going b next e k f = next_read b next e refl Going f (going_on next.stage k)
+next_going b next e w m f = next_read b next e refl Going f (going_on next.stage w m)
 
-stopped : (x : Ending) → OneOf (1 ∷ 2 ∷ []) (tag_of the-ending x) → (u w : Log) → while_going x u w ≡ w
-stopped Ending.Going k u w = absurd (miss (1 ∷ 2 ∷ []) 0 tt k)
+stopped : (x : Ending) → (x ≡ Going → ⊥) → (u w : Log) → while_going x u w ≡ w
+stopped Ending.Going k u w = absurd (k refl)
 stopped Ending.Refused k u w = refl
 stopped Ending.Full k u w = refl
 
@@ -234,7 +227,7 @@ module _ {t : Tally} {nodes lookup cache : List ℕ} {b : ℕ} where
       }
 
   -- a log that ended, either way
-  pub byte_ended : OneOf (1 ∷ 2 ∷ []) (tag_of the-ending t.ending) → TakeCall t nodes lookup cache (b ∷ []) t nodes lookup cache
+  pub byte_ended : (t.ending ≡ Going → ⊥) → TakeCall t nodes lookup cache (b ∷ []) t nodes lookup cache
   unfolding log_byte
   byte_ended k =
       record {

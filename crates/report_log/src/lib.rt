@@ -1,4 +1,6 @@
 // A log, taken in pieces of any size: its lines are counted, and each is added to its family.
+#![tactic(auto)]
+
 ghost use Rattle.std.specs.Prelude.{◌≡◌, [], ◌∷◌};
 ghost use Rattle.report_log.specs.Promise.{TakeCall};
 ghost use Rattle.report_log.specs.Inner.{side_handle, LineEnd};

@@ -1,24 +1,20 @@
 -- What the reads of a log leave: by the answer of each, and turn by turn.
 -- A read's answer has three cases; the bytes of all reads are one run, since feeding two runs is feeding the one
 -- behind the other.
-use Prim.Native.Nat.{ℕ, zero, suc, ◌+◌, ◌-◌, ◌<◌, ◌≤◌, min}
+use Prim.Native.Nat.{ℕ, zero, suc, ◌+◌, ◌-◌, ◌<◌, min}
 use mathlib.Core.Path.{◌≡◌, refl, sym, ap, subst, ◌∙◌}
 use mathlib.Core.Bool.{true, false}
 use mathlib.Core.List.{List, [], ◌∷◌, ◌++◌, foldl-append, append_assoc, append-nil}
 use native.Mathlib.Omega.{arith}
 use lib.ListN.{length, take, length-append}
-use lib.Seq.{take_all, length-take-le}
+use lib.Seq.{take_all}
 use lib.IntN.{ℤ, pos, negsuc}
 use lib.Signed.{lt_z}
-use types.Run.{OneOf, miss}
-use denote.Enum.Declared.{tag_of}
 use mir.Syntax.{w64}
 use mir.Val.{SFits, of_z, to_z}
 use mir.Facts.{to_z-of_z}
 use borrow.Author.Tests.{le-ltb}
 use Rattle.words.proofs.Cases.{by_lt, clash}
-use Rattle.io.specs.Counts.{clamp_len}
-use Rattle.libc.specs.Io.{Moved}
 use Rattle.report_tally.specs.declared.Tally.{Tally}
 use Rattle.report_tally.specs.Log.{Log, opening}
 use Rattle.report_tally.specs.Promise.{Keeps}
@@ -27,10 +23,9 @@ use Rattle.report_log.specs.Promise.{TakeCall}
 use Rattle.report_read.specs.declared.Input.{Input}
 use Rattle.report_read.specs.declared.Input.TheVariants.{More, Done, Failed}
 use Rattle.report_read.specs.declared.Fed.{Fed}
-use Rattle.report_read.specs.Answers.{ReadAnswer, most_reads, brought_by, input_of, behind, input_after, Heard, none_heard, next_heard}
+use Rattle.report_read.specs.Answers.{Moved, ReadAnswer, most_reads, brought_by, input_of, behind, input_after, Heard, none_heard, next_heard}
 use Rattle.report_read.specs.Promise.{ReadCall, failed, ended, brought, Reads, none, turn, ReadAllCall}
-use Rattle.report_read.specs.Inner.{OneRead}
-use Rattle.report_read.specs.contracts.Input.{the_type as the-input}
+use Rattle.report_read.specs.Inner.{clamp_len, OneRead}
 
 -- a count past the end takes all
 take_clamped : (k : ℕ) (l : List ℕ) → take (min k (length l)) l ≡ take k l
@@ -39,23 +34,12 @@ take_clamped k l =
     (λ p e. let m : min k (length l) ≡ length l = omega arith in rw m (take_all (length l) l (omega arith) ∙ sym (take_all k l (omega arith))))
     (λ p e. let m : min k (length l) ≡ k = omega arith in rw m)
 
--- an answer of the system: the machine keeps it as a word, and tests that
+-- an answer: the machine keeps it as a word, and tests that
 module _ {z : ℤ} (fits : SFits w64 z) where
   same : to_z w64 (of_z w64 z) ≡ z
   same = to_z-of_z fits
 
-  -- a read of the whole buffer, or of its front, moved no more than the buffer has
-  pub moved_same : (n : ℕ) → Moved n z → Moved n (to_z w64 (of_z w64 z))
-  moved_same n h = subst (λ y. Moved n y) (sym same) h
-
-  pub moved_front : (m : ℕ) (buffer : List ℕ) → m < length buffer → Moved (length (take m buffer)) z → Moved (length buffer) (to_z w64 (of_z w64 z))
-  moved_front m buffer l h = moved_same (length buffer) (go z h)
-    where
-      go : (y : ℤ) → Moved (length (take m buffer)) y → Moved (length buffer) y
-      go (pos k) h = omega (arith, length-take-le m buffer (omega arith))
-      go (negsuc k) h = h
-
-  -- one read, by what the system answered
+  -- one read, by what the reader answered
   module _ {t : Tally} {nodes lookup cache buffer : List ℕ} where
     pub read_failed : lt_z (to_z w64 (of_z w64 z)) (pos 0) ≡ true → ReadCall t nodes lookup cache buffer z (record { tally = t; input = Failed }) nodes lookup cache
     read_failed e = go z (sym (ap (λ y. lt_z y (pos 0)) same) ∙ e)
@@ -98,10 +82,6 @@ pub onward_start : (t : Tally) (nodes lookup cache : List ℕ) → Onward t node
 onward_start t nodes lookup cache =
     record { long = refl; long_lookup = refl; long_cache = refl; more = refl; answers = []; reads = none; left = refl }
 
--- an input that has no more
-pub not_more : (x : Input) → OneOf (1 ∷ 2 ∷ []) (tag_of the-input x) → x ≡ More → ⊥
-not_more x k e = miss (1 ∷ 2 ∷ []) 0 tt (subst (λ y. OneOf (1 ∷ 2 ∷ []) (tag_of the-input y)) e k)
-
 module _ {t₀ : Tally} {nodes₀ lookup₀ cache₀ nodes lookup cache : List ℕ} {f : Fed} {turns : ℕ} (I : Onward t₀ nodes₀ lookup₀ cache₀ nodes lookup cache f turns) where
   pub one_more : {f' : Fed} {nodes' lookup' cache' : List ℕ} → OneRead f.tally nodes lookup cache f' nodes' lookup' cache' → (f'.input ≡ More → ⊥)
       → ReadAllCall t₀ nodes₀ lookup₀ cache₀ f' nodes' lookup' cache'
@@ -120,10 +100,6 @@ module _ {t₀ : Tally} {nodes₀ lookup₀ cache₀ nodes lookup cache : List �
         reads = turn I.reads I.more O.answer O.taken;
         left = omega (arith, length-append I.answers (O.answer ∷ []), I.left);
       }
-
-  -- no turn is left
-  pub onward_end : turns ≤ 0 → ReadAllCall t₀ nodes₀ lookup₀ cache₀ f nodes lookup cache
-  onward_end l = record { answers = I.answers; reads = I.reads; all_made = λ e. omega (arith, I.left) }
 
 -- what a read leaves keeps the log fed with what it brought, and says how the input stands
 read_keeps : {t : Tally} {nodes lookup cache buffer : List ℕ} {z : ℤ} {f : Fed} {nodes' lookup' cache' : List ℕ} → ReadCall t nodes lookup cache buffer z f nodes' lookup' cache'

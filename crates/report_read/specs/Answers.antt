@@ -1,6 +1,5 @@
--- What the system's answers to reads bring to a log. Which answers come, and with which bytes, is the system's.
-use Rattle.std.specs.Prelude.{ℕ, zero, suc, List, [], ◌∷◌, ◌++◌, ℤ, pos, negsuc, length, take}
-use Rattle.libc.specs.Io.{Moved}
+-- What a reader's answers to reads bring to a log. Which answers come, and with which bytes, is the reader's.
+use Rattle.std.specs.Prelude.{ℕ, zero, suc, ◌≡◌, ◌≤◌, List, [], ◌∷◌, ◌++◌, ℤ, pos, negsuc, length, take}
 use Rattle.report_tally.specs.declared.Ending.{Ending}
 use Rattle.report_tally.specs.declared.Ending.TheVariants.{Going, Refused, Full}
 use Rattle.report_tally.specs.Log.{opening}
@@ -8,7 +7,12 @@ use Rattle.report_log.specs.Log.{feed}
 use Rattle.report_read.specs.declared.Input.{Input}
 use Rattle.report_read.specs.declared.Input.TheVariants.{More, Done, Failed}
 
--- One read as the system answered it: -1, or how many bytes it put at the front of the buffer; and the buffer then.
+-- what a read into a buffer of n bytes may answer: -1, or how many bytes it brought, at most n
+abbrev pub Moved : ℕ → ℤ → Type 0
+Moved n (pos k) = k ≤ n
+Moved n (negsuc k) = k ≡ 0
+
+-- One read as the reader answered it: -1, or how many bytes it put at the front of the buffer; and the buffer then.
 pub record ReadAnswer : Type 0 where
   pub got : ℤ
   pub buffer : List ℕ

@@ -1,9 +1,14 @@
 -- What the functions below `read_all` promise each other. A reader of the promises can pass this page over.
-use Rattle.std.specs.Prelude.{ℕ, List}
+use Rattle.std.specs.Prelude.{ℕ, min, List, ℤ, pos, negsuc}
 use Rattle.report_tally.specs.declared.Tally.{Tally}
 use Rattle.report_read.specs.declared.Fed.{Fed}
 use Rattle.report_read.specs.Answers.{ReadAnswer}
 use Rattle.report_read.specs.Promise.{ReadCall}
+
+-- a read's answer brought into `0..=most`
+abbrev pub clamp_len : ℤ → ℕ → ℕ
+clamp_len (pos k) most = min k most
+clamp_len (negsuc k) most = 0
 
 -- one read, taken
 pub record OneRead (t : Tally) (nodes lookup cache : List ℕ) (r : Fed) (nodes' lookup' cache' : List ℕ) : Type 0 where

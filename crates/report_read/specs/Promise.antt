@@ -1,5 +1,5 @@
--- What reading a log promises. Which answers the system gives to a read no contract can say; what is made of the
--- answers is exact.
+-- What reading a log promises. Which answers a reader gives no contract here says; what is made of the answers is
+-- exact.
 use Rattle.std.specs.Prelude.{ℕ, suc, ◌≡◌, List, [], ◌∷◌, ◌++◌, ℤ, pos, negsuc, length, take}
 use Rattle.report_tally.specs.declared.Tally.{Tally}
 use Rattle.report_log.specs.Promise.{TakeCall}
@@ -7,7 +7,7 @@ use Rattle.report_read.specs.declared.Input.TheVariants.{More, Done, Failed}
 use Rattle.report_read.specs.declared.Fed.{Fed}
 use Rattle.report_read.specs.Answers.{ReadAnswer, behind, most_reads}
 
--- `take_read`, by what the system answered: below 0 the read failed and all is as it came; 0 is the end of the input
+-- `take_read`, by what the reader answered: below 0 the read failed and all is as it came; 0 is the end of the input
 -- and all is as it came; else the log is fed with exactly so many bytes of the buffer, and there is more while it
 -- goes on.
 pub data ReadCall (t : Tally) (nodes lookup cache buffer : List ℕ) : ℤ → Fed → List ℕ → List ℕ → List ℕ → Type 0 where

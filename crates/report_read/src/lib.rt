@@ -1,15 +1,17 @@
-// A log read from a descriptor in pieces. What decides is `take_read`, on the system's answer and the bytes it left.
+// A log read from a reader in pieces. What decides is `take_read`, on the reader's answer and the bytes it left.
+#![tactic(auto)]
+
 ghost use Rattle.std.specs.Prelude.{◌≡◌, length};
-ghost use Rattle.libc.specs.Io.{Moved};
-ghost use Rattle.report_read.specs.Answers.{behind};
+ghost use Rattle.report_read.specs.Answers.{Moved, behind};
 ghost use Rattle.report_read.specs.Promise.{ReadCall, ReadAllCall};
-ghost use Rattle.report_read.specs.Inner.{OneRead};
+ghost use Rattle.report_read.specs.Inner.{clamp_len, OneRead};
 
 use report_log::take_piece;
 use report_tally::{Ending, Tally};
+use std::io::Read;
 
 // How the input stands: there may be more, no more is needed, or a read failed.
-#[derive(Drop)]
+#[derive(Clone, Copy)]
 pub enum Input {
     More,
     Done,
@@ -17,7 +19,7 @@ pub enum Input {
 }
 
 // What is kept of a log, and how its input stands.
-#[derive(Drop)]
+#[derive(Clone, Copy)]
 pub struct Fed {
     pub tally: Tally,
     pub input: Input,
@@ -32,6 +34,20 @@ fn input_behind(ending: Ending) -> Input
         Ending::Refused => Input::Done,
         Ending::Full => Input::Done,
     }
+}
+
+// So many bytes of a buffer as a read brought: none where it failed, and never more than the buffer has.
+fn count(got: isize, buffer: &[u8]) -> usize
+    ensures { result ≡ clamp_len got (length buffer.now) }
+{
+    if got < 0 {
+        return 0;
+    }
+    let n = got as usize;
+    if buffer.len() < n {
+        return buffer.len();
+    }
+    n
 }
 
 // Takes what a read brought: below 0 it failed, at 0 the input is at its end, else so many bytes stand in the buffer.
@@ -57,7 +73,7 @@ pub fn take_read(
             input: Input::Done,
         };
     }
-    let n = io::count(got, buffer);
+    let n = count(got, buffer);
     let taken = take_piece(t, nodes, lookup, cache, &buffer[..n]);
     let ending = taken.ending;
     Fed {
@@ -66,19 +82,29 @@ pub fn take_read(
     }
 }
 
+// One read: how many bytes it put at the front of a buffer, or -1 where it failed.
+fn read_front<R: Read>(reader: &mut R, buffer: &mut [u8]) -> isize
+    ensures { Moved (length buffer.old) result }
+{
+    match reader.read(buffer) {
+        Ok(n) => n as isize,
+        Err(_) => -1,
+    }
+}
+
 // Reads at most so many bytes to the front of a buffer.
-fn read_some(fd: i32, most: usize, buffer: &mut [u8]) -> isize
+fn read_some<R: Read>(reader: &mut R, most: usize, buffer: &mut [u8]) -> isize
     ensures { Moved (length buffer.old) result }
 {
     if most < buffer.len() {
-        return libc::read(fd, &mut buffer[..most]);
+        return read_front(reader, &mut buffer[..most]);
     }
-    libc::read(fd, buffer)
+    read_front(reader, buffer)
 }
 
 // Reads one piece of at most so many bytes, and takes it.
-fn read_piece(
-    fd: i32,
+fn read_piece<R: Read>(
+    reader: &mut R,
     most: usize,
     t: Tally,
     nodes: &mut [u32],
@@ -87,14 +113,14 @@ fn read_piece(
 ) -> Fed
     ensures { OneRead t nodes.old lookup.old cache.old result nodes.new lookup.new cache.new }
 {
-    let mut buffer = io::large_buffer();
-    let got = read_some(fd, most, &mut buffer);
+    let mut buffer = [0u8; 65536];
+    let got = read_some(reader, most, &mut buffer);
     take_read(t, nodes, lookup, cache, got, &buffer)
 }
 
 // Reads until the input or the log ends.
-pub fn read_all(
-    fd: i32,
+pub fn read_all<R: Read>(
+    reader: &mut R,
     most: usize,
     t: Tally,
     nodes: &mut [u32],
@@ -109,7 +135,7 @@ pub fn read_all(
     };
     let mut turns: u64 = 18446744073709551615;
     while turns > 0 {
-        fed = read_piece(fd, most, fed.tally, nodes, lookup, cache);
+        fed = read_piece(reader, most, fed.tally, nodes, lookup, cache);
         let input = fed.input;
         let Input::More = input else {
             return fed;

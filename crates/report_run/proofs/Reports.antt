@@ -2,11 +2,9 @@
 -- Fresh words keep the log of no byte, the reads keep the log of what they brought, and closing writes what it prints.
 use Prim.Native.Nat.{ℕ}
 use mathlib.Core.Path.{◌≡◌, refl, ap, subst, ◌∙◌}
-use mathlib.Core.List.{List, [], ◌∷◌}
+use mathlib.Core.List.{List}
 use native.Mathlib.Omega.{arith}
 use lib.ListN.{length}
-use types.Run.{OneOf, miss}
-use denote.Enum.Declared.{tag_of}
 use Rattle.store.specs.Capacity.{capacity_of}
 use Rattle.report_tally.specs.declared.Tally.{Tally}
 use Rattle.report_tally.specs.Log.{opening}
@@ -14,20 +12,12 @@ use Rattle.report_tally.specs.Promise.{Keeps, OpenCall}
 use Rattle.report_log.specs.Log.{feed}
 use Rattle.report_close.specs.Promise.{CloseCall}
 use Rattle.report_close.proofs.Reports.{log_report}
-use Rattle.report_read.specs.declared.Input.{Input}
 use Rattle.report_read.specs.declared.Input.TheVariants.{Done}
 use Rattle.report_read.specs.declared.Fed.{Fed}
 use Rattle.report_read.specs.Answers.{input_of}
 use Rattle.report_read.specs.Promise.{ReadAllCall}
-use Rattle.report_read.specs.contracts.Input.{the_type as the-input}
 use Rattle.report_read.proofs.Feedings.{reads_keep, reads_heard}
-use Rattle.report_run.specs.declared.Report.{Report}
 use Rattle.report_run.specs.Promise.{ReportOf}
-use Rattle.report_run.specs.Inner.{HasReport}
-
--- an input that is not done
-pub not_done : (x : Input) → OneOf (0 ∷ 2 ∷ []) (tag_of the-input x) → x ≡ Done → ⊥
-not_done x k e = miss (0 ∷ 2 ∷ []) 1 tt (subst (λ y. OneOf (0 ∷ 2 ∷ []) (tag_of the-input y)) e k)
 
 module _ {nodes₀ lookup₀ : List ℕ} {t : Tally} {nodes lookup cache : List ℕ} (en : length nodes₀ ≡ 1500) (el : length lookup₀ ≡ 1001) (O : OpenCall nodes₀ lookup₀ t nodes lookup cache) where
   opened : Keeps 500 t nodes lookup cache opening
@@ -49,7 +39,3 @@ module _ {nodes₀ lookup₀ : List ℕ} {t : Tally} {nodes lookup cache : List 
           text_is = λ d. C.written 500 (feed 500 opening (input_of R.answers)) (reads_keep 500 opened R.reads) (omega arith) ∙ log_report 500 (input_of R.answers);
           no_text = λ d. absurd (d refl);
         }
-
--- what is handed over is the report
-pub has_report : {r : Report} {out : List ℕ} → ReportOf r out → r.input ≡ Done → HasReport out r.bytes
-has_report R e = record { inside = R.inside; report = record { input = input_of R.answers; is = R.text_is e } }

@@ -32,7 +32,7 @@ opened {limit} {nodes} {lookup} {cache} {f} {nodes'} {lookup'} {cache'} C {s} {p
     left l h = C.leaves_is ∙ fresh_is limit nodes lookup cache (record { some = l; longer = omega arith; limit_is = true_limit limit (omega arith) (omega arith) })
 
     store_left : 3 ≤ length nodes → capacity_of (length nodes) + 1 ≤ length lookup → t.store ≡ record { capacity = capacity_of (length nodes); count = 0; limit = limit }
-    store_left l h = T.Store-is ∙ sym es ∙ ap (λ y. y.store) (left l h)
+    store_left l h = T.store_is ∙ sym es ∙ ap (λ y. y.store) (left l h)
 
     go : 3 ≤ length nodes → capacity_of (length nodes) + 1 ≤ length lookup → Keeps (capacity_of (length nodes)) t nodes' lookup' cache' opening
     go l h =

@@ -1,4 +1,6 @@
 // A log so far: what is kept of it, and opening one.
+#![tactic(auto)]
+
 ghost use Rattle.std.specs.Prelude.{◌≡◌, suc};
 ghost use Rattle.report_tally.specs.Log.{capped};
 ghost use Rattle.report_tally.specs.Promise.{OpenCall};
@@ -9,7 +11,7 @@ use store::record::Store;
 use store_fresh::{empty, fresh};
 
 // Whether a log goes on, or ended with a line that was refused or found the store full.
-#[derive(Drop)]
+#[derive(Clone, Copy)]
 pub enum Ending {
     Going,
     Refused,
@@ -17,7 +19,7 @@ pub enum Ending {
 }
 
 // The store's record, the handles of the two families, the number of lines taken, and the line begun.
-#[derive(Drop)]
+#[derive(Clone, Copy)]
 pub struct Tally {
     pub store: Store,
     pub passed: u32,

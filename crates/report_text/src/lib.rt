@@ -1,4 +1,6 @@
 // Words and numbers as bytes, written one behind the other to an output.
+#![tactic(auto)]
+
 ghost use Rattle.std.specs.Prelude.{◌+◌, ◌≤◌, ◌<◌, [], ◌∷◌, length};
 ghost use Rattle.report_text.specs.Text.{decimal_of, line_text, sum_text, sums_text};
 ghost use Rattle.report_text.specs.Promise.{Wrote};
