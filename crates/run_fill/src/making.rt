@@ -4,7 +4,7 @@ use op_items::calls::change;
 use store::record::{PlaceAnswer, Placed, Store};
 
 // A union of two families, or a change of a family by an item.
-#[derive(Drop)]
+#[derive(Clone, Copy)]
 pub struct Call {
     pub union: bool,
     pub p: u32,
@@ -43,7 +43,7 @@ fn added_of(answer: PlaceAnswer) -> u32 {
 
 // The record and the answer last given; how many nodes the phase added; the next combination of at most two items, the
 // lower one first and 0 where there is one; the handle of a family of single items, and the item that is next for it.
-#[derive(Drop)]
+#[derive(Clone, Copy)]
 pub struct Progress {
     pub store: Store,
     pub answer: PlaceAnswer,

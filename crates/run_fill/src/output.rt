@@ -1,47 +1,48 @@
 // Lines on standard output.
 use c_records::number;
+use std::io;
 use store::record::{PlaceAnswer, Store};
 
 // Writes some bytes.
-pub fn text(bytes: &[u8]) {
-    io::write_all(1, bytes);
+pub fn text(rt: &impl Print, bytes: &[u8]) -> io::Result<()> {
+    rt.write_all(bytes)
 }
 
 // Writes a number in base ten.
-fn word(n: u32) {
-    io::print_decimal(1, n as u64);
+fn word(rt: &impl Print, n: u32) -> io::Result<()> {
+    rt.print(n)
 }
 
 // Writes a record, and ends the line.
-pub fn record(store: Store) {
-    text(b"held ");
-    word(store.count);
-    text(b" of ");
-    word(store.capacity);
-    text(b"\n");
+pub fn record(rt: &impl Print, store: Store) -> io::Result<()> {
+    text(rt, b"held ")?;
+    word(rt, store.count)?;
+    text(rt, b" of ")?;
+    word(rt, store.capacity)?;
+    text(rt, b"\n")
 }
 
 // Writes the answer last given, how many nodes were added, and the record.
-pub fn given(answer: PlaceAnswer, added: u32, store: Store) {
+pub fn given(rt: &impl Print, answer: PlaceAnswer, added: u32, store: Store) -> io::Result<()> {
     match answer {
-        PlaceAnswer::Handle(handle, _) => word(handle),
+        PlaceAnswer::Handle(handle, _) => word(rt, handle)?,
         PlaceAnswer::Refused(why) => {
-            text(b"refused ");
-            word(number(why));
+            text(rt, b"refused ")?;
+            word(rt, number(why))?;
         }
     }
-    text(b", added ");
-    word(added);
-    text(b", ");
-    record(store);
+    text(rt, b", added ")?;
+    word(rt, added)?;
+    text(rt, b", ")?;
+    record(rt, store)
 }
 
 // Writes a question and its answer.
-pub fn told(what: &[u8], yes: bool) {
-    text(what);
+pub fn told(rt: &impl Print, what: &[u8], yes: bool) -> io::Result<()> {
+    text(rt, what)?;
     if yes {
-        text(b"yes\n");
+        text(rt, b"yes\n")
     } else {
-        text(b"no\n");
+        text(rt, b"no\n")
     }
 }

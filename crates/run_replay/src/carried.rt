@@ -6,9 +6,11 @@ use crate::placing::of;
 use crate::saves::Room;
 use crate::state::{State, newest, with_file, with_placed};
 use crate::{loads, placing, saves};
+use std::io;
 
 // Loads so many bytes in so much scratch.
 pub fn load(
+    rt: &impl Print,
     bytes: usize,
     words: usize,
     state: State,
@@ -16,55 +18,69 @@ pub fn load(
     lookup: &mut [u32],
     cache: &mut [u32],
     file: &[u8],
-) -> State {
+) -> io::Result<State> {
     let store = state.store;
     let lent = everything(store, lookup.len(), cache.len());
     let reading = Reading {
         bytes: bytes,
         words: words,
     };
-    let placed = loads::line(reading, lent, nodes, lookup, cache, file);
-    with_placed(state, placed)
+    let placed = loads::line(rt, reading, lent, nodes, lookup, cache, file)?;
+    Ok(with_placed(state, placed))
 }
 
 // Loads so many bytes in one scratch word too few, and without the last byte.
 fn refused(
+    rt: &impl Print,
     bytes: usize,
     state: State,
     nodes: &mut [u32],
     lookup: &mut [u32],
     cache: &mut [u32],
     file: &[u8],
-) -> State {
+) -> io::Result<State> {
     let short = less(needed(bytes), 1);
-    let first = load(bytes, short, state, nodes, lookup, cache, file);
-    load(less(bytes, 1), 12400, first, nodes, lookup, cache, file)
+    let first = load(rt, bytes, short, state, nodes, lookup, cache, file)?;
+    load(rt, less(bytes, 1), 12400, first, nodes, lookup, cache, file)
 }
 
 // Loads the file of the list before, first in two ways that are refused.
 pub fn loaded(
+    rt: &impl Print,
     state: State,
     nodes: &mut [u32],
     lookup: &mut [u32],
     cache: &mut [u32],
     file: &[u8],
-) -> State {
+) -> io::Result<State> {
     let bytes = at_most(state.length, file.len());
-    let same = refused(bytes, state, nodes, lookup, cache, file);
-    load(bytes, 12400, same, nodes, lookup, cache, file)
+    let same = refused(rt, bytes, state, nodes, lookup, cache, file)?;
+    load(rt, bytes, 12400, same, nodes, lookup, cache, file)
 }
 
 // Changes the newest family by the limit: the newest one then holds that item, if there is room.
-fn changed(state: State, nodes: &mut [u32], lookup: &mut [u32], cache: &mut [u32]) -> State {
+fn changed(
+    rt: &impl Print,
+    state: State,
+    nodes: &mut [u32],
+    lookup: &mut [u32],
+    cache: &mut [u32],
+) -> io::Result<State> {
     let store = state.store;
     let lent = everything(store, lookup.len(), cache.len());
     let call = of(3, newest(store), store.limit);
-    let placed = placing::line(call, lent, nodes, lookup, cache);
-    with_placed(state, placed)
+    let placed = placing::line(rt, call, lent, nodes, lookup, cache)?;
+    Ok(with_placed(state, placed))
 }
 
 // Saves the newest family.
-fn saved(state: State, nodes: &[u32], lookup: &[u32], file: &mut [u8]) -> State {
+fn saved(
+    rt: &impl Print,
+    state: State,
+    nodes: &[u32],
+    lookup: &[u32],
+    file: &mut [u8],
+) -> io::Result<State> {
     let store = state.store;
     let p = newest(store);
     let lent = everything(store, lookup.len(), 0);
@@ -72,18 +88,19 @@ fn saved(state: State, nodes: &[u32], lookup: &[u32], file: &mut [u8]) -> State 
         words: 1100,
         bytes: file.len(),
     };
-    let last = saves::lines(p, room, lent, nodes, lookup, file, state.length);
-    with_file(state, state.draw, last)
+    let last = saves::lines(rt, p, room, lent, nodes, lookup, file, state.length)?;
+    Ok(with_file(state, state.draw, last))
 }
 
 // Makes the file for the next list.
 pub fn made(
+    rt: &impl Print,
     state: State,
     nodes: &mut [u32],
     lookup: &mut [u32],
     cache: &mut [u32],
     file: &mut [u8],
-) -> State {
-    let last = changed(state, nodes, lookup, cache);
-    saved(last, nodes, lookup, file)
+) -> io::Result<State> {
+    let last = changed(rt, state, nodes, lookup, cache)?;
+    saved(rt, last, nodes, lookup, file)
 }

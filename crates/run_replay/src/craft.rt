@@ -4,9 +4,10 @@ use crate::draw::{Drawn, below, step};
 use crate::output::text;
 use crate::saves;
 use crate::state::{State, with_file};
+use std::io;
 
 // Where the next byte goes, the record before, and the draw.
-#[derive(Drop)]
+#[derive(Clone, Copy)]
 struct Crafted {
     at: usize,
     item: u32,
@@ -14,7 +15,7 @@ struct Crafted {
 }
 
 // A record's three numbers, and its bit map byte.
-#[derive(Drop)]
+#[derive(Clone, Copy)]
 pub struct Fields {
     pub bits: u32,
     pub item: u32,
@@ -167,7 +168,7 @@ fn put_records(file: &mut [u8], limit: u32, parts: u32, mask: u32, draw: u32) ->
 }
 
 // How long the file in the buffer is, and the draw.
-#[derive(Drop)]
+#[derive(Clone, Copy)]
 pub struct Crafting {
     pub length: usize,
     pub draw: u32,
@@ -227,9 +228,9 @@ pub fn tall(file: &mut [u8], drawn: Drawn, limit: u32) -> Crafting {
 }
 
 // Writes the file; gives the state with it in the buffer.
-pub fn line(crafting: Crafting, state: State, file: &[u8]) -> State {
-    text(b"Craft");
-    saves::bytes(file, crafting.length);
-    text(b"\n");
-    with_file(state, crafting.draw, crafting.length)
+pub fn line(rt: &impl Print, crafting: Crafting, state: State, file: &[u8]) -> io::Result<State> {
+    text(rt, b"Craft")?;
+    saves::bytes(rt, file, crafting.length)?;
+    text(rt, b"\n")?;
+    Ok(with_file(state, crafting.draw, crafting.length))
 }

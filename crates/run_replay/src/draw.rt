@@ -9,7 +9,7 @@ pub fn step(x: u32) -> u32 {
 }
 
 // The five numbers drawn for a call.
-#[derive(Drop)]
+#[derive(Clone, Copy)]
 pub struct Drawn {
     pub kind: u32,
     pub a: u32,

@@ -3,7 +3,7 @@ use crate::draw::{at_most, size_below};
 use store::record::Store;
 
 // What a call is handed besides its own arguments.
-#[derive(Drop)]
+#[derive(Clone, Copy)]
 pub struct Lent {
     pub record: Store,
     pub slots: usize,

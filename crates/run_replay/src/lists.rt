@@ -7,63 +7,86 @@ use crate::state::{State, with_file, with_fresh};
 use crate::sums::{MARK, cleared, spare};
 use crate::turn::{Manner, turn};
 use crate::{carried, shapes, sizes, subsets, tall, weighing};
+use std::io;
 use store::record::Store;
 use store_fresh::{FreshAnswer, Freshened, fresh};
 
 // Writes some words.
-fn all_words(words: &[u32]) {
+fn all_words(rt: &impl Print, words: &[u32]) -> io::Result<()> {
     let mut at: usize = 0;
     while at < words.len() {
-        word(words[at]);
+        word(rt, words[at])?;
         at = at + 1;
     }
+    Ok(())
 }
 
 // Writes what Fresh gave.
-fn fresh_given(freshened: Freshened, cache: &[u32]) {
+fn fresh_given(rt: &impl Print, freshened: Freshened, cache: &[u32]) -> io::Result<()> {
     let given = freshened.answer;
     match given {
         FreshAnswer::Done => {
-            text(b" done cleared");
-            answer(cleared(cache));
+            text(rt, b" done cleared")?;
+            answer(rt, cleared(cache))?;
         }
-        FreshAnswer::Refused(refusal) => refused(refusal),
+        FreshAnswer::Refused(refusal) => refused(rt, refusal)?,
     }
-    record(freshened.store);
+    record(rt, freshened.store)
 }
 
 // Writes how many words Fresh is lent, and the limit.
-fn fresh_text(nodes: usize, lookup: usize, cache: usize, limit: u32) {
-    text(b"Fresh");
-    length(nodes);
-    length(lookup);
-    length(cache);
-    text(b" limit");
-    word(limit);
-    text(b":");
+fn fresh_text(
+    rt: &impl Print,
+    nodes: usize,
+    lookup: usize,
+    cache: usize,
+    limit: u32,
+) -> io::Result<()> {
+    text(rt, b"Fresh")?;
+    length(rt, nodes)?;
+    length(rt, lookup)?;
+    length(rt, cache)?;
+    text(rt, b" limit")?;
+    word(rt, limit)?;
+    text(rt, b":")
 }
 
 // Fresh, and its line.
-fn fresh_line(limit: u32, nodes: &mut [u32], lookup: &mut [u32], cache: &mut [u32]) -> Freshened {
+fn fresh_line(
+    rt: &impl Print,
+    limit: u32,
+    nodes: &mut [u32],
+    lookup: &mut [u32],
+    cache: &mut [u32],
+) -> io::Result<Freshened> {
     let freshened = fresh(nodes, lookup, cache, limit);
-    fresh_text(nodes.len(), lookup.len(), cache.len(), limit);
-    fresh_given(freshened, cache);
-    sum_line(words(nodes, lookup));
-    freshened
+    fresh_text(rt, nodes.len(), lookup.len(), cache.len(), limit)?;
+    fresh_given(rt, freshened, cache)?;
+    sum_line(rt, words(nodes, lookup))?;
+    Ok(freshened)
 }
 
 // After every seventh call the sums of weights of a drawn family, after every fourth the size of one by both entries.
-fn asked_after(left: u32, items: u32, state: State, nodes: &[u32], lookup: &[u32]) {
+fn asked_after(
+    rt: &impl Print,
+    left: u32,
+    items: u32,
+    state: State,
+    nodes: &[u32],
+    lookup: &[u32],
+) -> io::Result<()> {
     if left % 7 == 0 {
-        weighing::drawn_lines(items, state, nodes, lookup);
+        weighing::drawn_lines(rt, items, state, nodes, lookup)?;
     }
     if left % 4 == 0 {
-        sizes::drawn_lines(state, nodes, lookup);
+        sizes::drawn_lines(rt, state, nodes, lookup)?;
     }
+    Ok(())
 }
 
 // So many drawn calls.
 fn turns(
+    rt: &impl Print,
     calls: u32,
     manner: Manner,
     start: State,
@@ -71,126 +94,148 @@ fn turns(
     lookup: &mut [u32],
     cache: &mut [u32],
     file: &mut [u8],
-) -> State {
+) -> io::Result<State> {
     let mut state = start;
     let mut left = calls;
     while 0 < left {
-        state = turn(manner, state, nodes, lookup, cache, file);
-        asked_after(left, manner.items, state, nodes, lookup);
+        state = turn(rt, manner, state, nodes, lookup, cache, file)?;
+        asked_after(rt, left, manner.items, state, nodes, lookup)?;
         left = left - 1;
     }
-    state
+    Ok(state)
 }
 
 // What comes before the drawn calls: Load of the file of the list before; in the list with 70 items all subsets of 64,
 // in the one with 270 families of simple shapes, in the one with 512 a family of 200 parts.
 fn opening(
+    rt: &impl Print,
     items: u32,
     state: State,
     nodes: &mut [u32],
     lookup: &mut [u32],
     cache: &mut [u32],
     file: &mut [u8],
-) -> State {
-    let loaded = carried::loaded(state, nodes, lookup, cache, file);
+) -> io::Result<State> {
+    let loaded = carried::loaded(rt, state, nodes, lookup, cache, file)?;
     if items == 70 {
-        return subsets::lines(loaded, nodes, lookup, cache);
+        return subsets::lines(rt, loaded, nodes, lookup, cache);
     }
     if items == 270 {
-        return shapes::lines(loaded, nodes, lookup, cache, file);
+        return shapes::lines(rt, loaded, nodes, lookup, cache, file);
     }
     if items == 512 {
-        return tall::lines(loaded, nodes, lookup, cache, file);
+        return tall::lines(rt, loaded, nodes, lookup, cache, file);
     }
-    loaded
+    Ok(loaded)
 }
 
 // The opening and the drawn calls of a list.
 fn drawn_calls(
+    rt: &impl Print,
     setting: Setting,
     state: State,
     nodes: &mut [u32],
     lookup: &mut [u32],
     cache: &mut [u32],
     file: &mut [u8],
-) -> State {
-    let opened = opening(setting.items, state, nodes, lookup, cache, file);
+) -> io::Result<State> {
+    let opened = opening(rt, setting.items, state, nodes, lookup, cache, file)?;
     let manner = Manner {
         items: setting.items,
         whole: 16 < setting.items,
     };
-    turns(setting.calls, manner, opened, nodes, lookup, cache, file)
+    turns(
+        rt,
+        setting.calls,
+        manner,
+        opened,
+        nodes,
+        lookup,
+        cache,
+        file,
+    )
 }
 
 // The calls of a list, if it has any; the last make the file for the next list.
 fn calls(
+    rt: &impl Print,
     setting: Setting,
     state: State,
     nodes: &mut [u32],
     lookup: &mut [u32],
     cache: &mut [u32],
     file: &mut [u8],
-) -> State {
+) -> io::Result<State> {
     if setting.calls == 0 {
-        return state;
+        return Ok(state);
     }
-    let last = drawn_calls(setting, state, nodes, lookup, cache, file);
-    carried::made(last, nodes, lookup, cache, file)
+    let last = drawn_calls(rt, setting, state, nodes, lookup, cache, file)?;
+    carried::made(rt, last, nodes, lookup, cache, file)
 }
 
 // Writes how many nodes were added since Fresh, and how many are held.
-fn added_line(state: State) {
-    text(b"Added");
-    word(state.added);
-    text(b" held");
-    word(state.store.count);
-    text(b"\n");
+fn added_line(rt: &impl Print, state: State) -> io::Result<()> {
+    text(rt, b"Added")?;
+    word(rt, state.added)?;
+    text(rt, b" held")?;
+    word(rt, state.store.count)?;
+    text(rt, b"\n")
 }
 
 // Writes what a list leaves: what was added, all node words and the lookup, and whether the words past the whole cache
 // groups are as before.
-fn end_text(last: State, nodes: &[u32], lookup: &[u32], cache: &[u32], before: u32) {
-    added_line(last);
-    text(b"Nodes");
-    all_words(nodes);
-    text(b"\nLookup");
-    all_words(lookup);
-    text(b"\nSpare cache words kept");
-    answer(spare(cache) == before);
-    text(b"\n");
+fn end_text(
+    rt: &impl Print,
+    last: State,
+    nodes: &[u32],
+    lookup: &[u32],
+    cache: &[u32],
+    before: u32,
+) -> io::Result<()> {
+    added_line(rt, last)?;
+    text(rt, b"Nodes")?;
+    all_words(rt, nodes)?;
+    text(rt, b"\nLookup")?;
+    all_words(rt, lookup)?;
+    text(rt, b"\nSpare cache words kept")?;
+    answer(rt, spare(cache) == before)?;
+    text(rt, b"\n")
 }
 
 // A list on lent words.
 fn list_on(
+    rt: &impl Print,
     setting: Setting,
     state: State,
     nodes: &mut [u32],
     lookup: &mut [u32],
     cache: &mut [u32],
     file: &mut [u8],
-) -> State {
+) -> io::Result<State> {
     let before = spare(cache);
-    let freshened = fresh_line(setting.limit, nodes, lookup, cache);
+    let freshened = fresh_line(rt, setting.limit, nodes, lookup, cache)?;
     let store = freshened.store;
     let start = with_fresh(state, store);
-    let last = calls(setting, start, nodes, lookup, cache, file);
-    end_text(last, nodes, lookup, cache, before);
-    last
+    let last = calls(rt, setting, start, nodes, lookup, cache, file)?;
+    end_text(rt, last, nodes, lookup, cache, before)?;
+    Ok(last)
 }
 
 // A list on parts of the words.
 fn list(
+    rt: &impl Print,
     setting: Setting,
     state: State,
     nodes: &mut [u32],
     lookup: &mut [u32],
     cache: &mut [u32],
     file: &mut [u8],
-) -> State {
+) -> io::Result<State> {
     let n = at_most(setting.nodes, nodes.len());
     let l = at_most(setting.lookup, lookup.len());
     let c = at_most(setting.cache, cache.len());
     list_on(
+        rt,
         setting,
         state,
         &mut nodes[0..n],
@@ -201,7 +246,7 @@ fn list(
 }
 
 // What a list begins with.
-#[derive(Drop)]
+#[derive(Clone, Copy)]
 struct Begun {
     setting: Setting,
     state: State,
@@ -221,7 +266,13 @@ fn begin(k: u32, state: State) -> Begun {
 }
 
 // All lists, one after the other on the same words.
-fn lists(nodes: &mut [u32], lookup: &mut [u32], cache: &mut [u32], file: &mut [u8]) {
+fn lists(
+    rt: &impl Print,
+    nodes: &mut [u32],
+    lookup: &mut [u32],
+    cache: &mut [u32],
+    file: &mut [u8],
+) -> io::Result<()> {
     let mut state = State {
         draw: 2463534242,
         store: Store::new(0, 0),
@@ -231,16 +282,17 @@ fn lists(nodes: &mut [u32], lookup: &mut [u32], cache: &mut [u32], file: &mut [u
     let mut k: u32 = 0;
     while k < 57 {
         let begun = begin(k, state);
-        state = list(begun.setting, begun.state, nodes, lookup, cache, file);
+        state = list(rt, begun.setting, begun.state, nodes, lookup, cache, file)?;
         k = k + 1;
     }
+    Ok(())
 }
 
 // All lists.
-pub fn all() {
+pub fn all(rt: &impl Print) -> io::Result<()> {
     let mut nodes = [MARK; 3010];
     let mut lookup = [MARK; 2060];
     let mut cache = [MARK; 4100];
     let mut file = [0u8; 2048];
-    lists(&mut nodes, &mut lookup, &mut cache, &mut file);
+    lists(rt, &mut nodes, &mut lookup, &mut cache, &mut file)
 }

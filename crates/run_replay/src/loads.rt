@@ -6,10 +6,11 @@ use crate::placing::{given, words};
 use crate::saves::free_until;
 use crate::sums::{MARK, kept, of_words};
 use file_load::load;
+use std::io;
 use store::record::{PlaceAnswer, Placed};
 
 // How many bytes a Load reads, and how much scratch is lent to it.
-#[derive(Drop)]
+#[derive(Clone, Copy)]
 pub struct Reading {
     pub bytes: usize,
     pub words: usize,
@@ -51,28 +52,35 @@ pub fn needed(bytes: usize) -> usize {
 }
 
 // Writes how many bytes are read, and how much is lent.
-fn call_text(bytes: usize, slots: usize, part: usize, words: usize) {
-    text(b"Load");
-    length(bytes);
-    lent_three(slots, part, words);
+fn call_text(
+    rt: &impl Print,
+    bytes: usize,
+    slots: usize,
+    part: usize,
+    words: usize,
+) -> io::Result<()> {
+    text(rt, b"Load")?;
+    length(rt, bytes)?;
+    lent_three(rt, slots, part, words)
 }
 
 // Writes whether the other scratch words are as before, and ends the line.
-fn kept_line(b: bool) {
-    text(b" kept");
-    answer(b);
-    text(b"\n");
+fn kept_line(rt: &impl Print, b: bool) -> io::Result<()> {
+    text(rt, b" kept")?;
+    answer(rt, b)?;
+    text(rt, b"\n")
 }
 
 // Loads bytes in lent scratch and writes the line.
 fn line_in(
+    rt: &impl Print,
     lent: Lent,
     nodes: &mut [u32],
     lookup: &mut [u32],
     cache: &mut [u32],
     file: &[u8],
     scratch: &mut [u32],
-) -> Placed {
+) -> io::Result<Placed> {
     let slots = at_most(lent.slots, lookup.len());
     let part = at_most(lent.cache, cache.len());
     let before = of_words(1, &cache[0..part]);
@@ -84,14 +92,15 @@ fn line_in(
         file,
         scratch,
     );
-    call_text(file.len(), slots, part, scratch.len());
-    given(placed, &cache[0..part], before);
-    sum(words(nodes, lookup));
-    placed
+    call_text(rt, file.len(), slots, part, scratch.len())?;
+    given(rt, placed, &cache[0..part], before)?;
+    sum(rt, words(nodes, lookup))?;
+    Ok(placed)
 }
 
 // Loads the first bytes in a part of the scratch and writes the line.
 fn line_on(
+    rt: &impl Print,
     reading: Reading,
     lent: Lent,
     nodes: &mut [u32],
@@ -99,30 +108,32 @@ fn line_on(
     cache: &mut [u32],
     file: &[u8],
     scratch: &mut [u32],
-) -> Placed {
+) -> io::Result<Placed> {
     let n = at_most(reading.bytes, file.len());
     let part = at_most(reading.words, scratch.len());
     let placed = line_in(
+        rt,
         lent,
         nodes,
         lookup,
         cache,
         &file[0..n],
         &mut scratch[0..part],
-    );
-    kept_line(scratch_kept(placed, scratch, needed(n)));
-    placed
+    )?;
+    kept_line(rt, scratch_kept(placed, scratch, needed(n)))?;
+    Ok(placed)
 }
 
 // Loads the first bytes and writes the line.
 pub fn line(
+    rt: &impl Print,
     reading: Reading,
     lent: Lent,
     nodes: &mut [u32],
     lookup: &mut [u32],
     cache: &mut [u32],
     file: &[u8],
-) -> Placed {
+) -> io::Result<Placed> {
     let mut scratch = [MARK; 12400];
-    line_on(reading, lent, nodes, lookup, cache, file, &mut scratch)
+    line_on(rt, reading, lent, nodes, lookup, cache, file, &mut scratch)
 }

@@ -1,4 +1,6 @@
 // Replays lists of calls that a fixed 32-bit xorshift draws, and writes one line for each call with its answer.
+#![tactic(auto)]
+
 mod audits;
 mod carried;
 mod craft;
@@ -24,6 +26,8 @@ mod turn;
 mod weighing;
 mod weights;
 
-fn main() {
-    lists::all();
+use std::io;
+
+fn main(rt: HostRuntime) -> io::Result<()> {
+    lists::all(&rt)
 }

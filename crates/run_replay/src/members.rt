@@ -5,6 +5,7 @@ use crate::output::{length, record, refused, text, word};
 use crate::path::{member, none, toggled};
 use combination::Combination;
 use query_has::{Asked, HasAnswer, has};
+use std::io;
 
 // An item above the limit, up to 512; 513 where there is none.
 fn above(x: u32, limit: u32) -> u32 {
@@ -29,38 +30,46 @@ pub fn combination(drawn: Drawn, items: u32, limit: u32, nodes: &[u32], p: u32) 
 }
 
 // Writes the items of a combination.
-fn items_text(combination: Combination) {
+fn items_text(rt: &impl Print, combination: Combination) -> io::Result<()> {
     let mut item: u32 = 1;
     while item < 513 {
         if combination.contains(item) {
-            word(item);
+            word(rt, item)?;
         }
         item = item + 1;
     }
+    Ok(())
 }
 
 // Writes what Has gave.
-fn given(asked: Asked) {
+fn given(rt: &impl Print, asked: Asked) -> io::Result<()> {
     let answer = asked.answer;
     match answer {
-        HasAnswer::Yes => text(b" yes"),
-        HasAnswer::No => text(b" no"),
-        HasAnswer::Refused(refusal) => refused(refusal),
+        HasAnswer::Yes => text(rt, b" yes")?,
+        HasAnswer::No => text(rt, b" no")?,
+        HasAnswer::Refused(refusal) => refused(rt, refusal)?,
     }
-    record(asked.store);
+    record(rt, asked.store)
 }
 
 // Asks for a combination and writes the line.
-pub fn line(p: u32, combination: Combination, lent: Lent, nodes: &[u32], lookup: &[u32]) {
+pub fn line(
+    rt: &impl Print,
+    p: u32,
+    combination: Combination,
+    lent: Lent,
+    nodes: &[u32],
+    lookup: &[u32],
+) -> io::Result<()> {
     let slots = at_most(lent.slots, lookup.len());
     let asked = has(lent.record, nodes, &lookup[0..slots], p, combination);
-    text(b"Has");
-    word(p);
-    text(b" items");
-    items_text(combination);
-    text(b" lent");
-    length(slots);
-    text(b":");
-    given(asked);
-    text(b"\n");
+    text(rt, b"Has")?;
+    word(rt, p)?;
+    text(rt, b" items")?;
+    items_text(rt, combination)?;
+    text(rt, b" lent")?;
+    length(rt, slots)?;
+    text(rt, b":")?;
+    given(rt, asked)?;
+    text(rt, b"\n")
 }

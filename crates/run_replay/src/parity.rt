@@ -3,10 +3,11 @@ use crate::lend::everything;
 use crate::placing;
 use crate::placing::{Operation, handle_of, of};
 use crate::state::{State, with_placed};
+use std::io;
 use store::record::Placed;
 
 // The state, and the handles of the even and the odd part.
-#[derive(Drop)]
+#[derive(Clone, Copy)]
 struct Pair {
     state: State,
     even: u32,
@@ -44,6 +45,7 @@ fn after(step: u32, pair: Pair, placed: Placed) -> Pair {
 
 // Runs the operation of a step with all words lent, and so much of the cache.
 fn stepped(
+    rt: &impl Print,
     step: u32,
     p: u32,
     part: usize,
@@ -51,22 +53,23 @@ fn stepped(
     nodes: &mut [u32],
     lookup: &mut [u32],
     cache: &mut [u32],
-) -> Pair {
+) -> io::Result<Pair> {
     let state = pair.state;
     let lent = everything(state.store, lookup.len(), part);
-    let placed = placing::line(operation(step, p, pair), lent, nodes, lookup, cache);
-    after(step, pair, placed)
+    let placed = placing::line(rt, operation(step, p, pair), lent, nodes, lookup, cache)?;
+    Ok(after(step, pair, placed))
 }
 
 // Writes the lines; gives the state after them.
 pub fn lines(
+    rt: &impl Print,
     p: u32,
     part: usize,
     start: State,
     nodes: &mut [u32],
     lookup: &mut [u32],
     cache: &mut [u32],
-) -> State {
+) -> io::Result<State> {
     let mut pair = Pair {
         state: start,
         even: 0,
@@ -74,8 +77,8 @@ pub fn lines(
     };
     let mut step: u32 = 0;
     while step < 4 {
-        pair = stepped(step, p, part, pair, nodes, lookup, cache);
+        pair = stepped(rt, step, p, part, pair, nodes, lookup, cache)?;
         step = step + 1;
     }
-    pair.state
+    Ok(pair.state)
 }

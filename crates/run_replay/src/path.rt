@@ -23,7 +23,7 @@ pub fn toggled(combination: Combination, item: u32) -> Combination {
 }
 
 // A handle on a way down, the items met so far and the draw.
-#[derive(Drop)]
+#[derive(Clone, Copy)]
 struct Path {
     at: u32,
     items: Combination,

@@ -6,10 +6,11 @@ use crate::sums::{cleared, of_words};
 use op_calls::operate;
 use op_parity::calls::{even, odd};
 use op_promise::operation_of;
+use std::io;
 use store::record::{PlaceAnswer, Placed, Refusal, Store};
 
 // An operation by its number in the cache, 1 to 8, and its two operands; for Even (7) and Odd (8) the second is 0.
-#[derive(Drop)]
+#[derive(Clone, Copy)]
 pub struct Operation {
     pub op: u32,
     pub p: u32,
@@ -17,47 +18,47 @@ pub struct Operation {
 }
 
 // Writes the name of an operation.
-fn name(op: u32) {
+fn name(rt: &impl Print, op: u32) -> io::Result<()> {
     match op {
-        1 => text(b"Subset1"),
-        2 => text(b"Subset0"),
-        3 => text(b"Change"),
-        4 => text(b"Union"),
-        5 => text(b"Intsec"),
-        6 => text(b"Diff"),
-        7 => text(b"Even"),
-        _ => text(b"Odd"),
+        1 => text(rt, b"Subset1"),
+        2 => text(rt, b"Subset0"),
+        3 => text(rt, b"Change"),
+        4 => text(rt, b"Union"),
+        5 => text(rt, b"Intsec"),
+        6 => text(rt, b"Diff"),
+        7 => text(rt, b"Even"),
+        _ => text(rt, b"Odd"),
     }
 }
 
 // Writes a refusal, and of the lent cache words: after 5 whether the whole groups are 0, else whether all are as
 // before.
-fn refused_with(refusal: Refusal, cache: &[u32], before: u32) {
-    refused(refusal);
+fn refused_with(rt: &impl Print, refusal: Refusal, cache: &[u32], before: u32) -> io::Result<()> {
+    refused(rt, refusal)?;
     match refusal {
         Refusal::Full => {
-            text(b" cleared");
-            answer(cleared(cache));
+            text(rt, b" cleared")?;
+            answer(rt, cleared(cache))
         }
         _ => {
-            text(b" stays");
-            answer(of_words(1, cache) == before);
+            text(rt, b" stays")?;
+            answer(rt, of_words(1, cache) == before)
         }
     }
 }
 
 // Writes what a call that places gave; `before` is the sum of the lent cache words before the call.
-pub fn given(placed: Placed, cache: &[u32], before: u32) {
+pub fn given(rt: &impl Print, placed: Placed, cache: &[u32], before: u32) -> io::Result<()> {
     let answer = placed.answer;
     match answer {
         PlaceAnswer::Handle(handle, added) => {
-            word(handle);
-            text(b" added");
-            word(added);
+            word(rt, handle)?;
+            text(rt, b" added")?;
+            word(rt, added)?;
         }
-        PlaceAnswer::Refused(refusal) => refused_with(refusal, cache, before),
+        PlaceAnswer::Refused(refusal) => refused_with(rt, refusal, cache, before)?,
     }
-    record(placed.store);
+    record(rt, placed.store)
 }
 
 // The sum of the node words and the lookup.
@@ -66,18 +67,19 @@ pub fn words(nodes: &[u32], lookup: &[u32]) -> u32 {
 }
 
 // Writes the operands: Even and Odd take one.
-fn operands(call: Operation) {
-    word(call.p);
+fn operands(rt: &impl Print, call: Operation) -> io::Result<()> {
+    word(rt, call.p)?;
     if call.op < 7 {
-        word(call.q);
+        word(rt, call.q)?;
     }
+    Ok(())
 }
 
 // Writes an operation, and how much is lent to it.
-fn call_text(call: Operation, slots: usize, part: usize) {
-    name(call.op);
-    operands(call);
-    lent_two(slots, part);
+fn call_text(rt: &impl Print, call: Operation, slots: usize, part: usize) -> io::Result<()> {
+    name(rt, call.op)?;
+    operands(rt, call)?;
+    lent_two(rt, slots, part)
 }
 
 // Runs an operation.
@@ -100,12 +102,13 @@ fn run(
 
 // Runs an operation and writes its line.
 pub fn line(
+    rt: &impl Print,
     call: Operation,
     lent: Lent,
     nodes: &mut [u32],
     lookup: &mut [u32],
     cache: &mut [u32],
-) -> Placed {
+) -> io::Result<Placed> {
     let slots = at_most(lent.slots, lookup.len());
     let part = at_most(lent.cache, cache.len());
     let before = of_words(1, &cache[0..part]);
@@ -116,10 +119,10 @@ pub fn line(
         &mut lookup[0..slots],
         &mut cache[0..part],
     );
-    call_text(call, slots, part);
-    given(placed, &cache[0..part], before);
-    sum_line(words(nodes, lookup));
-    placed
+    call_text(rt, call, slots, part)?;
+    given(rt, placed, &cache[0..part], before)?;
+    sum_line(rt, words(nodes, lookup))?;
+    Ok(placed)
 }
 
 // The operation of these numbers.

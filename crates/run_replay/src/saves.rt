@@ -4,25 +4,27 @@ use crate::lend::Lent;
 use crate::output::{answer, byte, length, lent_three, record, refused, sum_line, text, word};
 use crate::sums::{MARK, kept, of_bytes};
 use file_save::{SaveAnswer, Saved, save};
+use std::io;
 use store::record::Refusal;
 
 // How much is lent to a Save.
-#[derive(Drop)]
+#[derive(Clone, Copy)]
 pub struct Room {
     pub words: usize,
     pub bytes: usize,
 }
 
 // Writes the first bytes.
-pub fn bytes(file: &[u8], count: usize) {
+pub fn bytes(rt: &impl Print, file: &[u8], count: usize) -> io::Result<()> {
     let mut at: usize = 0;
     while at < count {
         if file.len() <= at {
-            return;
+            return Ok(());
         }
-        byte(file[at]);
+        byte(rt, file[at])?;
         at = at + 1;
     }
+    Ok(())
 }
 
 // From where on the scratch must be as before: after 10, 4, 11 and 7 all of it, else what is past the needed words.
@@ -37,33 +39,34 @@ pub fn free_until(refusal: Refusal, needed: usize) -> usize {
 }
 
 // Writes what Save gave, and whether the other scratch words are as before.
-fn given(saved: Saved, links: &[u32]) {
+fn given(rt: &impl Print, saved: Saved, links: &[u32]) -> io::Result<()> {
     let needed = saved.store.count as usize;
     let answered = saved.answer;
     match answered {
         SaveAnswer::Length(n) => {
-            length(n);
-            text(b" kept");
-            answer(kept(links, needed));
+            length(rt, n)?;
+            text(rt, b" kept")?;
+            answer(rt, kept(links, needed))?;
         }
         SaveAnswer::Refused(refusal) => {
-            refused(refusal);
-            text(b" kept");
-            answer(kept(links, free_until(refusal, needed)));
+            refused(rt, refusal)?;
+            text(rt, b" kept")?;
+            answer(rt, kept(links, free_until(refusal, needed)))?;
         }
     }
-    record(saved.store);
+    record(rt, saved.store)
 }
 
 // Writes the handle, and how much is lent.
-fn call_text(p: u32, slots: usize, part: usize, out: usize) {
-    text(b"Save");
-    word(p);
-    lent_three(slots, part, out);
+fn call_text(rt: &impl Print, p: u32, slots: usize, part: usize, out: usize) -> io::Result<()> {
+    text(rt, b"Save")?;
+    word(rt, p)?;
+    lent_three(rt, slots, part, out)
 }
 
 // Saves p in lent scratch and writes the line.
 fn line_in(
+    rt: &impl Print,
     p: u32,
     room: Room,
     lent: Lent,
@@ -71,7 +74,7 @@ fn line_in(
     lookup: &[u32],
     links: &mut [u32],
     file: &mut [u8],
-) -> SaveAnswer {
+) -> io::Result<SaveAnswer> {
     let slots = at_most(lent.slots, lookup.len());
     let part = at_most(room.words, links.len());
     let out = at_most(room.bytes, file.len());
@@ -83,35 +86,37 @@ fn line_in(
         &mut links[0..part],
         &mut file[0..out],
     );
-    call_text(p, slots, part, out);
-    given(saved, links);
-    sum_line(of_bytes(file));
-    saved.answer
+    call_text(rt, p, slots, part, out)?;
+    given(rt, saved, links)?;
+    sum_line(rt, of_bytes(file))?;
+    Ok(saved.answer)
 }
 
 // Saves p and writes the line.
 pub fn line(
+    rt: &impl Print,
     p: u32,
     room: Room,
     lent: Lent,
     nodes: &[u32],
     lookup: &[u32],
     file: &mut [u8],
-) -> SaveAnswer {
+) -> io::Result<SaveAnswer> {
     let mut links = [MARK; 1100];
-    line_in(p, room, lent, nodes, lookup, &mut links, file)
+    line_in(rt, p, room, lent, nodes, lookup, &mut links, file)
 }
 
 // Writes the bytes of a file.
-fn file_line(file: &[u8], count: usize) {
-    text(b"File");
-    bytes(file, count);
-    text(b"\n");
+fn file_line(rt: &impl Print, file: &[u8], count: usize) -> io::Result<()> {
+    text(rt, b"File")?;
+    bytes(rt, file, count)?;
+    text(rt, b"\n")
 }
 
 // Saves p; where that gives a length, writes the file, and saves again into just that many bytes and into one less.
 // Gives the length of the last file.
 pub fn lines(
+    rt: &impl Print,
     p: u32,
     room: Room,
     lent: Lent,
@@ -119,21 +124,21 @@ pub fn lines(
     lookup: &[u32],
     file: &mut [u8],
     before: usize,
-) -> usize {
+) -> io::Result<usize> {
     let words = room.words;
-    let SaveAnswer::Length(n) = line(p, room, lent, nodes, lookup, file) else {
-        return before;
+    let SaveAnswer::Length(n) = line(rt, p, room, lent, nodes, lookup, file)? else {
+        return Ok(before);
     };
-    file_line(file, n);
+    file_line(rt, file, n)?;
     let exact = Room {
         words: words,
         bytes: n,
     };
-    line(p, exact, lent, nodes, lookup, file);
+    line(rt, p, exact, lent, nodes, lookup, file)?;
     let short = Room {
         words: words,
         bytes: std::num::wrapping_sub_usize(n, 1),
     };
-    line(p, short, lent, nodes, lookup, file);
-    n
+    line(rt, p, short, lent, nodes, lookup, file)?;
+    Ok(n)
 }

@@ -3,7 +3,7 @@ use crate::draw::Drawn;
 
 // What is lent to a list, its limit, how many items it draws from either end, and how many calls it has. One with more
 // than 16 items always lends its whole cache.
-#[derive(Drop)]
+#[derive(Clone, Copy)]
 pub struct Setting {
     pub nodes: usize,
     pub lookup: usize,

@@ -5,10 +5,11 @@ use crate::lend::everything;
 use crate::placing::Operation;
 use crate::state::{State, newest, with_placed};
 use crate::{craft, placing, weighing, weights};
+use std::io;
 
 // A family: of the items up to `free` all subsets, each with the items up to `fixed`; besides these each item up to
 // `single` alone; and in each of all these the items up to `all`.
-#[derive(Drop)]
+#[derive(Clone, Copy)]
 struct Shape {
     free: u32,
     fixed: u32,
@@ -75,30 +76,31 @@ fn put_parts(shape: Shape, file: &mut [u8]) -> usize {
 }
 
 // Puts the file of a shape.
-fn crafted(shape: Shape, state: State, file: &mut [u8]) -> State {
+fn crafted(rt: &impl Print, shape: Shape, state: State, file: &mut [u8]) -> io::Result<State> {
     put_head(file, 4, 1, shape.all);
     let made = Crafting {
         length: put_parts(shape, file),
         draw: state.draw,
     };
-    craft::line(made, state, file)
+    craft::line(rt, made, state, file)
 }
 
 // Loads the family of a step.
 fn loaded(
+    rt: &impl Print,
     step: u32,
     state: State,
     nodes: &mut [u32],
     lookup: &mut [u32],
     cache: &mut [u32],
     file: &mut [u8],
-) -> State {
-    let made = crafted(shape_of(step), state, file);
-    load(made.length, 12400, made, nodes, lookup, cache, file)
+) -> io::Result<State> {
+    let made = crafted(rt, shape_of(step), state, file)?;
+    load(rt, made.length, 12400, made, nodes, lookup, cache, file)
 }
 
 // The state, and the newest family but for what the last step made.
-#[derive(Drop)]
+#[derive(Clone, Copy)]
 struct Built {
     state: State,
     before: u32,
@@ -117,17 +119,18 @@ fn operation(step: u32, before: u32, last: u32) -> Operation {
 
 // Runs the operation of a step.
 fn operated(
+    rt: &impl Print,
     step: u32,
     built: Built,
     nodes: &mut [u32],
     lookup: &mut [u32],
     cache: &mut [u32],
-) -> State {
+) -> io::Result<State> {
     let state = built.state;
     let call = operation(step, built.before, newest(state.store));
     let lent = everything(state.store, lookup.len(), cache.len());
-    let placed = placing::line(call, lent, nodes, lookup, cache);
-    with_placed(state, placed)
+    let placed = placing::line(rt, call, lent, nodes, lookup, cache)?;
+    Ok(with_placed(state, placed))
 }
 
 // The item that is weighed apart from the others in a step; 0 in one that loads.
@@ -153,65 +156,68 @@ fn item_of(step: u32) -> u32 {
 
 // The sums of the newest family, the last in one scratch word too few and in just enough; of the last two families, of some
 // 2^24 members, also by members. With all weights 2^32 - 1 but item 270 at 1 theirs are 2^64 - 1 and 2^64.
-fn sums(step: u32, state: State, nodes: &[u32], lookup: &[u32]) {
+fn sums(rt: &impl Print, step: u32, state: State, nodes: &[u32], lookup: &[u32]) -> io::Result<()> {
     let lent = everything(state.store, lookup.len(), 0);
     let p = newest(state.store);
     let edge = weights::of(2, 270, 1);
     let needed = 3 * state.store.count as usize;
     let short = std::num::wrapping_sub_usize(needed, 1);
-    weighing::every(p, item_of(step), state.draw, lent, nodes, lookup);
-    weighing::lines(false, p, short, edge, lent, nodes, lookup);
-    weighing::lines(9 < step, p, needed, edge, lent, nodes, lookup);
+    weighing::every(rt, p, item_of(step), state.draw, lent, nodes, lookup)?;
+    weighing::lines(rt, false, p, short, edge, lent, nodes, lookup)?;
+    weighing::lines(rt, 9 < step, p, needed, edge, lent, nodes, lookup)
 }
 
 // Loads the family of a step, or makes it by an operation.
 fn made(
+    rt: &impl Print,
     step: u32,
     built: Built,
     nodes: &mut [u32],
     lookup: &mut [u32],
     cache: &mut [u32],
     file: &mut [u8],
-) -> State {
+) -> io::Result<State> {
     if apart(step) == 0 {
-        return loaded(step, built.state, nodes, lookup, cache, file);
+        return loaded(rt, step, built.state, nodes, lookup, cache, file);
     }
-    operated(step, built, nodes, lookup, cache)
+    operated(rt, step, built, nodes, lookup, cache)
 }
 
 // Runs a step, and writes the sums of its family.
 fn stepped(
+    rt: &impl Print,
     step: u32,
     built: Built,
     nodes: &mut [u32],
     lookup: &mut [u32],
     cache: &mut [u32],
     file: &mut [u8],
-) -> Built {
-    let last = made(step, built, nodes, lookup, cache, file);
-    sums(step, last, nodes, lookup);
-    Built {
+) -> io::Result<Built> {
+    let last = made(rt, step, built, nodes, lookup, cache, file)?;
+    sums(rt, step, last, nodes, lookup)?;
+    Ok(Built {
         state: last,
         before: newest(built.state.store),
-    }
+    })
 }
 
 // Writes the lines of all steps; gives the state after them.
 pub fn lines(
+    rt: &impl Print,
     start: State,
     nodes: &mut [u32],
     lookup: &mut [u32],
     cache: &mut [u32],
     file: &mut [u8],
-) -> State {
+) -> io::Result<State> {
     let mut built = Built {
         state: start,
         before: 0,
     };
     let mut step: u32 = 0;
     while step < 12 {
-        built = stepped(step, built, nodes, lookup, cache, file);
+        built = stepped(rt, step, built, nodes, lookup, cache, file)?;
         step = step + 1;
     }
-    built.state
+    Ok(built.state)
 }

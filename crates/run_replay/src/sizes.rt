@@ -7,10 +7,11 @@ use crate::state::State;
 use crate::sums::{WIDE_MARK, of_sizes, wide_kept};
 use query_size::{Measured, SizeAnswer, size};
 use query_size_compact::call::size_compact;
+use std::io;
 use store::record::{Refusal, Store};
 
 // Which entry is asked, for which family, and how much scratch is lent.
-#[derive(Drop)]
+#[derive(Clone, Copy)]
 struct Measuring {
     compact: bool,
     p: u32,
@@ -33,23 +34,23 @@ fn run(
 }
 
 // Writes the call, and how much is lent.
-fn call_text(call: Measuring, slots: usize, part: usize) {
-    text(b"Size");
+fn call_text(rt: &impl Print, call: Measuring, slots: usize, part: usize) -> io::Result<()> {
+    text(rt, b"Size")?;
     if call.compact {
-        text(b" compact");
+        text(rt, b" compact")?;
     }
-    word(call.p);
-    lent_two(slots, part);
+    word(rt, call.p)?;
+    lent_two(rt, slots, part)
 }
 
 // Writes what an entry gave.
-fn given(measured: Measured) {
+fn given(rt: &impl Print, measured: Measured) -> io::Result<()> {
     let answered = measured.answer;
     match answered {
-        SizeAnswer::Members(members) => number(members),
-        SizeAnswer::Refused(refusal) => refused(refusal),
+        SizeAnswer::Members(members) => number(rt, members)?,
+        SizeAnswer::Refused(refusal) => refused(rt, refusal)?,
     }
-    record(measured.store);
+    record(rt, measured.store)
 }
 
 // From where on a refusal of the second entry leaves the scratch as before: after 10 and 4 all of it, else what was not
@@ -71,24 +72,31 @@ fn free_until(answered: SizeAnswer, part: usize) -> usize {
 }
 
 // Writes the sum of the first entry's scratch; of the second's, whether the words that are not free are as before.
-fn scratch_line(compact: bool, answered: SizeAnswer, part: usize, scratch: &[u64]) {
+fn scratch_line(
+    rt: &impl Print,
+    compact: bool,
+    answered: SizeAnswer,
+    part: usize,
+    scratch: &[u64],
+) -> io::Result<()> {
     if compact {
-        text(b" kept");
-        answer(wide_kept(scratch, free_until(answered, part)));
-        text(b"\n");
+        text(rt, b" kept")?;
+        answer(rt, wide_kept(scratch, free_until(answered, part)))?;
+        text(rt, b"\n")
     } else {
-        sum_line(of_sizes(scratch));
+        sum_line(rt, of_sizes(scratch))
     }
 }
 
 // Asks an entry in lent scratch and writes the line.
 fn line_in(
+    rt: &impl Print,
     call: Measuring,
     lent: Lent,
     nodes: &[u32],
     lookup: &[u32],
     scratch: &mut [u64],
-) -> SizeAnswer {
+) -> io::Result<SizeAnswer> {
     let slots = at_most(lent.slots, lookup.len());
     let part = at_most(call.words, scratch.len());
     let measured = run(
@@ -99,49 +107,74 @@ fn line_in(
         call.p,
         &mut scratch[0..part],
     );
-    call_text(call, slots, part);
-    given(measured);
+    call_text(rt, call, slots, part)?;
+    given(rt, measured)?;
     let answered = measured.answer;
-    scratch_line(call.compact, answered, part, scratch);
-    answered
+    scratch_line(rt, call.compact, answered, part, scratch)?;
+    Ok(answered)
 }
 
 // Asks the first entry for p and writes the line.
-pub fn line(p: u32, words: usize, lent: Lent, nodes: &[u32], lookup: &[u32]) -> SizeAnswer {
+pub fn line(
+    rt: &impl Print,
+    p: u32,
+    words: usize,
+    lent: Lent,
+    nodes: &[u32],
+    lookup: &[u32],
+) -> io::Result<SizeAnswer> {
     let mut sizes = [WIDE_MARK; 1100];
     let call = Measuring {
         compact: false,
         p: p,
         words: words,
     };
-    line_in(call, lent, nodes, lookup, &mut sizes)
+    line_in(rt, call, lent, nodes, lookup, &mut sizes)
 }
 
 // Asks the second entry for p and writes the line.
-fn compact_line(p: u32, words: usize, lent: Lent, nodes: &[u32], lookup: &[u32]) {
+fn compact_line(
+    rt: &impl Print,
+    p: u32,
+    words: usize,
+    lent: Lent,
+    nodes: &[u32],
+    lookup: &[u32],
+) -> io::Result<()> {
     let mut table = [WIDE_MARK; 2200];
     let call = Measuring {
         compact: true,
         p: p,
         words: words,
     };
-    line_in(call, lent, nodes, lookup, &mut table);
+    line_in(rt, call, lent, nodes, lookup, &mut table)?;
+    Ok(())
 }
 
 // Asks both entries for p, the second in scratch about a need, by a way, and writes the lines.
-pub fn both(way: u32, needed: usize, p: u32, lent: Lent, nodes: &[u32], lookup: &[u32]) {
-    compact_line(p, about(way, needed, 2200), lent, nodes, lookup);
-    line(p, 1100, lent, nodes, lookup);
+pub fn both(
+    rt: &impl Print,
+    way: u32,
+    needed: usize,
+    p: u32,
+    lent: Lent,
+    nodes: &[u32],
+    lookup: &[u32],
+) -> io::Result<()> {
+    compact_line(rt, p, about(way, needed, 2200), lent, nodes, lookup)?;
+    line(rt, p, 1100, lent, nodes, lookup)?;
+    Ok(())
 }
 
 // Asks the second entry for p, everything being lent, in scratch about its need in each way, and writes the lines.
-pub fn every(p: u32, lent: Lent, nodes: &[u32], lookup: &[u32]) {
+pub fn every(rt: &impl Print, p: u32, lent: Lent, nodes: &[u32], lookup: &[u32]) -> io::Result<()> {
     let need = needed(p, lent.record.count, nodes);
     let mut way: u32 = 0;
     while way < 8 {
-        compact_line(p, about(way, need, 2200), lent, nodes, lookup);
+        compact_line(rt, p, about(way, need, 2200), lent, nodes, lookup)?;
         way = way + 1;
     }
+    Ok(())
 }
 
 // A handle: every fourth time one of the first eight, mostly a small family, else as for any call.
@@ -154,13 +187,13 @@ fn asked(drawn: Drawn, count: u32) -> u32 {
 
 // Asks both entries for a drawn family and writes the lines. These are drawn apart, so that the calls are drawn as they
 // would be without them.
-pub fn drawn_lines(state: State, nodes: &[u32], lookup: &[u32]) {
+pub fn drawn_lines(rt: &impl Print, state: State, nodes: &[u32], lookup: &[u32]) -> io::Result<()> {
     let drawn = draw(state.draw ^ 2863311530);
     let store = state.store;
     let p = asked(drawn, store.count);
     let lent = lend(0, drawn.d, true, store, lookup.len(), 0);
     let need = needed(p, store.count, nodes);
-    both(drawn.c, need, p, lent, nodes, lookup);
+    both(rt, drawn.c, need, p, lent, nodes, lookup)
 }
 
 // Whether a refusal is another than that the size is too large.
@@ -173,10 +206,10 @@ fn not_large(refusal: Refusal) -> bool {
 
 // Measures p with all scratch and writes the line; gives whether no more than 4096 members have to be gone through: the
 // size is not above that, or p is refused whatever its size.
-pub fn few(p: u32, lent: Lent, nodes: &[u32], lookup: &[u32]) -> bool {
-    let answered = line(p, 1100, lent, nodes, lookup);
+pub fn few(rt: &impl Print, p: u32, lent: Lent, nodes: &[u32], lookup: &[u32]) -> io::Result<bool> {
+    let answered = line(rt, p, 1100, lent, nodes, lookup)?;
     match answered {
-        SizeAnswer::Members(members) => members < 4097,
-        SizeAnswer::Refused(refusal) => not_large(refusal),
+        SizeAnswer::Members(members) => Ok(members < 4097),
+        SizeAnswer::Refused(refusal) => Ok(not_large(refusal)),
     }
 }

@@ -2,7 +2,7 @@
 use store::record::{PlaceAnswer, Placed, Store};
 
 // The draw, the record last given back, the nodes added since Fresh, and the length of the file in the buffer.
-#[derive(Drop)]
+#[derive(Clone, Copy)]
 pub struct State {
     pub draw: u32,
     pub store: Store,

@@ -5,10 +5,11 @@ use crate::parts::needed;
 use crate::placing::{Operation, handle_of, of};
 use crate::state::{State, with_placed};
 use crate::{parity, placing, sizes, weighing};
+use std::io;
 use store::record::Placed;
 
 // The state; the handles of all subsets so far, of all but the empty one, and of what came last.
-#[derive(Drop)]
+#[derive(Clone, Copy)]
 struct Built {
     state: State,
     all: u32,
@@ -58,46 +59,61 @@ fn after(step: u32, built: Built, state: State, handle: u32) -> Built {
 
 // Runs the operation of a step.
 fn run_step(
+    rt: &impl Print,
     step: u32,
     built: Built,
     nodes: &mut [u32],
     lookup: &mut [u32],
     cache: &mut [u32],
-) -> Placed {
+) -> io::Result<Placed> {
     let state = built.state;
     let lent = everything(state.store, lookup.len(), cache.len());
-    placing::line(operation(step, built), lent, nodes, lookup, cache)
+    placing::line(rt, operation(step, built), lent, nodes, lookup, cache)
 }
 
 // Measures what a step gives by both entries; from 2^64 - 1 members on, writes the sums of its weights too.
-fn measured(step: u32, handle: u32, state: State, nodes: &[u32], lookup: &[u32]) {
+fn measured(
+    rt: &impl Print,
+    step: u32,
+    handle: u32,
+    state: State,
+    nodes: &[u32],
+    lookup: &[u32],
+) -> io::Result<()> {
     let lent = everything(state.store, lookup.len(), 0);
     if step < 128 {
         let need = needed(handle, state.store.count, nodes);
-        sizes::both(step / 2, need, handle, lent, nodes, lookup);
-        return;
+        sizes::both(rt, step / 2, need, handle, lent, nodes, lookup)?;
+        return Ok(());
     }
-    weighing::every(handle, 65, state.draw, lent, nodes, lookup);
+    weighing::every(rt, handle, 65, state.draw, lent, nodes, lookup)
 }
 
 // Runs the operation of a step, and measures what it gives.
 fn stepped(
+    rt: &impl Print,
     step: u32,
     built: Built,
     nodes: &mut [u32],
     lookup: &mut [u32],
     cache: &mut [u32],
-) -> Built {
-    let placed = run_step(step, built, nodes, lookup, cache);
+) -> io::Result<Built> {
+    let placed = run_step(rt, step, built, nodes, lookup, cache)?;
     let answer = placed.answer;
     let handle = handle_of(answer);
     let state = with_placed(built.state, placed);
-    measured(step, handle, state, nodes, lookup);
-    after(step, built, state, handle)
+    measured(rt, step, handle, state, nodes, lookup)?;
+    Ok(after(step, built, state, handle))
 }
 
 // Runs all steps.
-fn steps(start: State, nodes: &mut [u32], lookup: &mut [u32], cache: &mut [u32]) -> Built {
+fn steps(
+    rt: &impl Print,
+    start: State,
+    nodes: &mut [u32],
+    lookup: &mut [u32],
+    cache: &mut [u32],
+) -> io::Result<Built> {
     let mut built = Built {
         state: start,
         all: 1,
@@ -106,14 +122,28 @@ fn steps(start: State, nodes: &mut [u32], lookup: &mut [u32], cache: &mut [u32])
     };
     let mut step: u32 = 0;
     while step < 135 {
-        built = stepped(step, built, nodes, lookup, cache);
+        built = stepped(rt, step, built, nodes, lookup, cache)?;
         step = step + 1;
     }
-    built
+    Ok(built)
 }
 
 // Writes the lines of all steps, and of both parts of all subsets but the empty one; gives the state after them.
-pub fn lines(start: State, nodes: &mut [u32], lookup: &mut [u32], cache: &mut [u32]) -> State {
-    let built = steps(start, nodes, lookup, cache);
-    parity::lines(built.less, cache.len(), built.state, nodes, lookup, cache)
+pub fn lines(
+    rt: &impl Print,
+    start: State,
+    nodes: &mut [u32],
+    lookup: &mut [u32],
+    cache: &mut [u32],
+) -> io::Result<State> {
+    let built = steps(rt, start, nodes, lookup, cache)?;
+    parity::lines(
+        rt,
+        built.less,
+        cache.len(),
+        built.state,
+        nodes,
+        lookup,
+        cache,
+    )
 }

@@ -8,10 +8,11 @@ use crate::placing::drawn_operation;
 use crate::saves::Room;
 use crate::state::{State, newest, with_file, with_placed};
 use crate::{audits, craft, loads, members, parity, placing, saves, sizes};
+use std::io;
 use store::record::Store;
 
 // How the calls of a list are drawn: the items, and whether the cache is always lent whole.
-#[derive(Drop)]
+#[derive(Clone, Copy)]
 pub struct Manner {
     pub items: u32,
     pub whole: bool,
@@ -19,6 +20,7 @@ pub struct Manner {
 
 // An operation.
 fn operation(
+    rt: &impl Print,
     op: u32,
     drawn: Drawn,
     manner: Manner,
@@ -26,7 +28,7 @@ fn operation(
     nodes: &mut [u32],
     lookup: &mut [u32],
     cache: &mut [u32],
-) -> State {
+) -> io::Result<State> {
     let store = state.store;
     let call = drawn_operation(op, drawn, manner.items, store);
     let lent = lend(
@@ -37,28 +39,41 @@ fn operation(
         lookup.len(),
         cache.len(),
     );
-    let placed = placing::line(call, lent, nodes, lookup, cache);
-    with_placed(state, placed)
+    let placed = placing::line(rt, call, lent, nodes, lookup, cache)?;
+    Ok(with_placed(state, placed))
 }
 
 // Size.
-fn size(drawn: Drawn, state: State, nodes: &[u32], lookup: &[u32]) -> State {
+fn size(
+    rt: &impl Print,
+    drawn: Drawn,
+    state: State,
+    nodes: &[u32],
+    lookup: &[u32],
+) -> io::Result<State> {
     let store = state.store;
     let p = handle(drawn.a, store.count);
     let lent = lend(0, drawn.d, true, store, lookup.len(), 0);
     let words = scratch(drawn.c, store.count as usize, 1100);
-    sizes::line(p, words, lent, nodes, lookup);
-    state
+    sizes::line(rt, p, words, lent, nodes, lookup)?;
+    Ok(state)
 }
 
 // Has.
-fn has(drawn: Drawn, manner: Manner, state: State, nodes: &[u32], lookup: &[u32]) -> State {
+fn has(
+    rt: &impl Print,
+    drawn: Drawn,
+    manner: Manner,
+    state: State,
+    nodes: &[u32],
+    lookup: &[u32],
+) -> io::Result<State> {
     let store = state.store;
     let p = handle(drawn.a, store.count);
     let lent = lend(0, drawn.d, true, store, lookup.len(), 0);
     let combination = members::combination(drawn, manner.items, store.limit, nodes, p);
-    members::line(p, combination, lent, nodes, lookup);
-    state
+    members::line(rt, p, combination, lent, nodes, lookup)?;
+    Ok(state)
 }
 
 // The output: seldom a few bytes, else all of the buffer.
@@ -70,7 +85,14 @@ fn output(x: u32, all: usize) -> usize {
 }
 
 // Save.
-fn save(drawn: Drawn, state: State, nodes: &[u32], lookup: &[u32], file: &mut [u8]) -> State {
+fn save(
+    rt: &impl Print,
+    drawn: Drawn,
+    state: State,
+    nodes: &[u32],
+    lookup: &[u32],
+    file: &mut [u8],
+) -> io::Result<State> {
     let store = state.store;
     let p = handle(drawn.a, store.count);
     let lent = lend(0, drawn.d, true, store, lookup.len(), 0);
@@ -78,12 +100,13 @@ fn save(drawn: Drawn, state: State, nodes: &[u32], lookup: &[u32], file: &mut [u
         words: scratch(drawn.c, store.count as usize, 1100),
         bytes: output(drawn.b, file.len()),
     };
-    let last = saves::lines(p, room, lent, nodes, lookup, file, state.length);
-    with_file(state, state.draw, last)
+    let last = saves::lines(rt, p, room, lent, nodes, lookup, file, state.length)?;
+    Ok(with_file(state, state.draw, last))
 }
 
 // Load.
 fn load(
+    rt: &impl Print,
     drawn: Drawn,
     manner: Manner,
     state: State,
@@ -91,7 +114,7 @@ fn load(
     lookup: &mut [u32],
     cache: &mut [u32],
     file: &[u8],
-) -> State {
+) -> io::Result<State> {
     let store = state.store;
     let lent = lend(
         drawn.a,
@@ -106,19 +129,20 @@ fn load(
         bytes: bytes,
         words: scratch(drawn.b, needed(bytes), 12400),
     };
-    let placed = loads::line(reading, lent, nodes, lookup, cache, file);
-    with_placed(state, placed)
+    let placed = loads::line(rt, reading, lent, nodes, lookup, cache, file)?;
+    Ok(with_placed(state, placed))
 }
 
 // Audit.
 fn audit(
+    rt: &impl Print,
     drawn: Drawn,
     manner: Manner,
     state: State,
     nodes: &mut [u32],
     lookup: &mut [u32],
     cache: &mut [u32],
-) -> State {
+) -> io::Result<State> {
     let store = state.store;
     let lent = lend(
         drawn.c,
@@ -128,29 +152,29 @@ fn audit(
         lookup.len(),
         cache.len(),
     );
-    audits::lines(drawn, store.count, lent, nodes, lookup, cache);
-    state
+    audits::lines(rt, drawn, store.count, lent, nodes, lookup, cache)?;
+    Ok(state)
 }
 
 // A drawn file into the buffer.
-fn crafted(drawn: Drawn, state: State, file: &mut [u8]) -> State {
+fn crafted(rt: &impl Print, drawn: Drawn, state: State, file: &mut [u8]) -> io::Result<State> {
     let made = craft::short(file, drawn, state.store.limit);
-    craft::line(made, state, file)
+    craft::line(rt, made, state, file)
 }
 
 // A drawn byte into the file in the buffer.
-fn damaged(drawn: Drawn, state: State, file: &mut [u8]) -> State {
+fn damaged(rt: &impl Print, drawn: Drawn, state: State, file: &mut [u8]) -> io::Result<State> {
     let at = size_below(drawn.a, state.length);
     let mut value = drawn.c % 8;
     if drawn.b % 4 == 0 {
         value = drawn.c % 256;
     }
     put(file, at, value);
-    text(b"Byte");
-    length(at);
-    word(value);
-    text(b"\n");
-    state
+    text(rt, b"Byte")?;
+    length(rt, at)?;
+    word(rt, value)?;
+    text(rt, b"\n")?;
+    Ok(state)
 }
 
 // The number of the operation that a kind stands for.
@@ -189,6 +213,7 @@ fn parted(drawn: Drawn, store: Store) -> u32 {
 
 // An operation, or both parts of a family.
 fn operating(
+    rt: &impl Print,
     kind: u32,
     drawn: Drawn,
     manner: Manner,
@@ -196,18 +221,19 @@ fn operating(
     nodes: &mut [u32],
     lookup: &mut [u32],
     cache: &mut [u32],
-) -> State {
+) -> io::Result<State> {
     if kind < 27 {
         let op = operation_of(kind);
-        return operation(op, drawn, manner, state, nodes, lookup, cache);
+        return operation(rt, op, drawn, manner, state, nodes, lookup, cache);
     }
     let p = parted(drawn, state.store);
     let lent = part(drawn.c, manner.whole, cache.len());
-    parity::lines(p, lent, state, nodes, lookup, cache)
+    parity::lines(rt, p, lent, state, nodes, lookup, cache)
 }
 
 // Size, Has or Save.
 fn reading(
+    rt: &impl Print,
     kind: u32,
     drawn: Drawn,
     manner: Manner,
@@ -215,47 +241,54 @@ fn reading(
     nodes: &[u32],
     lookup: &[u32],
     file: &mut [u8],
-) -> State {
+) -> io::Result<State> {
     if kind < 31 {
-        return size(drawn, state, nodes, lookup);
+        return size(rt, drawn, state, nodes, lookup);
     }
     if kind < 33 {
-        return has(drawn, manner, state, nodes, lookup);
+        return has(rt, drawn, manner, state, nodes, lookup);
     }
-    save(drawn, state, nodes, lookup, file)
+    save(rt, drawn, state, nodes, lookup, file)
 }
 
 // A drawn file or a drawn byte.
-fn writing(kind: u32, drawn: Drawn, state: State, file: &mut [u8]) -> State {
+fn writing(
+    rt: &impl Print,
+    kind: u32,
+    drawn: Drawn,
+    state: State,
+    file: &mut [u8],
+) -> io::Result<State> {
     if kind < 45 {
-        return crafted(drawn, state, file);
+        return crafted(rt, drawn, state, file);
     }
-    damaged(drawn, state, file)
+    damaged(rt, drawn, state, file)
 }
 
 // Draws a call, or both parts of a family, runs it and writes its lines.
 pub fn turn(
+    rt: &impl Print,
     manner: Manner,
     state: State,
     nodes: &mut [u32],
     lookup: &mut [u32],
     cache: &mut [u32],
     file: &mut [u8],
-) -> State {
+) -> io::Result<State> {
     let drawn = draw(state.draw);
     let now = with_file(state, drawn.d, state.length);
     let kind = drawn.kind % 46;
     if kind < 29 {
-        return operating(kind, drawn, manner, now, nodes, lookup, cache);
+        return operating(rt, kind, drawn, manner, now, nodes, lookup, cache);
     }
     if kind < 35 {
-        return reading(kind, drawn, manner, now, nodes, lookup, file);
+        return reading(rt, kind, drawn, manner, now, nodes, lookup, file);
     }
     if kind < 40 {
-        return load(drawn, manner, now, nodes, lookup, cache, file);
+        return load(rt, drawn, manner, now, nodes, lookup, cache, file);
     }
     if kind < 42 {
-        return audit(drawn, manner, now, nodes, lookup, cache);
+        return audit(rt, drawn, manner, now, nodes, lookup, cache);
     }
-    writing(kind, drawn, now, file)
+    writing(rt, kind, drawn, now, file)
 }

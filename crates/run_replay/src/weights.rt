@@ -1,10 +1,11 @@
 // Lists of weights.
 use crate::draw::{Drawn, item, step};
 use crate::output::{text, word};
+use std::io;
 
 // How a list is made and how long it is: a way, what it is drawn from, and an item whose weight is another; item 0 for
 // none.
-#[derive(Drop)]
+#[derive(Clone, Copy)]
 pub struct Weights {
     pub way: u32,
     pub draw: u32,
@@ -111,28 +112,29 @@ pub fn make(weights: Weights, list: &mut [u32]) {
 }
 
 // Writes a way.
-fn way_text(way: u32) {
+fn way_text(rt: &impl Print, way: u32) -> io::Result<()> {
     match way {
-        0 => text(b" all 0"),
-        1 => text(b" all 1"),
-        2 => text(b" all 4294967295"),
-        3 => text(b" below 10 from"),
-        4 => text(b" any from"),
-        _ => text(b" few from"),
+        0 => text(rt, b" all 0"),
+        1 => text(rt, b" all 1"),
+        2 => text(rt, b" all 4294967295"),
+        3 => text(rt, b" below 10 from"),
+        4 => text(rt, b" any from"),
+        _ => text(rt, b" few from"),
     }
 }
 
 // Writes how a list is made.
-pub fn made_text(weights: Weights) {
-    text(b" weights");
-    way_text(weights.way);
+pub fn made_text(rt: &impl Print, weights: Weights) -> io::Result<()> {
+    text(rt, b" weights")?;
+    way_text(rt, weights.way)?;
     if 2 < weights.way {
-        word(weights.draw);
+        word(rt, weights.draw)?;
     }
     if 0 < weights.item {
-        text(b" but");
-        word(weights.item);
-        text(b" at");
-        word(weights.value);
+        text(rt, b" but")?;
+        word(rt, weights.item)?;
+        text(rt, b" at")?;
+        word(rt, weights.value)?;
     }
+    Ok(())
 }

@@ -5,11 +5,12 @@ use crate::output::{text, word};
 use crate::questions::size_given;
 use op_calls::operate;
 use op_promise::operation_of;
+use std::io;
 use store::record::Store;
 use store_fresh::fresh;
 
 // A record, and the handles of all subsets so far and of what came last.
-#[derive(Drop)]
+#[derive(Clone, Copy)]
 struct Built {
     store: Store,
     all: u32,
@@ -87,17 +88,24 @@ fn steps(
 }
 
 // Writes the size of all subsets so far, which are of so many items.
-fn size_line(items: u32, built: Built, nodes: &[u32], lookup: &[u32]) {
-    text(b"All subsets of ");
-    word(items);
-    text(b" items: Size(");
-    word(built.all);
-    text(b")");
-    size_given(built.store, nodes, lookup, built.all);
+fn size_line(
+    rt: &impl Print,
+    items: u32,
+    built: Built,
+    nodes: &[u32],
+    lookup: &[u32],
+) -> io::Result<()> {
+    text(rt, b"All subsets of ")?;
+    word(rt, items)?;
+    text(rt, b" items: Size(")?;
+    word(rt, built.all)?;
+    text(rt, b")")?;
+    size_given(rt, built.store, nodes, lookup, built.all)
 }
 
 // Runs the steps that build all subsets of so many items, and writes their size.
 fn sized(
+    rt: &impl Print,
     items: u32,
     from: u32,
     to: u32,
@@ -105,30 +113,42 @@ fn sized(
     nodes: &mut [u32],
     lookup: &mut [u32],
     cache: &mut [u32],
-) -> Built {
+) -> io::Result<Built> {
     let all = steps(from, to, built, nodes, lookup, cache);
-    size_line(items, all, nodes, lookup);
-    all
+    size_line(rt, items, all, nodes, lookup)?;
+    Ok(all)
 }
 
 // The lines of Size.
-fn size_lines(store: Store, nodes: &mut [u32], lookup: &mut [u32], cache: &mut [u32]) -> Store {
-    let some = sized(63, 0, 126, none(store), nodes, lookup, cache);
-    let all = sized(64, 126, 128, some, nodes, lookup, cache);
-    all.store
+fn size_lines(
+    rt: &impl Print,
+    store: Store,
+    nodes: &mut [u32],
+    lookup: &mut [u32],
+    cache: &mut [u32],
+) -> io::Result<Store> {
+    let some = sized(rt, 63, 0, 126, none(store), nodes, lookup, cache)?;
+    let all = sized(rt, 64, 126, 128, some, nodes, lookup, cache)?;
+    Ok(all.store)
 }
 
 // The lines on lent words.
-fn lines_on(nodes: &mut [u32], lookup: &mut [u32], cache: &mut [u32]) {
+fn lines_on(
+    rt: &impl Print,
+    nodes: &mut [u32],
+    lookup: &mut [u32],
+    cache: &mut [u32],
+) -> io::Result<()> {
     let freshened = fresh(nodes, lookup, cache, 512);
-    let sized = size_lines(freshened.store, nodes, lookup, cache);
-    lines(11, 15, sized, nodes, lookup, cache);
+    let sized = size_lines(rt, freshened.store, nodes, lookup, cache)?;
+    lines(rt, 11, 15, sized, nodes, lookup, cache)?;
+    Ok(())
 }
 
 // The lines of the larger store.
-pub fn large_lines() {
+pub fn large_lines(rt: &impl Print) -> io::Result<()> {
     let mut nodes = [0u32; 600];
     let mut lookup = [0u32; 401];
     let mut cache = [0u32; 1024];
-    lines_on(&mut nodes, &mut lookup, &mut cache);
+    lines_on(rt, &mut nodes, &mut lookup, &mut cache)
 }

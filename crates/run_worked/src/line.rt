@@ -3,6 +3,7 @@ use crate::operation::{Operation, name, of};
 use crate::output::{refusal, text, word};
 use op_calls::operate;
 use op_promise::operation_of;
+use std::io;
 use store::record::{PlaceAnswer, Placed, Refusal, Store};
 
 // The operations in the order of document 01: the worked store's, and from 11 on the first and the last item and the
@@ -30,66 +31,67 @@ fn numbered(k: u32) -> Operation {
 }
 
 // Ends a line with a refusal.
-pub fn refused(given: Refusal) {
-    text(b" refused with ");
-    refusal(given);
-    text(b"\n");
+pub fn refused(rt: &impl Print, given: Refusal) -> io::Result<()> {
+    text(rt, b" refused with ")?;
+    refusal(rt, given)?;
+    text(rt, b"\n")
 }
 
 // Writes the three words of a node.
-fn node_words(nodes: &[u32], handle: u32) {
+fn node_words(rt: &impl Print, nodes: &[u32], handle: u32) -> io::Result<()> {
     if handle < 2 {
-        return;
+        return Ok(());
     }
     let base = 3 * (handle - 2) as usize;
     if nodes.len() < base + 3 {
-        return;
+        return Ok(());
     }
-    text(b", words ");
-    word(nodes[base]);
-    text(b", ");
-    word(nodes[base + 1]);
-    text(b", ");
-    word(nodes[base + 2]);
+    text(rt, b", words ")?;
+    word(rt, nodes[base])?;
+    text(rt, b", ")?;
+    word(rt, nodes[base + 1])?;
+    text(rt, b", ")?;
+    word(rt, nodes[base + 2])
 }
 
 // Writes what a call that places gave: the handle, its node's words, and how many nodes were added and are held.
-pub fn given(placed: Placed, nodes: &[u32]) {
+pub fn given(rt: &impl Print, placed: Placed, nodes: &[u32]) -> io::Result<()> {
     let answer = placed.answer;
     match answer {
         PlaceAnswer::Handle(handle, added) => {
-            text(b" = ");
-            word(handle);
-            node_words(nodes, handle);
-            text(b", added ");
-            word(added);
-            text(b", held ");
-            word(placed.store.count);
-            text(b"\n");
+            text(rt, b" = ")?;
+            word(rt, handle)?;
+            node_words(rt, nodes, handle)?;
+            text(rt, b", added ")?;
+            word(rt, added)?;
+            text(rt, b", held ")?;
+            word(rt, placed.store.count)?;
+            text(rt, b"\n")
         }
-        PlaceAnswer::Refused(refusal) => refused(refusal),
+        PlaceAnswer::Refused(refusal) => refused(rt, refusal),
     }
 }
 
 // Writes an operation and its operands.
-fn call_text(call: Operation) {
-    name(call.op);
-    text(b"(");
-    word(call.p);
-    text(b", ");
-    word(call.q);
-    text(b")");
+fn call_text(rt: &impl Print, call: Operation) -> io::Result<()> {
+    name(rt, call.op)?;
+    text(rt, b"(")?;
+    word(rt, call.p)?;
+    text(rt, b", ")?;
+    word(rt, call.q)?;
+    text(rt, b")")
 }
 
 // Runs the operations from one number to the one before another, and writes their lines.
 pub fn lines(
+    rt: &impl Print,
     from: u32,
     to: u32,
     store: Store,
     nodes: &mut [u32],
     lookup: &mut [u32],
     cache: &mut [u32],
-) -> Store {
+) -> io::Result<Store> {
     let mut last = store;
     let mut k = from;
     while k < to {
@@ -103,10 +105,10 @@ pub fn lines(
             call.p,
             call.q,
         );
-        call_text(call);
-        given(placed, nodes);
+        call_text(rt, call)?;
+        given(rt, placed, nodes)?;
         last = placed.store;
         k = k + 1;
     }
-    last
+    Ok(last)
 }

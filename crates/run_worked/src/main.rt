@@ -1,4 +1,6 @@
 // Runs the worked store of document 01 and stores of two limits on the real calls, and writes one line for each.
+#![tactic(auto)]
+
 mod files;
 mod large;
 mod limits;
@@ -8,8 +10,10 @@ mod output;
 mod questions;
 mod small;
 
-fn main() {
-    small::small_lines();
-    large::large_lines();
-    limits::limit_lines();
+use std::io;
+
+fn main(rt: HostRuntime) -> io::Result<()> {
+    small::small_lines(&rt)?;
+    large::large_lines(&rt)?;
+    limits::limit_lines(&rt)
 }

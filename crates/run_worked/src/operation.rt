@@ -1,9 +1,10 @@
 // The six operations by their numbers.
 use crate::output::text;
+use std::io;
 use store::record::PlaceAnswer;
 
 // An operation by its number, 1 to 6, and its two operands.
-#[derive(Drop)]
+#[derive(Clone, Copy)]
 pub struct Operation {
     pub op: u32,
     pub p: u32,
@@ -16,14 +17,14 @@ pub fn of(op: u32, p: u32, q: u32) -> Operation {
 }
 
 // Writes the name of an operation.
-pub fn name(op: u32) {
+pub fn name(rt: &impl Print, op: u32) -> io::Result<()> {
     match op {
-        1 => text(b"Subset1"),
-        2 => text(b"Subset0"),
-        3 => text(b"Change"),
-        4 => text(b"Union"),
-        5 => text(b"Intsec"),
-        _ => text(b"Diff"),
+        1 => text(rt, b"Subset1"),
+        2 => text(rt, b"Subset0"),
+        3 => text(rt, b"Change"),
+        4 => text(rt, b"Union"),
+        5 => text(rt, b"Intsec"),
+        _ => text(rt, b"Diff"),
     }
 }
 

@@ -1,41 +1,42 @@
 // Pieces of a line on standard output.
 use c_records::number;
+use std::io;
 use store::record::Refusal;
 
 // Writes some bytes.
-pub fn text(bytes: &[u8]) {
-    io::write_all(1, bytes);
+pub fn text(rt: &impl Print, bytes: &[u8]) -> io::Result<()> {
+    rt.write_all(bytes)
 }
 
 // Writes a number in base ten.
-pub fn decimal(n: u64) {
-    io::print_decimal(1, n);
+pub fn decimal(rt: &impl Print, n: u64) -> io::Result<()> {
+    rt.print(n)
 }
 
 // Writes a 32-bit number in base ten.
-pub fn word(n: u32) {
-    decimal(n as u64);
+pub fn word(rt: &impl Print, n: u32) -> io::Result<()> {
+    decimal(rt, n as u64)
 }
 
 // Writes the number of a refusal.
-pub fn refusal(given: Refusal) {
-    word(number(given));
+pub fn refusal(rt: &impl Print, given: Refusal) -> io::Result<()> {
+    word(rt, number(given))
 }
 
 // Writes a space and a byte as two hexadecimal digits.
-pub fn byte(b: u8) {
-    text(b" ");
-    io::print_hex(1, b as u64, 2);
+pub fn byte(rt: &impl Print, b: u8) -> io::Result<()> {
+    print!(rt; " {b:02x}")
 }
 
 // Writes the first bytes of a file.
-pub fn bytes(file: &[u8], count: usize) {
+pub fn bytes(rt: &impl Print, file: &[u8], count: usize) -> io::Result<()> {
     let mut at: usize = 0;
     while at < count {
         if file.len() <= at {
-            return;
+            return Ok(());
         }
-        byte(file[at]);
+        byte(rt, file[at])?;
         at = at + 1;
     }
+    Ok(())
 }

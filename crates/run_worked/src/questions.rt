@@ -4,6 +4,7 @@ use crate::output::{decimal, text, word};
 use combination::Combination;
 use query_has::{Asked, HasAnswer, has};
 use query_size::{SizeAnswer, size};
+use std::io;
 use store::record::Store;
 
 // The combination of items up to 32 whose bits are these.
@@ -14,12 +15,12 @@ fn low_items(bits: u32) -> Combination {
 }
 
 // Ends the line with what Has gave.
-fn asked_text(asked: Asked) {
+fn asked_text(rt: &impl Print, asked: Asked) -> io::Result<()> {
     let answer = asked.answer;
     match answer {
-        HasAnswer::Yes => text(b" = yes\n"),
-        HasAnswer::No => text(b" = no\n"),
-        HasAnswer::Refused(refusal) => refused(refusal),
+        HasAnswer::Yes => text(rt, b" = yes\n"),
+        HasAnswer::No => text(rt, b" = no\n"),
+        HasAnswer::Refused(refusal) => refused(rt, refusal),
     }
 }
 
@@ -32,43 +33,64 @@ fn item_65() -> Combination {
 
 // Asks whether a combination is in p, and writes the line.
 fn line(
+    rt: &impl Print,
     store: Store,
     nodes: &[u32],
     lookup: &[u32],
     p: u32,
     shown: &[u8],
     combination: Combination,
-) {
+) -> io::Result<()> {
     let asked = has(store, nodes, lookup, p, combination);
-    text(b"Has(");
-    word(p);
-    text(b", ");
-    text(shown);
-    text(b")");
-    asked_text(asked);
+    text(rt, b"Has(")?;
+    word(rt, p)?;
+    text(rt, b", ")?;
+    text(rt, shown)?;
+    text(rt, b")")?;
+    asked_text(rt, asked)
 }
 
 // Asks whether a combination of items up to 32 is in p, and writes the line.
-pub fn has_line(store: Store, nodes: &[u32], lookup: &[u32], p: u32, shown: &[u8], bits: u32) {
-    line(store, nodes, lookup, p, shown, low_items(bits));
+pub fn has_line(
+    rt: &impl Print,
+    store: Store,
+    nodes: &[u32],
+    lookup: &[u32],
+    p: u32,
+    shown: &[u8],
+    bits: u32,
+) -> io::Result<()> {
+    line(rt, store, nodes, lookup, p, shown, low_items(bits))
 }
 
 // Asks whether the item 65 alone is in p, and writes the line.
-pub fn has_65_line(store: Store, nodes: &[u32], lookup: &[u32], p: u32) {
-    line(store, nodes, lookup, p, b"{65}", item_65());
+pub fn has_65_line(
+    rt: &impl Print,
+    store: Store,
+    nodes: &[u32],
+    lookup: &[u32],
+    p: u32,
+) -> io::Result<()> {
+    line(rt, store, nodes, lookup, p, b"{65}", item_65())
 }
 
 // Measures p and ends the line.
-pub fn size_given(store: Store, nodes: &[u32], lookup: &[u32], p: u32) {
+pub fn size_given(
+    rt: &impl Print,
+    store: Store,
+    nodes: &[u32],
+    lookup: &[u32],
+    p: u32,
+) -> io::Result<()> {
     let mut sizes = [0u64; 200];
     let measured = size(store, nodes, lookup, p, &mut sizes);
     let answer = measured.answer;
     match answer {
         SizeAnswer::Members(members) => {
-            text(b" = ");
-            decimal(members);
-            text(b"\n");
+            text(rt, b" = ")?;
+            decimal(rt, members)?;
+            text(rt, b"\n")
         }
-        SizeAnswer::Refused(refusal) => refused(refusal),
+        SizeAnswer::Refused(refusal) => refused(rt, refusal),
     }
 }

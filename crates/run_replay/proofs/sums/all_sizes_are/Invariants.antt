@@ -1,0 +1,10 @@
+-- `all_sizes_are` is safe and ends: the measure is the number of words that are left.
+-- Nothing has to hold from turn to turn.
+use Rattle.std.proofs.Common.{◌-◌, length}
+use Rattle.run_replay.proofs.sums.all_sizes_are.Given as goal
+
+abbrev pub invariant-loop-at : goal.invariant-loop-at
+invariant-loop-at l = Unit
+
+abbrev pub decreases-loop-at : goal.decreases-loop-at
+decreases-loop-at l = length l.sizes - l.at
