@@ -5,13 +5,19 @@ use std::fs::File;
 use std::rt::Files;
 use std::{env, io};
 
+// Prints the report on a file; whether it could be opened and the report was written.
+fn report_opened(rt: &(impl Files + Print), path: &str) -> bool {
+    let Ok(mut file) = File::open(rt, path) else {
+        return false;
+    };
+    let mut out = [0u8; 128];
+    report_run::report_on(rt, &mut file, 7, &mut out).written
+}
+
 // Prints the name of a file and the report on it; says on standard error where none could be made.
 fn report_file(rt: &(impl Files + Print + Eprint), path: &str) -> io::Result<()> {
     println!(rt; "{path}:")?;
-    let mut file = File::open(rt, path)?;
-    let mut out = [0u8; 128];
-    let run = report_run::report_on(rt, &mut file, 7, &mut out);
-    if !run.written {
+    if !report_opened(rt, path) {
         eprintln!(rt; "{path}: no report could be made")?;
     }
     Ok(())

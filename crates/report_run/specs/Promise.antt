@@ -1,5 +1,5 @@
--- What reporting on a log promises. Which answers the system gives to a read, and what becomes of the bytes that it
--- is handed, no contract can say; what is made of the answers is exact.
+-- What reporting on a log promises. Which answers a reader gives, no contract here says, and what becomes of the
+-- bytes that the system is handed, no contract can say; what is made of the answers is exact.
 use Rattle.std.specs.Prelude.{ℕ, ◌≤◌, ◌≡◌, false, List, length, take}
 use Rattle.report_close.specs.Report.{report_of}
 use Rattle.report_read.specs.declared.Input.TheVariants.{More, Done}

@@ -1,6 +1,5 @@
-//! Size in two words for each part where the parts stand side by side: it is then found by the ways that lead down a window of handles,
-//! with a table behind it for what lies below. Families loaded behind others; ways and members whose product is about 2^64; tables that
-//! fill; any words. The plain side is arithmetic on 128 bits.
+//! Size in two words for each part where the parts stand side by side. Families loaded behind others; ways and members whose product
+//! is about 2^64; tables that fill; any words. The plain side is arithmetic on 128 bits.
 use crate::compact::{asked, expect, parts_of, unchanged};
 use crate::large::{built, eight_of_512};
 use crate::plain::call::Answer;
