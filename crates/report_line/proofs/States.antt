@@ -51,6 +51,10 @@ module _ (s : Side) (c : List ℕ) (b : ℕ) where
   pub opened_low : b < 49 → opened s c b ≡ malformed
   opened_low l = rw (lt-leb 49 b l)
 
+  -- the state behind a first digit below 1
+  pub opened_spoiled : {r : LineState} {l : ℕ} → r ≡ record { progress = malformed; left = l } → b < 49 → r ≡ record { progress = opened s c b; left = l }
+  opened_spoiled e h = progress_is e (opened_low h)
+
   pub opened_high : 57 < b → opened s c b ≡ malformed
   opened_high l = rw (le-leb 49 b (omega arith), lt-leb b 57 l)
 

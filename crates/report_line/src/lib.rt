@@ -129,6 +129,7 @@ impl Reading {
     }
 
     // The first digit of an item.
+    #[tactic(auto, using(crate::proofs::States::opened_spoiled))]
     fn open_item(self, b: u8) -> Reading
         ensures { state_of result ≡ record { progress = opened self.side (items_of self.items.words) b; left = self.left } }
     {

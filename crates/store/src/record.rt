@@ -55,6 +55,7 @@ pub fn capacity_of(words: usize) -> u32
 }
 
 // Whether a number is an item limit, 1 to 512.
+#[tactic(auto, using(crate::proofs::Fitting::limit_none, crate::proofs::Fitting::limit_last))]
 pub fn is_limit(limit: u32) -> bool
     ensures { result ≡ is_limit limit }
 {

@@ -3,6 +3,7 @@
 -- A test that fails is one rule broken; all tests passed are all rules kept.
 use Prim.Native.Nat.{ℕ, ◌+◌, ◌≤◌, ◌<◌}
 use mathlib.Core.Path.{◌≡◌, ap, ◌∙◌}
+use mathlib.Core.Bool.{false}
 use mathlib.Core.List.{List}
 use native.Mathlib.Omega.{arith}
 use lib.Dec.{eqb, ltb}
@@ -13,7 +14,7 @@ use Rattle.table.specs.Own.{own_of}
 use Rattle.store.specs.Words.{top_at}
 use Rattle.store.specs.Sound.{Node}
 use Rattle.store_audit.specs.Inner.{Decides, NodeAt, OwnAt, NodesTo, Blank}
-use Rattle.store_audit.proofs.Deciding.{decides_eq}
+use Rattle.store_audit.proofs.Deciding.{decides_eq, decides_no}
 
 -- words that are 0
 module _ (words : List ℕ) (from : ℕ) where
@@ -33,6 +34,10 @@ module _ (nodes lookup : List ℕ) (k slot : ℕ) (is : slot ≡ own_of nodes lo
 
   pub own_test : Decides (OwnAt nodes lookup k) (eqb (get_or lookup slot 0) (k + 2))
   own_test = rw (← is) (decides_eq (get_or lookup slot 0) (k + 2))
+
+-- a node has a one child
+pub no_one : (limit : ℕ) (nodes : List ℕ) (k item z o : ℕ) → o ≡ 0 → Decides (Node limit nodes k item z o) false
+no_one limit nodes k item z o e = decides_no (λ N. omega (arith, N.one_some))
 
 -- the rules of a node
 module _ (limit : ℕ) (nodes : List ℕ) (k item z o t u : ℕ) (zero_top : t ≡ top_at nodes z) (one_top : u ≡ top_at nodes o) where

@@ -9,6 +9,7 @@ use store_sides::top_of;
 
 // Whether the words of node k + 2 are an item up to the limit, a child before it, and a child before it that is not
 // {}, both with smaller tops.
+#[tactic(auto, using(crate::proofs::Testing::no_one))]
 fn obeys(nodes: &[u32], k: u32, limit: u32) -> bool
     requires { RowAsks nodes.now k }
     ensures { Decides (NodeAt limit nodes.now k) result }

@@ -18,7 +18,7 @@ pub descend-reach-requires : goal.descend-reach-requires
 descend-reach-requires t c =
     let q = c.requires.asks in
     let K = (split_two _ _ _ _ c.in-Two.is c.children.ensures).sides in
-    (omega (arith, c.decreases, K.zero_below, K.one_below), zero_asks K q.level_low q.lent q.trail_fits)
+    (omega (arith, c.decreases, K.zero_below, K.one_below), search (zero_asks K q.level_low q.lent q.trail_fits, one_asks K q.level_low q.lent q.trail_fits))
 
 pub descend-returns-then-not-reach : goal.descend-returns-then-not-reach
 descend-returns-then-not-reach t c =
@@ -32,7 +32,7 @@ descend-reach-requires-2 t c =
     let R = c.reach.ensures in
     let F = R.trail_fits _ (words_went _ _ (ap not c.if-not-reach.false)) in
     let L = walked_lent q.lent R in
-    (omega (arith, c.decreases, K.zero_below, K.one_below), one_asks K q.level_low L F)
+    (omega (arith, c.decreases, K.zero_below, K.one_below), search (zero_asks K q.level_low L F, one_asks K q.level_low L F))
 
 pub descend-returns-then-not-reach-2 : goal.descend-returns-then-not-reach-2
 descend-returns-then-not-reach-2 t c =

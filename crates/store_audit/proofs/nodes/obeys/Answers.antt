@@ -8,9 +8,6 @@ use Rattle.store_audit.proofs.nodes.obeys.Goals as goal
 pub returns-then-limit-item : goal.returns-then-limit-item
 returns-then-limit-item c = decides_no (λ N. omega (arith, c.if-limit-item.true, N.item_limit))
 
-pub returns-then-one-eq0 : goal.returns-then-one-eq0
-returns-then-one-eq0 c = decides_no (λ N. omega (arith, c.if-one-eq0.true, N.one_some))
-
 pub returns-then-k-zero : goal.returns-then-k-zero
 returns-then-k-zero c = decides_no (λ N. omega (arith, c.if-k-zero.true, N.zero_before))
 
@@ -23,5 +20,5 @@ returns-then-item-top_of c = decides_no (λ N. omega (arith, c.if-item-top_of.tr
 pub returns : goal.returns
 returns c =
     rules_last _ _ _ _ _ _ _ _ c.top_of.ensures c.top_of-2.ensures
-    (omega (arith, c.if-limit-item.false)) (λ e. omega (arith, c.if-one-eq0.false, e))
+    (omega (arith, c.if-limit-item.false)) (λ e. omega (arith, e))
     (omega (arith, c.if-k-zero.false)) (omega (arith, c.if-k-one.false)) (omega (arith, c.if-item-top_of.false))
