@@ -1,13 +1,15 @@
 // A log read from a reader in pieces. What decides is `take_read`, on the reader's answer and the bytes it left.
 #![tactic(auto)]
 
-ghost use Rattle.std.specs.Prelude.{◌≡◌, length};
+ghost use Rattle.std.specs.Prelude.{◌≡◌, ◌<◌, ◌^◌, length};
+ghost use Rattle.std.specs.Result.{ForOk};
 ghost use Rattle.report_read.specs.Answers.{Moved, behind};
 ghost use Rattle.report_read.specs.Promise.{ReadCall, ReadAllCall};
-ghost use Rattle.report_read.specs.Inner.{clamp_len, OneRead};
+ghost use Rattle.report_read.specs.Inner.{clamp_len, got_of, OneRead};
 
 use report_log::take_piece;
 use report_tally::{Ending, Tally};
+use std::io;
 use std::io::Read;
 
 // How the input stands: there may be more, no more is needed, or a read failed.
@@ -82,14 +84,22 @@ pub fn take_read(
     }
 }
 
+// What a read answered: how many bytes it brought, or -1 where it failed.
+fn got_of(read: io::Result<usize>) -> isize
+    requires { ForOk read (λ n. n < 2 ^ 63) }
+    ensures { result ≡ got_of read }
+{
+    match read {
+        Ok(n) => n as isize,
+        Err(_) => -1,
+    }
+}
+
 // One read: how many bytes it put at the front of a buffer, or -1 where it failed.
 fn read_front<R: Read>(reader: &mut R, buffer: &mut [u8]) -> isize
     ensures { Moved (length buffer.old) result }
 {
-    match reader.read(buffer) {
-        Ok(n) => n as isize,
-        Err(_) => -1,
-    }
+    got_of(reader.read(buffer))
 }
 
 // Reads at most so many bytes to the front of a buffer.
