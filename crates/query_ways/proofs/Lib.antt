@@ -3,4 +3,3 @@ pub mod Behind
 pub mod Worth
 pub mod Handing
 pub mod Going
-pub mod Opening

@@ -32,7 +32,11 @@ fn is_dense(p: u32, nodes: &[u32], count: u32, words: &mut [u64], some: u32) -> 
         mark(words, left, low, nodes[base + 1]);
         mark(words, left, low, nodes[base + 2]);
     }
-    some as usize / 2 <= words[..some as usize].iter().filter(|mark| **mark != 0).count()
+    some as usize / 2
+        <= words[..some as usize]
+            .iter()
+            .filter(|mark| **mark != 0)
+            .count()
 }
 
 // An empty window but for one way to the last handle, and an empty table.
@@ -46,7 +50,14 @@ fn open(words: &mut [u64], width: u32, places: u32)
 }
 
 // Goes through the window. The size of p, where it was found so.
-fn go_down(p: u32, nodes: &[u32], count: u32, words: &mut [u64], width: u32, places: u32) -> Option<u64>
+fn go_down(
+    p: u32,
+    nodes: &[u32],
+    count: u32,
+    words: &mut [u64],
+    width: u32,
+    places: u32,
+) -> Option<u64>
     requires { GoAsks p nodes.now count words.old width places }
     ensures { Gone p nodes.now count words.old words.new result }
 {
