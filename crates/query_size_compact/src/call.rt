@@ -4,11 +4,10 @@ ghost use Rattle.query_size_compact.specs.Inner.{Counted};
 ghost use Rattle.query_size_compact.specs.Promise.{CompactCall};
 
 use query_parts::entries::{clear, places_in};
-use query_size::{Measured, SizeAnswer};
 use query_walk::sizes::size_of;
 use query_walk::walk::descend;
-use store::record::{Refusal, Store};
-use store::tests::{Test, tested};
+use store::record::{Answered, Refusal, Store};
+use store::tests::tested;
 
 // The number of members of a handle that is held.
 fn counted(nodes: &[u32], count: u32, p: u32, scratch: &mut [u64]) -> Result<u64, Refusal>
@@ -37,18 +36,11 @@ pub fn size_compact(
     lookup: &[u32],
     p: u32,
     scratch: &mut [u64],
-) -> Measured
+) -> Answered<u64>
     ensures { CompactCall store nodes.now lookup.now p scratch.old result scratch.new }
 {
-    let found = tested(store, nodes.len(), lookup.len(), p, 0, Test::Clear, 0, 0);
-    if let Test::Refuses(refusal) = found {
-        return Measured {
-            store: store,
-            answer: SizeAnswer::Refused(refusal),
-        };
+    if let Err(refusal) = tested(store, nodes.len(), lookup.len(), p, 0, Ok(()), 0, 0) {
+        return store.refused(refusal);
     }
-    Measured {
-        store: store,
-        answer: match counted(nodes, store.count, p, scratch) { Ok(members) => SizeAnswer::Members(members), Err(refusal) => SizeAnswer::Refused(refusal) },
-    }
+    store.answered(counted(nodes, store.count, p, scratch))
 }
