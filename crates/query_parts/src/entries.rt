@@ -24,8 +24,7 @@ impl<'a> Parts<'a> {
     // An empty table of so many places.
     pub fn new(words: &'a mut [u64], places: u32) -> Parts<'a>
         requires { ClearAsks words.old places }
-        ensures same_reference { result.words.ghost_name ≡ words.entry.ghost_name }
-        ensures cleared { Cleared places words.old result.words.now × (result.places ≡ places) × (result.entered ≡ 0) }
+        ensures { Cleared places words.old result.words.now × (result.places ≡ places) × (result.entered ≡ 0) }
     {
         words[..places as usize].fill(0);
         Parts {
@@ -54,8 +53,7 @@ impl<'a> Parts<'a> {
     // Enters a handle with its size behind the others, as the head of its chain.
     pub fn enter(&mut self, handle: u32, size: u64)
         requires { EnterAsks self.old.words.now self.old.places self.old.entered handle }
-        ensures same_reference { self.new.words.ghost_name ≡ self.old.words.ghost_name }
-        ensures entered { Entered self.old.places self.old.entered handle size self.old.words.now self.new.words.now × (self.new.places ≡ self.old.places) × (self.new.entered ≡ self.old.entered + 1) }
+        ensures { Entered self.old.places self.old.entered handle size self.old.words.now self.new.words.now × (self.new.places ≡ self.old.places) × (self.new.entered ≡ self.old.entered + 1) }
     {
         let place = self.entered as usize;
         let start = (handle % self.places) as usize;

@@ -1,7 +1,6 @@
 // The walk over the parts of a family, without-side first; each part is entered once both its sides are. A number is
 // that of a local book: 0 for {}, 1 for {{}}, then the parts as they were entered. There is no number where there are more
 // parts than places, or the words are those of no sound store.
-ghost use Rattle.std.specs.Prelude.{◌≡◌};
 ghost use Rattle.query_walk.specs.Inner.{AppendAsks, Appended, DescendAsks, WalkAsks, Any, New, Walked};
 
 use crate::sizes::{size_of, sum_of};
@@ -10,8 +9,7 @@ use query_parts::entries::Parts;
 // Enters p with its size, where there is a place.
 fn append(parts: &mut Parts<'_>, p: u32, size: Option<u64>) -> Option<u32>
     requires { AppendAsks parts.old p }
-    ensures same_reference { parts.new.words.ghost_name ≡ parts.old.words.ghost_name }
-    ensures appended { Appended p size parts.old parts.new result }
+    ensures { Appended p size parts.old parts.new result }
 {
     let place = parts.entered;
     if place == parts.places {
@@ -25,8 +23,7 @@ fn append(parts: &mut Parts<'_>, p: u32, size: Option<u64>) -> Option<u32>
 #[cycle(descend_reach)]
 pub fn descend(p: u32, bound: u32, nodes: &[u32], count: u32, parts: &mut Parts<'_>) -> Option<u32>
     requires { DescendAsks p nodes.now count parts.old }
-    ensures same_reference { parts.new.words.ghost_name ≡ parts.old.words.ghost_name }
-    ensures walked { Walked New p bound nodes.now count parts.old parts.new result }
+    ensures { Walked New p bound nodes.now count parts.old parts.new result }
 {
     if count + 1 < p {
         return None;
@@ -47,8 +44,7 @@ pub fn descend(p: u32, bound: u32, nodes: &[u32], count: u32, parts: &mut Parts<
 #[cycle(descend_reach)]
 pub fn reach(p: u32, bound: u32, nodes: &[u32], count: u32, parts: &mut Parts<'_>) -> Option<u32>
     requires { WalkAsks nodes.now count parts.old }
-    ensures same_reference { parts.new.words.ghost_name ≡ parts.old.words.ghost_name }
-    ensures walked { Walked Any p bound nodes.now count parts.old parts.new result }
+    ensures { Walked Any p bound nodes.now count parts.old parts.new result }
 {
     if p < 2 {
         return Some(p);

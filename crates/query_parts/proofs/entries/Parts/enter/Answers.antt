@@ -4,5 +4,5 @@ use mathlib.Core.Path.{refl}
 use Rattle.query_parts.proofs.Tables.{entered}
 use Rattle.query_parts.proofs.entries.Parts.enter.Goals as goal
 
-pub returns-clause-entered : goal.returns-clause-entered
-returns-clause-entered c = (search entered, refl, refl)
+pub returns : goal.returns
+returns c = (search entered, refl, refl)
