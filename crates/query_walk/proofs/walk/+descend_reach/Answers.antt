@@ -3,7 +3,7 @@
 -- Each way out is one law of walking.
 use mathlib.Core.Path.{refl}
 use native.Mathlib.Omega.{arith}
-use Rattle.query_walk.proofs.Walking.{walked_leaf, walked_found, walked_on, descended_outside, descended_high, descended_first, descended_second, descended_done}
+use Rattle.query_walk.proofs.Walking.{walked_found, walked_on, descended_first, descended_second, descended_done}
 use Rattle.query_walk.proofs.walk.+descend_reach.Goals as goal
 
 pub descend-reach-requires : goal.descend-reach-requires
