@@ -9,7 +9,8 @@ use native.Mathlib.Omega.{arith}
 use Rattle.family.specs.Family.{Family}
 use Rattle.family.proofs.Placing.{place_grown}
 use Rattle.store.specs.Coded.{damaged_number, reached_as}
-use Rattle.store.specs.Inner.{Fill, Reached, Roomy, Holds, gave, Ran}
+use Rattle.store.specs.declared.record.Fill.{Fill}
+use Rattle.store.specs.Inner.{Reached, Roomy, Holds, gave, Ran}
 use Rattle.store.proofs.Answers.{handle_is}
 use Rattle.store.proofs.Codes.{coded_held}
 use Rattle.store.proofs.Growing.{kept_self}

@@ -15,7 +15,8 @@ use Rattle.store.specs.declared.record.Refusal.{Refusal}
 use Rattle.store.specs.Operations.{named}
 use Rattle.store.specs.Cache.{Truth, True}
 use Rattle.store_node.specs.Inner.{NodeAsks, NodeIt}
-use Rattle.store.specs.Inner.{Reply, Handle, Refused, Fill, Reached, Holds, Handed, Outcome, Kept, Ran, Roomy}
+use Rattle.store.specs.declared.record.Fill.{Fill}
+use Rattle.store.specs.Inner.{Reply, Handle, Refused, Reached, Holds, Handed, Outcome, Kept, Ran, Roomy}
 use Rattle.store.proofs.Held.{inside}
 use Rattle.store.proofs.Growing.{kept_trans, kept_roomy}
 use Rattle.store.proofs.Answers.{not_both, handed_of, refused_on, by_answer}

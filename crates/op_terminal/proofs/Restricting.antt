@@ -11,7 +11,8 @@ use Rattle.store.specs.Coded.{reached_as}
 use Rattle.store.specs.Words.{top_at}
 use Rattle.store.specs.Operations.{restrict, named}
 use Rattle.store_node.specs.Inner.{NodeIt}
-use Rattle.store.specs.Inner.{Fill, Reached, Holds, RanPlain}
+use Rattle.store.specs.declared.record.Fill.{Fill}
+use Rattle.store.specs.Inner.{Reached, Holds, RanPlain}
 use Rattle.store_sides.specs.Inner.{Halves}
 use Rattle.store_sides.proofs.Splitting.{low_now, halves_below}
 use Rattle.store.proofs.Held.{top_at_lem}

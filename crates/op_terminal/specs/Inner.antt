@@ -4,7 +4,8 @@ use Rattle.family.specs.Book.{at}
 use Rattle.family.specs.Family.{Family, empty, Ordered, largest_item}
 use Rattle.store.specs.Operations.{named}
 use Rattle.store.specs.Words.{top_at}
-use Rattle.store.specs.Inner.{Fill, Roomy}
+use Rattle.store.specs.declared.record.Fill.{Fill}
+use Rattle.store.specs.Inner.{Roomy}
 use Rattle.op_cache.specs.declared.Call.{Call}
 use Rattle.op_cache.specs.declared.Recalled.{Recalled}
 use Rattle.op_cache.specs.declared.Recalled.TheVariants.{Hit, Miss}
