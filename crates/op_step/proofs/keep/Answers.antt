@@ -6,5 +6,5 @@ use Rattle.op_step.proofs.keep.Goals as goal
 pub returns-in-Ok : goal.returns-in-Ok
 returns-in-Ok c = remembered_gave _ _ _ _ c.in-Ok.is c.remember.ensures
 
-pub returns-else-in-Ok : goal.returns-else-in-Ok
-returns-else-in-Ok c = ?
+pub returns-in_default : goal.returns-in_default
+returns-in_default c = remembered_refused _ _ _ c.in_default.is
