@@ -106,6 +106,9 @@ module _ (part : Part) (last : Last) where
     unfolding widths
     whole = rw e standing_length
 
+    pub record_length : {n : ℕ} → n ≡ widths s.item s.zero s.one → n ≡ length (record_bytes last.item last.number (triple part.item part.zero part.one))
+    record_length d = d ∙ rw e standing_length
+
     -- the room for each field
     module _ (l : List ℕ) (room : length (record_bytes last.item last.number (triple part.item part.zero part.one)) ≤ length l) where
       pub room_map : 0 < length l
