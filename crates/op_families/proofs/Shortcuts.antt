@@ -6,7 +6,8 @@ use mathlib.Core.List.{List}
 use mathlib.Core.Logic.{⊎_elim}
 use native.Mathlib.Omega.{arith}
 use Rattle.store.specs.Coded.{answer_of, reached_as}
-use Rattle.store.specs.Inner.{Handle, Fill, Reached, Ran}
+use Rattle.store.specs.declared.record.Fill.{Fill}
+use Rattle.store.specs.Inner.{Handle, Reached, Ran}
 use Rattle.store.proofs.Codes.{coded_held}
 use Rattle.store.proofs.Held.{at_0, within}
 use Rattle.op_cache.specs.declared.Call.{Call}

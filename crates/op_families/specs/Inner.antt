@@ -2,7 +2,8 @@
 use Rattle.std.specs.Prelude.{ℕ, ◌+◌, ◌*◌, ◌≤◌, ◌<◌, max, ◌≡◌, List, length}
 use Rattle.family.specs.Family.{Family, largest_item}
 use Rattle.store.specs.Words.{top_at}
-use Rattle.store.specs.Inner.{Fill, Roomy, Holds}
+use Rattle.store.specs.declared.record.Fill.{Fill}
+use Rattle.store.specs.Inner.{Roomy, Holds}
 use Rattle.store_sides.specs.Inner.{Low, Halves}
 use Rattle.op_cache.specs.declared.Call.{Call}
 use Rattle.op_terminal.specs.Inner.{FamilyOperation, Proper}

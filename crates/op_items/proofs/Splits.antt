@@ -12,7 +12,8 @@ use Rattle.store.proofs.Held.{top_at_lem, within, low_at}
 use Rattle.op_cache.specs.declared.Call.{Call}
 use Rattle.store.proofs.Naming.{named_item, restrict_step, restrict_within}
 use Rattle.store.specs.Coded.{reached_as}
-use Rattle.store.specs.Inner.{Fill, Ran}
+use Rattle.store.specs.declared.record.Fill.{Fill}
+use Rattle.store.specs.Inner.{Ran}
 use Rattle.store.proofs.Plain.{plain_ran}
 use Rattle.op_terminal.specs.Inner.{ItemCall}
 use Rattle.op_terminal.proofs.Restricting.{above_none, above_same}

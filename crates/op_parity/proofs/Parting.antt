@@ -7,7 +7,8 @@ use mathlib.Core.Bool.{Bool, not}
 use mathlib.Core.List.{List}
 use native.Mathlib.Omega.{arith}
 use Rattle.store.specs.Coded.{full_number, damaged_number, answer_of, reached_as}
-use Rattle.store.specs.Inner.{Fill, fill_of, Ran}
+use Rattle.store.specs.declared.record.Fill.{Fill}
+use Rattle.store.specs.Inner.{fill_of, Ran}
 use Rattle.store.proofs.Codes.{coded_handle, coded_refused}
 use Rattle.store_node.specs.Inner.{NodeAsks, NodeIt}
 use Rattle.store_sides.specs.declared.Sides.{Sides}

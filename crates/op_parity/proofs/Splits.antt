@@ -11,7 +11,8 @@ use Rattle.family.specs.Book.{at}
 use Rattle.family.proofs.Parity.{within_parity, parity_step, parity_leaf}
 use Rattle.store.specs.Coded.{answer_of, reached_as}
 use Rattle.store.specs.Operations.{parity_number}
-use Rattle.store.specs.Inner.{Handle, Fill, Holds, Kept, Ran}
+use Rattle.store.specs.declared.record.Fill.{Fill}
+use Rattle.store.specs.Inner.{Handle, Holds, Kept, Ran}
 use Rattle.store.proofs.Codes.{coded_held}
 use Rattle.store.proofs.Held.{at_0, top_at_lem, within, low_at}
 use Rattle.store.proofs.Growing.{kept_top, kept_roomy}
