@@ -17,13 +17,13 @@ use Rattle.family.proofs.Books.{same_self, book_start, held_at, grown_held}
 use Rattle.family.proofs.Placing.{book_place, place_only}
 use Rattle.family.proofs.Different.{no_longer}
 use Rattle.family.proofs.Bound.{own_length, held_left, held_right}
-use Rattle.store.specs.Inner.{Holds, HandleAsks}
+use Rattle.store.specs.Inner.{Holds}
 use Rattle.store.proofs.Held.{at_node, within}
 use Rattle.query_parts.specs.declared.entries.Parts.{Parts}
 use Rattle.query_parts.specs.Inner.{TableOf}
 use Rattle.query_walk.proofs.Listing.{list_start}
 use Rattle.query_ways.specs.declared.hand.Passage.{Passage}
-use Rattle.query_ways.specs.Inner.{worth, Covered, passed, entered, due, owing, Ways, BothAsks, HandedBoth, GoAsks, Gone}
+use Rattle.query_ways.specs.Inner.{worth, Covered, passed, entered, due, owing, Ways, HandedBoth, GoAsks, Gone}
 use Rattle.query_ways.proofs.Worth.{worth_one}
 
 -- a list holds its first family
@@ -146,15 +146,6 @@ module _ (p : ℕ) (nodes : List ℕ) (count width : ℕ) where
           some = G.some;
           table = G.table;
           sound = λ B lookup H. let g = at_turn B lookup H in (g.0, g.1, (g.2.0, ways_skip e g.2.1));
-        }
-
-    -- what is asked of the node whose ways are handed on
-    pub goes_asks : HandleAsks nodes count p → BothAsks (w.low + w.left) nodes count w
-    goes_asks A =
-        record {
-          asks = record { walk = record { nodes_long = A.words; few = A.small; some = G.some; table = G.table }; within = omega (arith, G.within, G.long) };
-          part = omega (arith, G.low_some);
-          held = omega (arith, A.held, G.within, G.low_is);
         }
 
     pub goes_on : (get_or w.window.now w.left 0 ≡ 0 → ⊥) → p ≤ count + 1 → {w' : Passage} → HandedBoth (w.low + w.left) (get_or w.window.now w.left 0) nodes count w w' true

@@ -9,9 +9,6 @@ use Rattle.query_parts.proofs.entries.Parts.find.Goals as goal
 pub loop-chain-init : goal.loop-chain-init
 loop-chain-init c = sought_head _ _ _ c.requires c.head_of-chain.ensures
 
-pub bounds-self-place : goal.bounds-self-place
-bounds-self-place c = omega (arith, ap link_to c.in-Some.is)
-
 pub returns-then-handle_of-handle : goal.returns-then-handle_of-handle
 returns-then-handle_of-handle c =
     sought_here _ _ _ c.requires c.loop-chain.invariant _ _ (ap link_to c.in-Some.is) c.handle_of.ensures c.if-handle_of-handle.true
