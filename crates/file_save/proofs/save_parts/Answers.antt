@@ -19,18 +19,18 @@ pub returns-then-out-trail : goal.returns-then-out-trail
 returns-then-out-trail c =
     let a = c.args in
     let W = rw c.in_ok-trail.ensures.ok_part at c.walk.ensures in
-    parts_short a.store a.p a.nodes.now a.links.now a.out.now c.requires.two c.requires.inside c.requires.lent.linkable c.zero.ensures W c.if-out-trail.true
+    parts_short a.store a.p a.nodes.now a.links.now a.out.now c.requires.two c.requires.inside c.requires.lent.linkable c.zero.ensures W (omega (arith, W.trail_fits.some, c.if-out-trail.true))
 
 pub returns-in_err-ok_or : goal.returns-in_err-ok_or
 returns-in_err-ok_or c =
     let a = c.args in
     let W = rw c.in_ok-trail.ensures.ok_part at c.walk.ensures in
     let F = rw c.in_err-ok_or.ensures.ok_part at c.write_file.ensures in
-    parts_unwritten a.store a.p a.nodes.now a.links.now a.out.now c.requires.two c.requires.inside c.requires.lent.linkable c.zero.ensures W c.if-out-trail.false F _
+    parts_unwritten a.store a.p a.nodes.now a.links.now a.out.now c.requires.two c.requires.inside c.requires.lent.linkable c.zero.ensures W (omega (arith, c.if-out-trail.false)) F _
 
 pub returns : goal.returns
 returns c =
     let a = c.args in
     let W = rw c.in_ok-trail.ensures.ok_part at c.walk.ensures in
     let F = rw c.in_ok-ok_or.ensures.ok_part at c.write_file.ensures in
-    parts_done a.store a.p a.nodes.now a.links.now a.out.now c.requires.two c.requires.inside c.requires.lent.linkable c.zero.ensures W c.if-out-trail.false F
+    parts_done a.store a.p a.nodes.now a.links.now a.out.now c.requires.two c.requires.inside c.requires.lent.linkable c.zero.ensures W (omega (arith, c.if-out-trail.false)) F
