@@ -1,5 +1,5 @@
 -- What the walk over the parts and its sizes promise. A reader of the promise can pass this page over.
-use Rattle.std.specs.Prelude.{ℕ, ◌+◌, ◌*◌, ◌-◌, ◌≤◌, ◌<◌, ◌≡◌, cond, List, [], ◌∷◌, ◌++◌, ltb, length}
+use Rattle.std.specs.Prelude.{ℕ, ◌+◌, ◌*◌, ◌-◌, ◌≤◌, ◌<◌, ◌≡◌, cond, List, [], ◌∷◌, ◌++◌, eqb, ltb, length, Option, None, Some}
 use Rattle.words.specs.Words.{most}
 use Rattle.family.specs.Family.{Family, size, top}
 use Rattle.family.specs.Book.{at, Held, place, Book}
@@ -10,9 +10,16 @@ use Rattle.query_parts.specs.Inner.{handle_at, size_at, Table}
 abbrev pub as_word : ℕ → ℕ
 as_word x = cond (ltb most x) 0 x
 
--- the word of a number in a table
-unfoldable pub size_of : List ℕ → ℕ → ℕ → ℕ
-size_of words places number = cond (ltb number 2) number (size_at places words (number - 2))
+-- a size as functions tell it: none where it is above the largest; and the same read off its word
+abbrev pub told : ℕ → Option ℕ
+told x = cond (ltb most x) None (Some x)
+
+abbrev pub word_told : ℕ → Option ℕ
+word_told w = cond (eqb w 0) None (Some w)
+
+-- the size of a number in a table
+unfoldable pub size_of : List ℕ → ℕ → ℕ → Option ℕ
+size_of words places number = cond (ltb number 2) (Some number) (word_told (size_at places words (number - 2)))
 
 -- a number that has a place in a table
 pub record SizeAsks (words : List ℕ) (places number : ℕ) : Type 0 where
@@ -20,13 +27,9 @@ pub record SizeAsks (words : List ℕ) (places number : ℕ) : Type 0 where
   pub low : number < places + 2
   pub small : places ≤ 1000000
 
--- the word of the sum of two sizes, of which the first is 0 just where `zero` is and the second is at least 1
-pub record Summed (zero without with r : ℕ) : Type 0 where
-  pub is : (x y : ℕ) → (zero ≡ 0 → x ≡ 0) → ((zero ≡ 0 → ⊥) → 0 < x) → 0 < y → without ≡ as_word x → with ≡ as_word y → r ≡ as_word (x + y)
-
--- what stands in place of a number: more parts than places, or words of no sound store
-abbrev pub none : ℕ
-none = 4294967295
+-- the sum of two sizes
+pub record Summed (without with r : Option ℕ) : Type 0 where
+  pub is : (x y : ℕ) → without ≡ told x → with ≡ told y → r ≡ told (x + y)
 
 -- what stands at a place of the table: the handle, in the book B that the store holds, of a family, and the word of its
 -- size
@@ -41,16 +44,17 @@ pub record Listed (limit : ℕ) (B C : List Family) (places n : ℕ) (words : Li
   pub long : length C ≡ n + 2
   pub each : (e : ℕ) → e < n → Part B (at C (e + 2)) places words e
 
--- The table has come to list the local book C, and r is the number of F in it; or C has more families than fit.
-pub record Came (limit : ℕ) (B C : List Family) (F : Family) (places n : ℕ) (words : List ℕ) (r : ℕ) : Type 0 where
-  pub listed : (r ≡ none → ⊥) → Listed limit B C places n words × ((r < length C) × (at C r ≡ F))
-  pub short : r ≡ none → places + 2 < length C
+-- The table has come to list the local book C, and r is the number of F in it; or there is none, and C has more families
+-- than fit.
+pub record Came (limit : ℕ) (B C : List Family) (F : Family) (places n : ℕ) (words : List ℕ) (r : Option ℕ) : Type 0 where
+  pub listed : (k : ℕ) → r ≡ Some k → Listed limit B C places n words × ((k < length C) × (at C k ≡ F))
+  pub short : r ≡ None → places + 2 < length C
 
--- what holds on any words: a table, and a number that has a place in it
-pub record Went (places : ℕ) (words words' : List ℕ) (n' r : ℕ) : Type 0 where
+-- what holds on any words: a table, and a number, if there is one, that has a place in it
+pub record Went (places : ℕ) (words words' : List ℕ) (n' : ℕ) (r : Option ℕ) : Type 0 where
   pub long : length words' ≡ length words
   pub table : Table places n' words'
-  pub low : (r ≡ none → ⊥) → r < n' + 2
+  pub low : (k : ℕ) → r ≡ Some k → k < n' + 2
 
 -- a table, and a handle that fits a tag
 pub record AppendAsks (words : List ℕ) (places n p : ℕ) : Type 0 where
@@ -58,9 +62,9 @@ pub record AppendAsks (words : List ℕ) (places n p : ℕ) : Type 0 where
   pub handle_low : p < 1048576
 
 -- the handle p is entered behind the others, with its size: a family is put at the local book's end
-pub record Appended (places p size_is : ℕ) (words : List ℕ) (n : ℕ) (words' : List ℕ) (n' r : ℕ) : Type 0 where
+pub record Appended (places p : ℕ) (size_is : Option ℕ) (words : List ℕ) (n : ℕ) (words' : List ℕ) (n' : ℕ) (r : Option ℕ) : Type 0 where
   pub went : Went places words words' n' r
-  pub sound : {limit : ℕ} (B C : List Family) (F : Family) → Listed limit B C places n words → p < length B → at B p ≡ F → size_is ≡ as_word (size F)
+  pub sound : {limit : ℕ} (B C : List Family) (F : Family) → Listed limit B C places n words → p < length B → at B p ≡ F → size_is ≡ told (size F)
       → Book limit (C ++ (F ∷ [])) → Came limit B (C ++ (F ∷ [])) F places n' words' r
 
 -- the words of the nodes, and a table of at least one place
@@ -83,7 +87,7 @@ abbrev pub New : List Family → Family → Type 0
 New C F = Held C F → ⊥
 
 -- the family of p is placed in the local book that the table lists, where the two are as asked
-pub record Walked (Asked : List Family → Family → Type 0) (p bound : ℕ) (nodes : List ℕ) (count places : ℕ) (words : List ℕ) (n : ℕ) (words' : List ℕ) (n' r : ℕ) : Type 0 where
+pub record Walked (Asked : List Family → Family → Type 0) (p bound : ℕ) (nodes : List ℕ) (count places : ℕ) (words : List ℕ) (n : ℕ) (words' : List ℕ) (n' : ℕ) (r : Option ℕ) : Type 0 where
   pub went : Went places words words' n' r
   pub sound : {limit : ℕ} (B C : List Family) (lookup : List ℕ) → Holds limit B count nodes lookup → p < count + 2 → top (at B p) < bound → Asked C (at B p)
       → Listed limit B C places n words → Came limit B (place C (at B p)) (at B p) places n' words' r

@@ -9,6 +9,7 @@ use mathlib.Core.List.{List, [], ◌∷◌, ◌++◌, Memᴰ}
 use native.Mathlib.Omega.{arith}
 use native.Mathlib.Nat.{mul-zero}
 use lib.ListN.{length, get_or, drop, length-append}
+use Rattle.std.specs.Prelude.{Option, None, Some}
 use Rattle.words.proofs.Cases.{by_lt}
 use Rattle.family.specs.Family.{Family, node, size, parts}
 use Rattle.family.specs.Book.{start, at, number, Held, place, Book}
@@ -145,13 +146,14 @@ module _ (p : ℕ) (nodes : List ℕ) (count width places low : ℕ) (el : low �
 
   -- the total is the size, and all parts were gone through or entered
   pub goes_end : {seen n total : ℕ} {words words₀ : List ℕ} → length words ≡ length words₀ → p ≤ count + 1 → Goes p nodes count width places 0 low seen n total words → seen + n ≤ length words / 2
-      → Gone p nodes count words₀ words total
+      → Gone p nodes count words₀ words (Some total)
   goes_end {seen} {n} {total} {words} {words₀} e c G m =
       record {
         long = e;
-        is = λ f {limit} B lookup H.
+        is = λ k f {limit} B lookup H.
             let g = G.sound B lookup H in
             let W = g.2.1 in
+            let same : k ≡ total = cc in
             (omega (arith, W.sum), omega (arith, e, own_length (at B p), g.2.0, W.listed.long, length-append g.1 g.0, counts B lookup H g.0 g.1 W));
       }
     where
@@ -176,9 +178,9 @@ module _ (p : ℕ) (nodes : List ℕ) (count width places low : ℕ) (el : low �
 
 module _ {p : ℕ} {nodes : List ℕ} {count : ℕ} where
   -- a size that was not found so
-  pub gone_not : {words words₀ : List ℕ} → length words ≡ length words₀ → Gone p nodes count words₀ words 0
-  gone_not e = record { long = e; is = λ f. absurd (f refl) }
+  pub gone_not : {words words₀ : List ℕ} → length words ≡ length words₀ → Gone p nodes count words₀ words None
+  gone_not e = record { long = e; is = λ k f. cc }
 
   -- the words may have been written to before
-  pub gone_first : {words words₁ words₀ : List ℕ} {r : ℕ} → length words₁ ≡ length words₀ → Gone p nodes count words₁ words r → Gone p nodes count words₀ words r
-  gone_first e G = record { long = G.long ∙ e; is = λ f B lookup H. ((G.is f B lookup H).0, omega (arith, e, (G.is f B lookup H).1)) }
+  pub gone_first : {words words₁ words₀ : List ℕ} {r : Option ℕ} → length words₁ ≡ length words₀ → Gone p nodes count words₁ words r → Gone p nodes count words₀ words r
+  gone_first e G = record { long = G.long ∙ e; is = λ k f B lookup H. ((G.is k f B lookup H).0, omega (arith, e, (G.is k f B lookup H).1)) }

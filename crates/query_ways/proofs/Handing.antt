@@ -12,6 +12,7 @@ use native.Mathlib.Nat.{zero-add, mul-add}
 use lib.ListN.{length, get_or, set, drop, length-set}
 use lib.Seq.{get_or-set_same, get_or-set_other, drop-set-lt}
 use borrow.Rule.Slice.PartMut.{mid_of, put_mid}
+use Rattle.std.specs.Prelude.{Option, Some}
 use Rattle.words.proofs.Cases.{by_test, by_eq, clash}
 use Rattle.family.specs.Family.{Family, empty, size, parts}
 use Rattle.family.specs.Book.{at, Held, place}
@@ -19,10 +20,10 @@ use Rattle.family.proofs.Books.{grown_held}
 use Rattle.family.proofs.Placing.{place_grown, parts_held}
 use Rattle.store.proofs.Held.{at_0, entry, within}
 use Rattle.query_parts.specs.Inner.{Table}
-use Rattle.query_walk.specs.Inner.{as_word, size_of, none, SizeAsks, Listed, Any, Walked}
-use Rattle.query_walk.proofs.Sums.{word_some}
-use Rattle.query_walk.proofs.Listing.{number_word}
-use Rattle.query_ways.specs.Inner.{Covered, passed, entered, due, owing, Ways, Raised, HandedDown, HandAsks, Keeps, Handed, BothAsks, HandedBoth}
+use Rattle.query_walk.specs.Inner.{told, size_of, SizeAsks, Listed, Any, Walked}
+use Rattle.query_walk.proofs.Sums.{told_some}
+use Rattle.query_walk.proofs.Listing.{number_told}
+use Rattle.query_ways.specs.Inner.{Covered, passed, entered, due, owing, Ways, HandedDown, HandAsks, Keeps, Handed, BothAsks, HandedBoth}
 use Rattle.query_ways.proofs.Behind.{behind_part, behind_drop, behind_front, behind_length}
 use Rattle.query_ways.proofs.Worth.{worth_same, worth_rises}
 
@@ -109,7 +110,7 @@ module _ (child ways left low : ℕ) (nodes : List ℕ) (count width places : �
       (λ e. let q = E.refuses e in rw (q, e) (handed_not (record { long = refl; table = A.table })))
 
   -- the table behind the window, lent by itself and back
-  module _ (A : HandAsks nodes count words left width places n) {part : List ℕ} {n' number : ℕ} (W : Walked Any child 513 nodes count places (mid_of width (length words - width) words) n part n' number) where
+  module _ (A : HandAsks nodes count words left width places n) {part : List ℕ} {n' : ℕ} {number : Option ℕ} (W : Walked Any child 513 nodes count places (mid_of width (length words - width) words) n part n' number) where
     abbrev after : List ℕ
     after = put_mid width (length words - width) words part
 
@@ -126,19 +127,19 @@ module _ (child ways left low : ℕ) (nodes : List ℕ) (count width places : �
     pub handed_full : {total' : ℕ} → Handed child ways left low nodes count width places words n total after n' total' false
     handed_full = handed_not below_keeps
 
-    pub below_asks : (number ≡ none → ⊥) → SizeAsks (mid_of width (length after - width) after) places number
-    below_asks f = rw behind (record { long = W.went.table.long; low = omega (arith, W.went.low f, W.went.table.few); small = W.went.table.small })
+    pub below_asks : {k : ℕ} → number ≡ Some k → SizeAsks (mid_of width (length after - width) after) places k
+    below_asks {k} f = rw behind (record { long = W.went.table.long; low = omega (arith, W.went.low k f, W.went.table.few); small = W.went.table.small })
 
-    pub handed_below : (number ≡ none → ⊥) → {k sum : ℕ} → k ≡ size_of (mid_of width (length after - width) after) places number → Raised total ways k sum → (sum ≡ 0 → ⊥)
+    pub handed_below : {k size_is sum : ℕ} → number ≡ Some k → Some size_is ≡ size_of (mid_of width (length after - width) after) places k → sum ≡ total + ways * size_is
         → Handed child ways left low nodes count width places words n total after n' sum true
-    handed_below f {k} {sum} ek R g =
+    handed_below {k} {size_is} {sum} f ek R =
         record {
           keeps = below_keeps;
           sound = λ t {limit} B C D F owed lookup H c z V'.
-              let L = (W.sound B C lookup H c (omega (arith, (within H child c).low, H.limit_low)) _ (subst (λ X. Listed limit B C places n X) (sym (behind_part words width)) V'.listed)).listed f in
-              let w : k ≡ as_word (size (at B child)) = ek ∙ ap (λ X. size_of X places number) behind ∙ number_word L.0 number L.1.0 ∙ ap (λ X. as_word (size X)) L.1.1 in
-              let q = word_some (size (at B child)) (λ e. omega (arith, R.some g, w ∙ e)) in
-              let e : sum ≡ total + ways * size (at B child) = R.is g ∙ ap (λ x. total + ways * x) (w ∙ q.1) in (
+              let L = (W.sound B C lookup H c (omega (arith, (within H child c).low, H.limit_low)) _ (subst (λ X. Listed limit B C places n X) (sym (behind_part words width)) V'.listed)).listed k f in
+              let w : Some size_is ≡ told (size (at B child)) = ek ∙ ap (λ X. size_of X places k) behind ∙ number_told L.0 k L.1.0 ∙ ap (λ X. told (size X)) L.1.1 in
+              let q = told_some (size (at B child)) size_is w in
+              let e : sum ≡ total + ways * size (at B child) = R ∙ ap (λ x. total + ways * x) q.1 in (
                 place C (at B child),
                 ways_below (at B child) (subst (λ X. Listed limit B (place C (at B child)) places n' X) (sym (behind_drop words width A.long part)) L.0)
                     (behind_front words width A.long part) A.within e V',

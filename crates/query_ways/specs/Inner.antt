@@ -1,9 +1,8 @@
 -- Counting by ways, and what its functions promise each other and the call. A reader of the promise can pass this page over.
 -- A member of a family is a way from its handle down to {{}}, so what the ways that have come to some families come to is
 -- the sum of the families' sizes, each as often as there are ways to it.
-use Rattle.std.specs.Prelude.{ℕ, zero, suc, ◌+◌, ◌*◌, ◌-◌, ◌≤◌, ◌<◌, ◌≡◌, Bool, true, false, length, get_or, set, drop}
+use Rattle.std.specs.Prelude.{ℕ, zero, suc, ◌+◌, ◌*◌, ◌-◌, ◌≤◌, ◌<◌, ◌≡◌, Bool, true, false, length, get_or, set, drop, Option, Some}
 use mathlib.Core.List.{List, [], ◌∷◌, Memᴰ}
-use Rattle.words.specs.Words.{most}
 use Rattle.family.specs.Family.{Family, size, parts}
 use Rattle.family.specs.Book.{at, Held}
 use Rattle.family.specs.Parts.{part_count}
@@ -35,15 +34,6 @@ pub record Ways (limit : ℕ) (B C D : List Family) (F : Family) (owed : List Fa
   pub listed : Listed limit B C places n (drop width words)
   pub sum : worth B low words left + total + ways * sizes owed ≡ size F
   pub covers : (X : Family) → Memᴰ X (parts F) → Covered B C D owed low left words X
-
--- a product that fits a word
-pub record Fits (ways size : ℕ) (r : Bool) : Type 0 where
-  pub is : r ≡ true → ways * size ≤ most
-
--- the total with the members of so many ways more, where it is not 0; a size of 0 is one above the largest
-pub record Raised (total ways size r : ℕ) : Type 0 where
-  pub some : (r ≡ 0 → ⊥) → 0 < size
-  pub is : (r ≡ 0 → ⊥) → r ≡ total + ways * size
 
 -- at least so many words
 pub record FrontAsks (words : List ℕ) (left : ℕ) : Type 0 where
@@ -120,10 +110,10 @@ pub record GoAsks (p : ℕ) (nodes : List ℕ) (count : ℕ) (words : List ℕ) 
   pub none : (i : ℕ) → i < width - 1 → get_or words i 0 ≡ 0
   pub table : Table places 0 (drop width words)
 
--- the size of the family of p, where it is not 0, whose parts have two words each
-pub record Gone (p : ℕ) (nodes : List ℕ) (count : ℕ) (words words' : List ℕ) (r : ℕ) : Type 0 where
+-- the size of the family of p, where it was found, whose parts have two words each
+pub record Gone (p : ℕ) (nodes : List ℕ) (count : ℕ) (words words' : List ℕ) (r : Option ℕ) : Type 0 where
   pub long : length words' ≡ length words
-  pub is : (r ≡ 0 → ⊥) → {limit : ℕ} (B : List Family) (lookup : List ℕ) → Holds limit B count nodes lookup → (size (at B p) ≡ r) × (2 * part_count (at B p) ≤ length words)
+  pub is : (k : ℕ) → r ≡ Some k → {limit : ℕ} (B : List Family) (lookup : List ℕ) → Holds limit B count nodes lookup → (size (at B p) ≡ k) × (2 * part_count (at B p) ≤ length words)
 
 -- a handle that is held and is neither {} nor {{}}
 pub record WaysAsks (p : ℕ) (nodes : List ℕ) (count : ℕ) : Type 0 where

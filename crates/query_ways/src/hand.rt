@@ -1,11 +1,11 @@
 // Ways handed on from a part to its sides. The ways to the handles from `low` on stand in a window, a word for each, of
 // which the first `left` are still to be gone through; a side below the window is counted by the table behind it. Each
-// function tells whether it could: a number above 2^64 - 1, a table that is full, or words of no sound store end it.
-ghost use Rattle.std.specs.Prelude.{◌<◌};
-ghost use Rattle.query_ways.specs.Inner.{Fits, Raised, HandAsks, Handed, FrontAsks, HandedDown, BothAsks, HandedBoth};
+// function gives None where it could not: a number above 2^64 - 1, a table that is full, or words of no sound store end it.
+ghost use Rattle.std.specs.Prelude.{is_some};
+ghost use Rattle.query_ways.specs.Inner.{HandAsks, Handed, FrontAsks, HandedDown, BothAsks, HandedBoth};
 
 use query_walk::sizes::size_of;
-use query_walk::walk::{NONE, reach};
+use query_walk::walk::reach;
 
 // How the words are laid out: the handle of the first, the words of the window, the places of the table behind it.
 #[derive(Clone, Copy)]
@@ -15,51 +15,17 @@ pub struct Layout {
     pub places: u32,
 }
 
-// Whether the product fits 64 bits.
-fn fits(ways: u64, size: u64) -> bool
-    requires { 0 < size }
-    ensures { Fits ways size result }
-{
-    if ways < 4294967296 {
-        if size < 4294967296 {
-            return true;
-        }
-    }
-    ways <= 18446744073709551615 / size
-}
-
-// The total with as many members more as so many ways have that come to a family of this size; 0 where that is
-// too large. A size of 0 tells one above 2^64 - 1.
-fn raised(total: u64, ways: u64, size: u64) -> u64
-    ensures { Raised total ways size result }
-{
-    if size == 0 {
-        return 0;
-    }
-    if !fits(ways, size) {
-        return 0;
-    }
-    let more = ways * size;
-    if 18446744073709551615 - more < total {
-        return 0;
-    }
-    total + more
-}
-
 // To a handle in the window, that of word `at`.
-fn hand_down(words: &mut [u64], left: u32, at: u32, ways: u64) -> bool
+fn hand_down(words: &mut [u64], left: u32, at: u32, ways: u64) -> Option<()>
     requires { FrontAsks words.old left }
-    ensures { HandedDown left at ways words.old words.new result }
+    ensures { HandedDown left at ways words.old words.new (is_some result) }
 {
     if left <= at {
-        return false;
+        return None;
     }
     let before = words[at as usize];
-    if 18446744073709551615 - ways < before {
-        return false;
-    }
-    words[at as usize] = before + ways;
-    true
+    words[at as usize] = before.checked_add(ways)?;
+    Some(())
 }
 
 // To a handle below the window: the total rises by its size for each way.
@@ -73,9 +39,9 @@ fn hand_below(
     words: &mut [u64],
     entered: &mut u32,
     total: &mut u64,
-) -> bool
+) -> Option<()>
     requires { HandAsks nodes.now count words.old left at.width at.places entered.old }
-    ensures { Handed child ways left at.low nodes.now count at.width at.places words.old entered.old total.old words.new entered.new total.new result }
+    ensures { Handed child ways left at.low nodes.now count at.width at.places words.old entered.old total.old words.new entered.new total.new (is_some result) }
 {
     let places = at.places;
     let width = at.width as usize;
@@ -87,17 +53,10 @@ fn hand_below(
         &mut words[width..],
         places,
         entered,
-    );
-    if number == NONE {
-        return false;
-    }
-    let size = size_of(&words[width..], places, number);
-    let sum = raised(*total, ways, size);
-    if sum == 0 {
-        return false;
-    }
-    *total = sum;
-    true
+    )?;
+    let size = size_of(&words[width..], places, number)?;
+    *total = total.checked_add(ways.checked_mul(size)?)?;
+    Some(())
 }
 
 // To a handle that is not {}.
@@ -111,9 +70,9 @@ fn hand_on(
     words: &mut [u64],
     entered: &mut u32,
     total: &mut u64,
-) -> bool
+) -> Option<()>
     requires { HandAsks nodes.now count words.old left at.width at.places entered.old }
-    ensures { Handed child ways left at.low nodes.now count at.width at.places words.old entered.old total.old words.new entered.new total.new result }
+    ensures { Handed child ways left at.low nodes.now count at.width at.places words.old entered.old total.old words.new entered.new total.new (is_some result) }
 {
     if at.low <= child {
         return hand_down(words, left, child - at.low, ways);
@@ -132,9 +91,9 @@ pub fn hand_both(
     words: &mut [u64],
     entered: &mut u32,
     total: &mut u64,
-) -> bool
+) -> Option<()>
     requires { BothAsks p nodes.now count words.old left at.width at.places entered.old }
-    ensures { HandedBoth p ways left at.low nodes.now count at.width at.places words.old entered.old total.old words.new entered.new total.new result }
+    ensures { HandedBoth p ways left at.low nodes.now count at.width at.places words.old entered.old total.old words.new entered.new total.new (is_some result) }
 {
     let base = 3 * (p - 2) as usize;
     let zero = nodes[base + 1];
@@ -143,13 +102,9 @@ pub fn hand_both(
         return hand_on(one, ways, left, at, nodes, count, words, entered, total);
     }
     if at.low <= zero {
-        if !hand_down(words, left, zero - at.low, ways) {
-            return false;
-        }
+        hand_down(words, left, zero - at.low, ways)?;
         return hand_on(one, ways, left, at, nodes, count, words, entered, total);
     }
-    if !hand_below(zero, ways, left, at, nodes, count, words, entered, total) {
-        return false;
-    }
+    hand_below(zero, ways, left, at, nodes, count, words, entered, total)?;
     hand_on(one, ways, left, at, nodes, count, words, entered, total)
 }

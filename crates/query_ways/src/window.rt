@@ -3,20 +3,15 @@ ghost use Rattle.std.specs.Prelude.{◌≡◌, length};
 ghost use Rattle.query_ways.specs.Inner.{FrontAsks, DenseAsks, OpenAsks, Opened, GoAsks, Gone, WaysAsks};
 
 use crate::hand::{Layout, hand_both};
-use query_parts::entries::{blank, clear};
-use query_parts::least::least;
+use query_parts::entries::{clear, places_in};
 
 // Marks a handle, where its word is one of the first ones.
 fn mark(words: &mut [u64], left: u32, low: u32, child: u32)
     requires { FrontAsks words.old left }
     ensures { length words.new ≡ length words.old }
 {
-    if child < low {
-        return;
-    }
-    let at = child - low;
-    if at < left {
-        words[at as usize] = 1;
+    if low <= child && child - low < left {
+        words[(child - low) as usize] = 1;
     }
 }
 
@@ -26,22 +21,22 @@ fn is_dense(p: u32, nodes: &[u32], count: u32, words: &mut [u64], some: u32) -> 
     requires { DenseAsks p nodes.now count words.old some }
     ensures { length words.new ≡ length words.old }
 {
-    blank(words, some);
+    words[..some as usize].fill(0);
     words[(some - 1) as usize] = 1;
     let low = p - some + 1;
-    let mut parts: u32 = 0;
-    let mut left = some;
-    while 0 < left {
-        left = left - 1;
+    for left in (0..some).rev() {
         if words[left as usize] == 0 {
             continue;
         }
-        parts = parts + 1;
         let base = 3 * (low + left - 2) as usize;
         mark(words, left, low, nodes[base + 1]);
         mark(words, left, low, nodes[base + 2]);
     }
-    some / 2 <= parts
+    some as usize / 2
+        <= words[..some as usize]
+            .iter()
+            .filter(|mark| **mark != 0)
+            .count()
 }
 
 // An empty window but for one way to the last handle, and an empty table.
@@ -49,34 +44,35 @@ fn open(words: &mut [u64], width: u32, places: u32)
     requires { OpenAsks words.old width places }
     ensures { Opened width places words.old words.new }
 {
-    blank(words, width);
+    words[..width as usize].fill(0);
     words[(width - 1) as usize] = 1;
     clear(&mut words[width as usize..], places);
 }
 
-// Goes through the window. The size of p, or 0 where it was not found so.
-fn go_down(p: u32, nodes: &[u32], count: u32, words: &mut [u64], width: u32, places: u32) -> u64
+// Goes through the window. The size of p, where it was found so.
+fn go_down(
+    p: u32,
+    nodes: &[u32],
+    count: u32,
+    words: &mut [u64],
+    width: u32,
+    places: u32,
+) -> Option<u64>
     requires { GoAsks p nodes.now count words.old width places }
     ensures { Gone p nodes.now count words.old words.new result }
 {
     let low = p - width + 1;
-    let at = Layout {
-        low: low,
-        width: width,
-        places: places,
-    };
+    let at = Layout { low, width, places };
     let mut total: u64 = 0;
     let mut entered: u32 = 0;
     let mut parts: u32 = 0;
-    let mut left = width;
-    while 0 < left {
-        left = left - 1;
+    for left in (0..width).rev() {
         let ways = words[left as usize];
         if ways == 0 {
             continue;
         }
-        parts = parts + 1;
-        if !hand_both(
+        parts += 1;
+        hand_both(
             low + left,
             ways,
             left,
@@ -86,31 +82,29 @@ fn go_down(p: u32, nodes: &[u32], count: u32, words: &mut [u64], width: u32, pla
             words,
             &mut entered,
             &mut total,
-        ) {
-            return 0;
-        }
+        )?;
     }
     if words.len() / 2 < (parts + entered) as usize {
-        return 0;
+        return None;
     }
-    total
+    Some(total)
 }
 
-// The size of p by ways, where its parts stand side by side and two words for each are there; else 0.
-pub fn size_by_ways(p: u32, nodes: &[u32], count: u32, words: &mut [u64]) -> u64
+// The size of p by ways, where its parts stand side by side and two words for each are there.
+pub fn size_by_ways(p: u32, nodes: &[u32], count: u32, words: &mut [u64]) -> Option<u64>
     requires { WaysAsks p nodes.now count }
     ensures { Gone p nodes.now count words.old words.new result }
 {
     let length = words.len();
-    let width = least(length / 4, p - 1);
+    let width = (length / 4).min((p - 1) as usize) as u32;
     let some = width / 16;
     if some == 0 {
-        return 0;
+        return None;
     }
     if !is_dense(p, nodes, count, words, some) {
-        return 0;
+        return None;
     }
-    let places = least((length - width as usize) / 2, count);
+    let places = places_in(length - width as usize, count);
     open(words, width, places);
     go_down(p, nodes, count, words, width, places)
 }

@@ -1,170 +1,158 @@
 // Making many nodes with one call each, and some with unions.
+use crate::words::Words;
 use op_families::calls::union;
 use op_items::calls::change;
-use store::record::{PlaceAnswer, Placed, Store};
+use store::record::{PlaceAnswer, Placed, Refusal, Store};
 
-// A union of two families, or a change of a family by an item.
+// Until the store has these.
 #[derive(Clone, Copy)]
-pub struct Call {
-    pub union: bool,
-    pub p: u32,
-    pub q: u32,
+pub struct Placement {
+    pub handle: u32,
+    pub added: u32,
 }
 
-// Runs a call.
-fn run_call(
-    call: Call,
+#[derive(Clone, Copy)]
+struct Answered<T> {
     store: Store,
-    nodes: &mut [u32],
-    lookup: &mut [u32],
-    cache: &mut [u32],
-) -> Placed {
-    if call.union {
-        return union(store, nodes, lookup, cache, call.p, call.q);
-    }
-    change(store, nodes, lookup, cache, call.p, call.q)
+    answer: Result<T, Refusal>,
 }
 
-// The handle given; 0 for a refusal.
-fn handle_of(answer: PlaceAnswer) -> u32 {
-    match answer {
-        PlaceAnswer::Handle(handle, _) => handle,
-        PlaceAnswer::Refused(_) => 0,
+fn made(placed: Placed) -> Answered<Placement> {
+    Answered {
+        store: placed.store,
+        answer: match placed.answer {
+            PlaceAnswer::Handle(handle, added) => Ok(Placement { handle, added }),
+            PlaceAnswer::Refused(refusal) => Err(refusal),
+        },
     }
 }
 
-// How many nodes were added; 0 for a refusal.
-fn added_of(answer: PlaceAnswer) -> u32 {
-    match answer {
-        PlaceAnswer::Handle(_, added) => added,
-        PlaceAnswer::Refused(_) => 0,
+// What the calls of a phase are.
+#[derive(Clone, Copy)]
+pub enum Kind {
+    // Changes, each with one node more, that make the combinations of one item and then those of two.
+    Changes,
+    // The change that makes the first combination of two items.
+    Again,
+    // Unions of a family of single items with the next single item, with as many nodes more as the family has items.
+    Unions,
+}
+
+// A combination of at most two items, the lower one first and 0 where there is one.
+#[derive(Clone, Copy)]
+pub struct Pair {
+    low: u32,
+    high: u32,
+}
+
+impl Pair {
+    // The next combination: first the 512 of one item, then the pairs.
+    fn next(self) -> Pair {
+        match self {
+            Pair { low: 0, high: 512 } => Pair { low: 1, high: 2 },
+            Pair { low: 0, high } => Pair {
+                low: 0,
+                high: high.wrapping_add(1),
+            },
+            Pair { low, high } if low.wrapping_add(1) == high => Pair {
+                low: 1,
+                high: high.wrapping_add(1),
+            },
+            Pair { low, high } => Pair {
+                low: low.wrapping_add(1),
+                high,
+            },
+        }
     }
 }
 
-// The record and the answer last given; how many nodes the phase added; the next combination of at most two items, the
-// lower one first and 0 where there is one; the handle of a family of single items, and the item that is next for it.
+// The record and the answer last given; how many nodes the phase added; the next combination; the handle of a family of
+// single items, and the item that is next for it.
 #[derive(Clone, Copy)]
 pub struct Progress {
     pub store: Store,
-    pub answer: PlaceAnswer,
+    pub answer: Result<Placement, Refusal>,
     pub added: u32,
-    pub low: u32,
-    pub high: u32,
-    pub handle: u32,
-    pub item: u32,
+    pair: Pair,
+    singles: u32,
+    item: u32,
 }
 
-// What comes before the first call. The handle is that of item 400: single items have the handles 2 to 513.
-pub fn start(store: Store) -> Progress {
-    Progress {
-        store: store,
-        answer: PlaceAnswer::Handle(1, 0),
-        added: 0,
-        low: 0,
-        high: 1,
-        handle: 401,
-        item: 399,
-    }
-}
-
-// The same at the start of a phase, with this combination as the next.
-pub fn started(at: Progress, low: u32, high: u32) -> Progress {
-    let store = at.store;
-    let answer = at.answer;
-    Progress {
-        store: store,
-        answer: answer,
-        added: 0,
-        low: low,
-        high: high,
-        handle: at.handle,
-        item: at.item,
-    }
-}
-
-// The next call: the union with the next single item, with as many nodes more as the family has items; or the change
-// that makes the next combination from its lower item's, or from the empty one, with one node more.
-fn next(unions: bool, at: Progress) -> Call {
-    if unions {
-        return Call {
-            union: true,
-            p: at.handle,
-            q: std::num::wrapping_add_u32(at.item, 1),
-        };
-    }
-    Call {
-        union: false,
-        p: std::num::wrapping_add_u32(at.low, 1),
-        q: at.high,
-    }
-}
-
-// Goes on to the next combination: first the 512 of one item, then the pairs.
-fn after_change(at: Progress, placed: Placed) -> Progress {
-    let store = placed.store;
-    let answer = placed.answer;
-    let mut low = std::num::wrapping_add_u32(at.low, 1);
-    let mut high = at.high;
-    if at.low == 0 {
-        low = 0;
-        high = std::num::wrapping_add_u32(high, 1);
-        if high == 513 {
-            low = 1;
-            high = 2;
+impl Progress {
+    // What comes before the first call. The handle is that of item 400: single items have the handles 2 to 513.
+    pub fn start(store: Store) -> Progress {
+        Progress {
+            store,
+            answer: Ok(Placement {
+                handle: 1,
+                added: 0,
+            }),
+            added: 0,
+            pair: Pair { low: 0, high: 1 },
+            singles: 401,
+            item: 399,
         }
-    } else if low == high {
-        low = 1;
-        high = std::num::wrapping_add_u32(high, 1);
     }
-    Progress {
-        store: store,
-        answer: answer,
-        added: std::num::wrapping_add_u32(at.added, added_of(answer)),
-        low: low,
-        high: high,
-        handle: at.handle,
-        item: at.item,
-    }
-}
 
-// Goes on to the next item.
-fn after_union(at: Progress, placed: Placed) -> Progress {
-    let store = placed.store;
-    let answer = placed.answer;
-    Progress {
-        store: store,
-        answer: answer,
-        added: std::num::wrapping_add_u32(at.added, added_of(answer)),
-        low: at.low,
-        high: at.high,
-        handle: handle_of(answer),
-        item: std::num::wrapping_sub_u32(at.item, 1),
+    // The same with what a call gave.
+    fn with(self, answered: Answered<Placement>) -> Progress {
+        let added = answered.answer.map_or(0, |placement| placement.added);
+        Progress {
+            store: answered.store,
+            answer: answered.answer,
+            added: self.added.wrapping_add(added),
+            ..self
+        }
     }
-}
 
-// Where a call leads.
-fn after(unions: bool, at: Progress, placed: Placed) -> Progress {
-    if unions {
-        return after_union(at, placed);
+    // The change that makes a combination from its lower item's, or from the empty one.
+    fn change(self, pair: Pair, words: &mut Words) -> Progress {
+        self.with(made(change(
+            self.store,
+            &mut words.nodes,
+            &mut words.lookup,
+            &mut words.cache,
+            pair.low.wrapping_add(1),
+            pair.high,
+        )))
     }
-    after_change(at, placed)
-}
 
-// So many unions, or changes.
-pub fn calls(
-    unions: bool,
-    number: u32,
-    from: Progress,
-    nodes: &mut [u32],
-    lookup: &mut [u32],
-    cache: &mut [u32],
-) -> Progress {
-    let mut at = from;
-    let mut left = number;
-    while 0 < left {
-        let placed = run_call(next(unions, at), at.store, nodes, lookup, cache);
-        at = after(unions, at, placed);
-        left = left - 1;
+    // The change that makes the next combination.
+    fn changed(self, words: &mut Words) -> Progress {
+        Progress {
+            pair: self.pair.next(),
+            ..self.change(self.pair, words)
+        }
     }
-    at
+
+    // The union with the next single item.
+    fn united(self, words: &mut Words) -> Progress {
+        let answered = made(union(
+            self.store,
+            &mut words.nodes,
+            &mut words.lookup,
+            &mut words.cache,
+            self.singles,
+            self.item.wrapping_add(1),
+        ));
+        let singles = answered.answer.map_or(0, |placement| placement.handle);
+        Progress {
+            singles,
+            item: self.item.wrapping_sub(1),
+            ..self.with(answered)
+        }
+    }
+
+    // So many calls of a kind.
+    pub fn calls(self, kind: Kind, number: u32, words: &mut Words) -> Progress {
+        let mut at = Progress { added: 0, ..self };
+        for _ in 0..number {
+            at = match kind {
+                Kind::Changes => at.changed(words),
+                Kind::Again => at.change(Pair { low: 1, high: 2 }, words),
+                Kind::Unions => at.united(words),
+            };
+        }
+        at
+    }
 }

@@ -1,153 +1,102 @@
 // The lines of Audit.
-use crate::draw::{Drawn, at_most, size_below};
-use crate::lend::{Lent, limited};
-use crate::output::{answer, length, lent_two, record, text, word};
+use crate::draw::Drawn;
+use crate::lend::Lent;
+use crate::output::{record, told};
+use crate::replay::Replay;
 use crate::sums::cleared;
-use std::io;
-use store_audit::audit::{Audited, audit};
+use std::{fmt, io, mem};
+use store::record::Store;
+use store_audit::audit::audit;
 
-// Writes what Audit gave, and whether the whole cache groups are 0.
-fn given(rt: &impl Print, audited: Audited, zero: bool) -> io::Result<()> {
-    answer(rt, audited.sound)?;
-    record(rt, audited.store)?;
-    text(rt, b" cleared")?;
-    answer(rt, zero)?;
-    text(rt, b"\n")
+// What is changed before an Audit: nothing, a node word or a slot to another number, or the limit in the record.
+#[derive(Clone, Copy)]
+enum Change {
+    Nothing,
+    Node(usize, u32),
+    Slot(usize, u32),
+    Limit(u32),
 }
 
-// Audits the store and writes the rest of the line.
-fn audit_text(
-    rt: &impl Print,
-    lent: Lent,
-    nodes: &[u32],
-    lookup: &[u32],
-    cache: &mut [u32],
-) -> io::Result<()> {
-    let slots = at_most(lent.slots, lookup.len());
-    let part = at_most(lent.cache, cache.len());
-    let audited = audit(lent.record, nodes, &lookup[0..slots], &mut cache[0..part]);
-    lent_two(rt, slots, part)?;
-    given(rt, audited, cleared(&cache[0..part]))
-}
-
-// Writes which word is changed, and to what.
-fn change_text(rt: &impl Print, what: &[u8], at: usize, value: u32) -> io::Result<()> {
-    text(rt, what)?;
-    length(rt, at)?;
-    word(rt, value)
+impl fmt::Display for Change {
+    fn fmt<W: fmt::Write>(&self, f: &mut fmt::Formatter<W>) -> fmt::Result {
+        match *self {
+            Change::Nothing => Ok(()),
+            Change::Node(at, value) => write!(f, " with node word {at} {value}"),
+            Change::Slot(at, value) => write!(f, " with slot {at} {value}"),
+            Change::Limit(limit) => write!(f, " with limit {limit}"),
+        }
+    }
 }
 
 // Sets a word and gives the one that stood there.
 fn exchange(words: &mut [u32], at: usize, value: u32) -> u32 {
-    if words.len() <= at {
-        return value;
+    match words.get_mut(at) {
+        Some(word) => mem::replace(word, value),
+        None => value,
     }
-    let before = words[at];
-    words[at] = value;
-    before
 }
 
-// Audits the store with one node word changed, and changes it back.
-fn changed_node(
-    rt: &impl Print,
-    at: usize,
-    value: u32,
-    lent: Lent,
-    nodes: &mut [u32],
-    lookup: &[u32],
-    cache: &mut [u32],
-) -> io::Result<()> {
-    let before = exchange(nodes, at, value);
-    change_text(rt, b"Audit with node word", at, value)?;
-    audit_text(rt, lent, nodes, lookup, cache)?;
-    exchange(nodes, at, before);
-    Ok(())
-}
-
-// Audits the store with one slot changed, and changes it back.
-fn changed_slot(
-    rt: &impl Print,
-    at: usize,
-    value: u32,
-    lent: Lent,
-    nodes: &[u32],
-    lookup: &mut [u32],
-    cache: &mut [u32],
-) -> io::Result<()> {
-    let before = exchange(lookup, at, value);
-    change_text(rt, b"Audit with slot", at, value)?;
-    audit_text(rt, lent, nodes, lookup, cache)?;
-    exchange(lookup, at, before);
-    Ok(())
-}
-
-// The item of a node, 0 being the first.
-fn item_at(nodes: &[u32], k: u32) -> u32 {
-    let at = 3 * k as usize;
-    if nodes.len() <= at {
-        return 0;
+impl Replay<'_> {
+    // The largest item of the nodes that are held.
+    fn largest(&self) -> u32 {
+        let items = self.nodes.chunks(3).filter_map(|node| node.first());
+        items
+            .take(self.store.count as usize)
+            .copied()
+            .max()
+            .unwrap_or(0)
     }
-    nodes[at]
-}
 
-// The larger number.
-fn larger(a: u32, b: u32) -> u32 {
-    if a < b {
-        return b;
+    // None, a node word or a slot to a small number, or the largest item held or one less as the limit.
+    fn drawn_change(&self, drawn: Drawn) -> Change {
+        let value = drawn.b % 8;
+        let place = drawn.a as usize;
+        match drawn.d / 64 % 4 {
+            0 => Change::Node(place.checked_rem(self.nodes.len()).unwrap_or(0), value),
+            1 => Change::Slot(place.checked_rem(self.lookup.len()).unwrap_or(0), value),
+            2 => Change::Limit(self.largest().wrapping_sub(drawn.b % 2)),
+            _ => Change::Nothing,
+        }
     }
-    a
-}
 
-// The largest item of so many nodes.
-fn largest(nodes: &[u32], count: u32) -> u32 {
-    let mut most: u32 = 0;
-    let mut k: u32 = 0;
-    while k < count {
-        most = larger(most, item_at(nodes, k));
-        k = k + 1;
+    // Changes a word, if it is one that is to be changed; gives the change back.
+    fn change(&mut self, change: Change) -> Change {
+        match change {
+            Change::Node(at, value) => Change::Node(at, exchange(self.nodes, at, value)),
+            Change::Slot(at, value) => Change::Slot(at, exchange(self.lookup, at, value)),
+            _ => change,
+        }
     }
-    most
-}
 
-// Audits the store with another limit in the record.
-fn changed_limit(
-    rt: &impl Print,
-    limit: u32,
-    lent: Lent,
-    nodes: &[u32],
-    lookup: &[u32],
-    cache: &mut [u32],
-) -> io::Result<()> {
-    text(rt, b"Audit with limit")?;
-    word(rt, limit)?;
-    audit_text(rt, limited(lent, limit), nodes, lookup, cache)
-}
+    // Audits the store and writes the rest of the line.
+    fn audited(&mut self, rt: &impl Print, lent: Lent) -> io::Result<()> {
+        let slots = lent.slots.min(self.lookup.len());
+        let part = lent.cache.min(self.cache.len());
+        let audited = audit(
+            lent.record,
+            self.nodes,
+            &self.lookup[..slots],
+            &mut self.cache[..part],
+        );
+        print!(rt; " lent {slots} {part}: {}", told(audited.sound))?;
+        record(rt, audited.store)?;
+        println!(rt; " cleared {}", told(cleared(&self.cache[..part])))
+    }
 
-// Audits the store as it is, with one word changed to a small number, or with the largest item held or one less as
-// its limit.
-pub fn lines(
-    rt: &impl Print,
-    drawn: Drawn,
-    count: u32,
-    lent: Lent,
-    nodes: &mut [u32],
-    lookup: &mut [u32],
-    cache: &mut [u32],
-) -> io::Result<()> {
-    let way = drawn.d / 64 % 4;
-    let value = drawn.b % 8;
-    if way == 0 {
-        let at = size_below(drawn.a, nodes.len());
-        return changed_node(rt, at, value, lent, nodes, lookup, cache);
+    // Audits the store as it is or with a drawn change, which is then undone.
+    pub fn audit(&mut self, rt: &impl Print, drawn: Drawn, lent: Lent) -> io::Result<()> {
+        let change = self.drawn_change(drawn);
+        let record = match change {
+            Change::Limit(limit) => Store {
+                limit,
+                ..lent.record
+            },
+            _ => lent.record,
+        };
+        let back = self.change(change);
+        print!(rt; "Audit{change}")?;
+        self.audited(rt, Lent { record, ..lent })?;
+        self.change(back);
+        Ok(())
     }
-    if way == 1 {
-        let at = size_below(drawn.a, lookup.len());
-        return changed_slot(rt, at, value, lent, nodes, lookup, cache);
-    }
-    if way == 2 {
-        let limit = std::num::wrapping_sub_u32(largest(nodes, count), drawn.b % 2);
-        return changed_limit(rt, limit, lent, nodes, lookup, cache);
-    }
-    text(rt, b"Audit")?;
-    audit_text(rt, lent, nodes, lookup, cache)
 }

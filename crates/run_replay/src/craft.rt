@@ -1,18 +1,8 @@
 // Drawn files. A mask goes into every draw: with 0 the records are mostly near to those of a true file; with 56 the
 // file is true, each item the next and each one child the record before.
-use crate::draw::{Drawn, below, step};
-use crate::output::text;
-use crate::saves;
-use crate::state::{State, with_file};
+use crate::draw::{Drawn, draw, step};
+use crate::replay::Replay;
 use std::io;
-
-// Where the next byte goes, the record before, and the draw.
-#[derive(Clone, Copy)]
-struct Crafted {
-    at: usize,
-    item: u32,
-    draw: u32,
-}
 
 // A record's three numbers, and its bit map byte.
 #[derive(Clone, Copy)]
@@ -23,63 +13,19 @@ pub struct Fields {
     pub one: u32,
 }
 
-// Puts the low byte of a number at a place, if the file reaches so far.
-pub fn put(file: &mut [u8], at: usize, number: u32) {
-    if at < file.len() {
-        file[at] = (number % 256) as u8;
-    }
-}
-
-// The place that follows by so many bytes.
-fn past(at: usize, bytes: usize) -> usize {
-    std::num::wrapping_add_usize(at, bytes)
-}
-
-// Puts a field of two or four bytes where its bit stands, low byte first; gives the next place.
-fn put_field(file: &mut [u8], at: usize, stands: bool, four: bool, number: u32) -> usize {
-    if !stands {
-        return at;
-    }
-    put(file, at, number);
-    put(file, past(at, 1), number / 256);
-    if !four {
-        return past(at, 2);
-    }
-    put(file, past(at, 2), number / 65536);
-    put(file, past(at, 3), number / 16777216);
-    past(at, 4)
-}
-
-// Puts a record; gives the next place.
-pub fn put_fields(file: &mut [u8], at: usize, fields: Fields) -> usize {
-    put(file, at, fields.bits);
-    let bits = fields.bits;
-    let first = put_field(file, past(at, 1), bits % 2 == 1, false, fields.item);
-    let second = put_field(file, first, bits / 2 % 2 == 1, true, fields.zero);
-    put_field(file, second, bits / 4 % 2 == 1, true, fields.one)
-}
-
 // An item: mostly the one before plus 1, or a little more; seldom the same, a small one, or one near the limit or near
 // the end of the items.
 fn craft_item(x: u32, before: u32, limit: u32) -> u32 {
-    let way = x % 32;
-    if way == 0 {
-        return 512 + x / 32 % 2;
+    let pick = x / 32;
+    let next = before.wrapping_add(1);
+    match x % 32 {
+        0 => 512 + pick % 2,
+        1 => before,
+        2..=3 => 1 + pick % 4,
+        4..=7 => limit.wrapping_add(pick % 2),
+        8..=11 => next.wrapping_add(pick % 3),
+        _ => next,
     }
-    if way == 1 {
-        return before;
-    }
-    if way < 4 {
-        return 1 + x / 32 % 4;
-    }
-    if way < 8 {
-        return std::num::wrapping_add_u32(limit, x / 32 % 2);
-    }
-    let next = std::num::wrapping_add_u32(before, 1);
-    if way < 12 {
-        return std::num::wrapping_add_u32(next, x / 32 % 3);
-    }
-    next
 }
 
 // A zero child: 0 or a number below the record's own; seldom its own.
@@ -90,147 +36,113 @@ fn craft_zero(x: u32, local: u32) -> u32 {
     if x % 64 == 1 {
         return local;
     }
-    below(x / 64, local)
+    (x / 64).checked_rem(local).unwrap_or(0)
 }
 
 // A one child: mostly the record before, else a number below the record's own; seldom 0 or its own.
 fn craft_one(x: u32, local: u32) -> u32 {
-    let way = x % 64;
-    if way == 0 {
-        return 0;
+    let before = local.wrapping_sub(1);
+    match x % 64 {
+        0 => 0,
+        1 => local,
+        2..=7 => (x / 64).checked_rem(before).unwrap_or(0).wrapping_add(1),
+        _ => before,
     }
-    if way == 1 {
-        return local;
-    }
-    let before = std::num::wrapping_sub_u32(local, 1);
-    if way < 8 {
-        return std::num::wrapping_add_u32(1, below(x / 64, before));
-    }
-    before
-}
-
-// 1, 2 or 4 where two numbers differ, else 0.
-fn bit(value: u32, a: u32, b: u32) -> u32 {
-    if a == b {
-        return 0;
-    }
-    value
 }
 
 // The bit map byte: the one that the fields ask for, seldom with more bits.
 fn craft_bits(x: u32, plain: u32) -> u32 {
     if x % 32 == 0 {
-        return plain | (x / 32 % 16);
-    }
-    plain
-}
-
-// Draws and puts the record with a local number.
-fn put_record(file: &mut [u8], limit: u32, mask: u32, crafted: Crafted, local: u32) -> Crafted {
-    let a = step(crafted.draw);
-    let b = step(a);
-    let c = step(b);
-    let d = step(c);
-    let item = craft_item(a | mask, crafted.item, limit);
-    let zero = craft_zero(b | mask, local);
-    let one = craft_one(c | mask, local);
-    let first = bit(1, item, std::num::wrapping_add_u32(crafted.item, 1));
-    let second = bit(2, zero, 0);
-    let third = bit(4, one, std::num::wrapping_sub_u32(local, 1));
-    let fields = Fields {
-        bits: craft_bits(d | mask, first | second | third),
-        item: item,
-        zero: zero,
-        one: one,
-    };
-    let next = put_fields(file, crafted.at, fields);
-    Crafted {
-        at: next,
-        item: item,
-        draw: d,
+        plain | (x / 32 % 16)
+    } else {
+        plain
     }
 }
 
-// Puts so many records behind the first five bytes; gives the length and the draw.
-fn put_records(file: &mut [u8], limit: u32, parts: u32, mask: u32, draw: u32) -> Crafted {
-    let mut crafted = Crafted {
-        at: 5,
-        item: 0,
-        draw: draw,
-    };
-    let mut local: u32 = 2;
-    let end = std::num::wrapping_add_u32(parts, 2);
-    while local < end {
-        crafted = put_record(file, limit, mask, crafted, local);
-        local = local + 1;
+impl Replay<'_> {
+    // Puts bytes behind the file, as far as the buffer reaches.
+    fn put(&mut self, bytes: &[u8]) {
+        for byte in bytes {
+            if let Some(place) = self.file.get_mut(self.length) {
+                *place = *byte;
+            }
+            self.length = self.length.wrapping_add(1);
+        }
     }
-    crafted
-}
 
-// How long the file in the buffer is, and the draw.
-#[derive(Clone, Copy)]
-pub struct Crafting {
-    pub length: usize,
-    pub draw: u32,
-}
-
-// The first byte: 01, seldom another.
-fn first_byte(way: u32, other: u32) -> u32 {
-    if way == 0 {
-        return other;
+    // Begins a file with its first five bytes: the first one, and how many parts it names.
+    pub fn put_head(&mut self, first: u32, parts: u32) {
+        self.length = 0;
+        self.put(&first.to_le_bytes()[..1]);
+        self.put(&parts.to_le_bytes());
     }
-    1
-}
 
-// The number of parts that the file names: seldom one too many or too few.
-fn named_parts(way: u32, parts: u32) -> u32 {
-    if way == 1 {
-        return std::num::wrapping_add_u32(parts, 1);
+    // Puts a record: the bit map byte, and the fields whose bits stand.
+    pub fn put_record(&mut self, fields: Fields) {
+        let bits = fields.bits;
+        self.put(&bits.to_le_bytes()[..1]);
+        if bits & 1 != 0 {
+            self.put(&fields.item.to_le_bytes()[..2]);
+        }
+        if bits & 2 != 0 {
+            self.put(&fields.zero.to_le_bytes());
+        }
+        if bits & 4 != 0 {
+            self.put(&fields.one.to_le_bytes());
+        }
     }
-    if way == 2 {
-        return std::num::wrapping_sub_u32(parts, 1);
+
+    // Draws and puts the record with a local number; gives its item.
+    fn craft_record(&mut self, mask: u32, before: u32, local: u32) -> u32 {
+        let a = step(self.draw);
+        let b = step(a);
+        let c = step(b);
+        let d = step(c);
+        let item = craft_item(a | mask, before, self.store.limit);
+        let zero = craft_zero(b | mask, local);
+        let one = craft_one(c | mask, local);
+        let item_bit = u32::from(item != before.wrapping_add(1));
+        let zero_bit = 2 * u32::from(zero != 0);
+        let one_bit = 4 * u32::from(one != local.wrapping_sub(1));
+        let bits = craft_bits(d | mask, item_bit | zero_bit | one_bit);
+        self.put_record(Fields {
+            bits,
+            item,
+            zero,
+            one,
+        });
+        self.draw = d;
+        item
     }
-    parts
-}
 
-// Puts the first five bytes.
-pub fn put_head(file: &mut [u8], way: u32, other: u32, parts: u32) {
-    put(file, 0, first_byte(way, other));
-    put_field(file, 1, true, true, named_parts(way, parts));
-}
-
-// Puts a drawn file of so many records for a store of this limit at the front of the buffer; seldom a byte of the
-// buffer follows it.
-fn craft(file: &mut [u8], drawn: Drawn, limit: u32, parts: u32, mask: u32) -> Crafting {
-    let way = (drawn.b | mask) % 32;
-    put_head(file, way, drawn.c, parts);
-    let crafted = put_records(file, limit, parts, mask, drawn.d);
-    if way == 3 {
-        return Crafting {
-            length: past(crafted.at, 1),
-            draw: crafted.draw,
-        };
+    // Draws a file of so many records for this store at the front of the buffer, and writes it; seldom its first byte or the
+    // number of parts that it names is another, or a byte of the buffer follows it.
+    fn craft(&mut self, rt: &impl Print, drawn: Drawn, parts: u32, mask: u32) -> io::Result<()> {
+        let way = (drawn.b | mask) % 32;
+        match way {
+            0 => self.put_head(drawn.c, parts),
+            1 => self.put_head(1, parts.wrapping_add(1)),
+            2 => self.put_head(1, parts.wrapping_sub(1)),
+            _ => self.put_head(1, parts),
+        }
+        self.draw = drawn.d;
+        let mut item = 0;
+        for local in 2..parts.wrapping_add(2) {
+            item = self.craft_record(mask, item, local);
+        }
+        if way == 3 {
+            self.length = self.length.wrapping_add(1);
+        }
+        self.file_line(rt, "Craft")
     }
-    Crafting {
-        length: crafted.at,
-        draw: crafted.draw,
+
+    // Draws a file of a few records.
+    pub fn craft_short(&mut self, rt: &impl Print, drawn: Drawn) -> io::Result<()> {
+        self.craft(rt, drawn, 1 + drawn.a % 6, 0)
     }
-}
 
-// Puts a file of a few records.
-pub fn short(file: &mut [u8], drawn: Drawn, limit: u32) -> Crafting {
-    craft(file, drawn, limit, 1 + drawn.a % 6, 0)
-}
-
-// Puts a true file of 200 parts.
-pub fn tall(file: &mut [u8], drawn: Drawn, limit: u32) -> Crafting {
-    craft(file, drawn, limit, 200, 56)
-}
-
-// Writes the file; gives the state with it in the buffer.
-pub fn line(rt: &impl Print, crafting: Crafting, state: State, file: &[u8]) -> io::Result<State> {
-    text(rt, b"Craft")?;
-    saves::bytes(rt, file, crafting.length)?;
-    text(rt, b"\n")?;
-    Ok(with_file(state, crafting.draw, crafting.length))
+    // Draws a true file of 200 parts.
+    pub fn craft_tall(&mut self, rt: &impl Print) -> io::Result<()> {
+        self.craft(rt, draw(self.draw), 200, 56)
+    }
 }

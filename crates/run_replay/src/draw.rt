@@ -1,5 +1,4 @@
 // What is drawn for a call.
-ghost use Rattle.std.specs.Prelude.{◌≤◌};
 
 // One step of the 32-bit xorshift with shifts 13, 17 and 5.
 pub fn step(x: u32) -> u32 {
@@ -25,80 +24,32 @@ pub fn draw(x: u32) -> Drawn {
     let b = step(a);
     let c = step(b);
     let d = step(c);
-    Drawn {
-        kind: kind,
-        a: a,
-        b: b,
-        c: c,
-        d: d,
-    }
-}
-
-// x modulo n; 0 where n is 0.
-pub fn below(x: u32, n: u32) -> u32 {
-    if n == 0 {
-        return 0;
-    }
-    x % n
-}
-
-// x modulo n; 0 where n is 0.
-pub fn size_below(x: u32, n: usize) -> usize {
-    if n == 0 {
-        return 0;
-    }
-    x as usize % n
-}
-
-// The smaller number.
-pub fn at_most(n: usize, most: usize) -> usize
-    ensures { result ≤ most }
-{
-    if most < n {
-        return most;
-    }
-    n
+    Drawn { kind, a, b, c, d }
 }
 
 // A handle: often one of the newest eight, else any that is held; seldom one that is too large.
 pub fn handle(x: u32, count: u32) -> u32 {
-    let way = x % 32;
     let pick = x / 32;
-    if way == 0 {
-        return std::num::wrapping_add_u32(count, 2);
+    match x % 32 {
+        0 => count.wrapping_add(2),
+        1 => u32::MAX,
+        2..=15 if 8 <= count => count.wrapping_add(1).wrapping_sub(pick % 8),
+        _ => pick.checked_rem(count.wrapping_add(2)).unwrap_or(0),
     }
-    if way == 1 {
-        return 4294967295;
-    }
-    if way < 16 {
-        if 8 <= count {
-            return std::num::wrapping_sub_u32(std::num::wrapping_add_u32(count, 1), pick % 8);
-        }
-    }
-    below(pick, std::num::wrapping_add_u32(count, 2))
 }
 
-// A number at an edge: 0, the limit, 512, the number above either, or the largest word.
-fn edge(way: u32, limit: u32) -> u32 {
-    match way {
+// One of the first or the last so many items up to the limit; seldom a number at an edge: 0, the limit, 512, the number
+// above either, or the largest word.
+pub fn item(x: u32, items: u32, limit: u32) -> u32 {
+    let pick = (x / 32).checked_rem(items).unwrap_or(0);
+    match x % 32 {
         0 => 0,
         1 => limit,
-        2 => std::num::wrapping_add_u32(limit, 1),
+        2 => limit.wrapping_add(1),
         3 => 512,
         4 => 513,
-        _ => 4294967295,
+        5 => u32::MAX,
+        6..=15 => limit.wrapping_sub(pick),
+        _ => pick.wrapping_add(1),
     }
-}
-
-// One of the first or the last so many items up to the limit; seldom a number at an edge.
-pub fn item(x: u32, items: u32, limit: u32) -> u32 {
-    let way = x % 32;
-    if way < 6 {
-        return edge(way, limit);
-    }
-    let pick = below(x / 32, items);
-    if way < 16 {
-        return std::num::wrapping_sub_u32(limit, pick);
-    }
-    std::num::wrapping_add_u32(1, pick)
 }

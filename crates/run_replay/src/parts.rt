@@ -1,46 +1,33 @@
 // How many different parts a family has.
 
-// The word at a place; 0 where there is none.
-fn word_at(words: &[u32], at: usize) -> u32 {
-    if words.len() <= at {
-        return 0;
-    }
-    words[at]
+// The three words of a node, its item and both sides; none for the handles below 2 and those past the words.
+pub fn node(nodes: &[u32], p: u32) -> Option<[u32; 3]> {
+    let k = p.checked_sub(2)?;
+    nodes.as_chunks::<3>().0.get(k as usize).copied()
 }
 
 // Marks a handle, if the marks reach so far.
-fn mark(p: u32, marks: &mut [u32]) {
-    let at = p as usize;
-    if at < marks.len() {
-        marks[at] = 1;
+fn mark(marks: &mut [bool], p: u32) {
+    if let Some(place) = marks.get_mut(p as usize) {
+        *place = true;
     }
 }
 
-// 1 where a node, 0 being the first, is marked, else 0; one that is marks its sides.
-fn part_at(k: u32, nodes: &[u32], marks: &mut [u32]) -> u32 {
-    if word_at(marks, k as usize + 2) == 0 {
-        return 0;
-    }
-    let base = 3 * k as usize;
-    mark(word_at(nodes, base + 1), marks);
-    mark(word_at(nodes, base + 2), marks);
-    1
-}
-
-// How many of so many nodes are marked, from the newest down: the sides of a node stand before it.
-fn marked(count: u32, nodes: &[u32], marks: &mut [u32]) -> u32 {
-    let mut parts: u32 = 0;
-    let mut left = count;
-    while 0 < left {
-        left = left - 1;
-        parts = std::num::wrapping_add_u32(parts, part_at(left, nodes, marks));
-    }
-    parts
-}
-
-// The scratch that the second entry of Size needs for p: two words for each part; 0 where p is not held.
+// The scratch that the second entry of Size needs for p: two words for each part; 0 where p is not held. A part is marked
+// from the newest node down: the sides of a node stand before it.
 pub fn needed(p: u32, count: u32, nodes: &[u32]) -> usize {
-    let mut marks = [0u32; 1100];
-    mark(p, &mut marks);
-    2 * marked(count, nodes, &mut marks) as usize
+    let mut marks = [false; 1100];
+    mark(&mut marks, p);
+    for part in (2..count.saturating_add(2)).rev() {
+        if let (Some(true), Some([_, zero, one])) = (marks.get(part as usize), node(nodes, part)) {
+            mark(&mut marks, zero);
+            mark(&mut marks, one);
+        }
+    }
+    2 * marks
+        .iter()
+        .skip(2)
+        .take(count as usize)
+        .filter(|part| **part)
+        .count()
 }

@@ -1,151 +1,87 @@
 // The lines of the six operations, Even and Odd.
-use crate::draw::{Drawn, at_most, handle, item};
 use crate::lend::Lent;
-use crate::output::{answer, lent_two, record, refused, sum_line, text, word};
-use crate::sums::{cleared, of_words};
-use op_calls::operate;
-use op_parity::calls::{even, odd};
-use op_promise::operation_of;
-use std::io;
-use store::record::{PlaceAnswer, Placed, Refusal, Store};
+use crate::old::{Answered, Placement, even, odd, operate};
+use crate::output::{record, refused, told};
+use crate::replay::Replay;
+use crate::sums::{cleared, sum_of};
+use op_promise::Operation;
+use std::{fmt, io};
+use store::record::Refusal;
 
-// An operation by its number in the cache, 1 to 8, and its two operands; for Even (7) and Odd (8) the second is 0.
+// An operation and its two operands, or Even or Odd of a family.
 #[derive(Clone, Copy)]
-pub struct Operation {
-    pub op: u32,
-    pub p: u32,
-    pub q: u32,
+pub enum Call {
+    Operate(Operation, u32, u32),
+    Even(u32),
+    Odd(u32),
 }
 
-// Writes the name of an operation.
-fn name(rt: &impl Print, op: u32) -> io::Result<()> {
+// The name of an operation.
+fn name(op: Operation) -> &'static str {
     match op {
-        1 => text(rt, b"Subset1"),
-        2 => text(rt, b"Subset0"),
-        3 => text(rt, b"Change"),
-        4 => text(rt, b"Union"),
-        5 => text(rt, b"Intsec"),
-        6 => text(rt, b"Diff"),
-        7 => text(rt, b"Even"),
-        _ => text(rt, b"Odd"),
+        Operation::Subset1 => "Subset1",
+        Operation::Subset0 => "Subset0",
+        Operation::Change => "Change",
+        Operation::Union => "Union",
+        Operation::Intsec => "Intsec",
+        Operation::Diff => "Diff",
     }
 }
 
-// Writes a refusal, and of the lent cache words: after 5 whether the whole groups are 0, else whether all are as
-// before.
-fn refused_with(rt: &impl Print, refusal: Refusal, cache: &[u32], before: u32) -> io::Result<()> {
-    refused(rt, refusal)?;
-    match refusal {
-        Refusal::Full => {
-            text(rt, b" cleared")?;
-            answer(rt, cleared(cache))
-        }
-        _ => {
-            text(rt, b" stays")?;
-            answer(rt, of_words(1, cache) == before)
+impl fmt::Display for Call {
+    fn fmt<W: fmt::Write>(&self, f: &mut fmt::Formatter<W>) -> fmt::Result {
+        match *self {
+            Call::Operate(op, p, q) => write!(f, "{} {p} {q}", name(op)),
+            Call::Even(p) => write!(f, "Even {p}"),
+            Call::Odd(p) => write!(f, "Odd {p}"),
         }
     }
 }
 
-// Writes what a call that places gave; `before` is the sum of the lent cache words before the call.
-pub fn given(rt: &impl Print, placed: Placed, cache: &[u32], before: u32) -> io::Result<()> {
-    let answer = placed.answer;
-    match answer {
-        PlaceAnswer::Handle(handle, added) => {
-            word(rt, handle)?;
-            text(rt, b" added")?;
-            word(rt, added)?;
+// Writes what a call that places gave; after a refusal with 5 whether the whole groups of the lent cache words are 0, after
+// another whether all are as before: their sum was this.
+pub fn given(
+    rt: &impl Print,
+    placed: Answered<Placement>,
+    cache: &[u32],
+    before: u32,
+) -> io::Result<()> {
+    match placed.answer {
+        Ok(Placement { handle, added }) => print!(rt; " {handle} added {added}")?,
+        Err(refusal) => {
+            refused(rt, refusal)?;
+            match refusal {
+                Refusal::Full => print!(rt; " cleared {}", told(cleared(cache)))?,
+                _ => print!(rt; " stays {}", told(sum_of(cache) == before))?,
+            }
         }
-        PlaceAnswer::Refused(refusal) => refused_with(rt, refusal, cache, before)?,
     }
     record(rt, placed.store)
 }
 
-// The sum of the node words and the lookup.
-pub fn words(nodes: &[u32], lookup: &[u32]) -> u32 {
-    of_words(of_words(1, nodes), lookup)
-}
-
-// Writes the operands: Even and Odd take one.
-fn operands(rt: &impl Print, call: Operation) -> io::Result<()> {
-    word(rt, call.p)?;
-    if call.op < 7 {
-        word(rt, call.q)?;
+impl Replay<'_> {
+    // Runs a call and writes its line; gives the handle, 0 for a refusal.
+    pub fn place(&mut self, rt: &impl Print, call: Call, lent: Lent) -> io::Result<u32> {
+        let slots = lent.slots.min(self.lookup.len());
+        let part = lent.cache.min(self.cache.len());
+        let lookup = &mut self.lookup[..slots];
+        let cache = &mut self.cache[..part];
+        let before = sum_of(cache);
+        let placed = match call {
+            Call::Operate(op, p, q) => operate(op, lent.record, self.nodes, lookup, cache, p, q),
+            Call::Even(p) => even(lent.record, self.nodes, lookup, cache, p),
+            Call::Odd(p) => odd(lent.record, self.nodes, lookup, cache, p),
+        };
+        print!(rt; "{call} lent {slots} {part}:")?;
+        given(rt, placed, &self.cache[..part], before)?;
+        println!(rt; " sum {:08x}", self.sum())?;
+        self.take(placed);
+        Ok(placed.answer.map_or(0, |placement| placement.handle))
     }
-    Ok(())
-}
 
-// Writes an operation, and how much is lent to it.
-fn call_text(rt: &impl Print, call: Operation, slots: usize, part: usize) -> io::Result<()> {
-    name(rt, call.op)?;
-    operands(rt, call)?;
-    lent_two(rt, slots, part)
-}
-
-// Runs an operation.
-fn run(
-    call: Operation,
-    record: Store,
-    nodes: &mut [u32],
-    lookup: &mut [u32],
-    cache: &mut [u32],
-) -> Placed {
-    if call.op == 7 {
-        return even(record, nodes, lookup, cache, call.p);
-    }
-    if call.op == 8 {
-        return odd(record, nodes, lookup, cache, call.p);
-    }
-    let op = operation_of(call.op);
-    operate(op, record, nodes, lookup, cache, call.p, call.q)
-}
-
-// Runs an operation and writes its line.
-pub fn line(
-    rt: &impl Print,
-    call: Operation,
-    lent: Lent,
-    nodes: &mut [u32],
-    lookup: &mut [u32],
-    cache: &mut [u32],
-) -> io::Result<Placed> {
-    let slots = at_most(lent.slots, lookup.len());
-    let part = at_most(lent.cache, cache.len());
-    let before = of_words(1, &cache[0..part]);
-    let placed = run(
-        call,
-        lent.record,
-        nodes,
-        &mut lookup[0..slots],
-        &mut cache[0..part],
-    );
-    call_text(rt, call, slots, part)?;
-    given(rt, placed, &cache[0..part], before)?;
-    sum_line(rt, words(nodes, lookup))?;
-    Ok(placed)
-}
-
-// The operation of these numbers.
-pub fn of(op: u32, p: u32, q: u32) -> Operation {
-    Operation { op: op, p: p, q: q }
-}
-
-// The operation that is drawn.
-pub fn drawn_operation(op: u32, drawn: Drawn, items: u32, store: Store) -> Operation {
-    let p = handle(drawn.a, store.count);
-    if op < 4 {
-        return of(op, p, item(drawn.b, items, store.limit));
-    }
-    if op < 7 {
-        return of(op, p, handle(drawn.b, store.count));
-    }
-    of(op, p, 0)
-}
-
-// The handle given; 0 for a refusal.
-pub fn handle_of(answer: PlaceAnswer) -> u32 {
-    match answer {
-        PlaceAnswer::Handle(handle, _) => handle,
-        PlaceAnswer::Refused(_) => 0,
+    // Runs a call with everything lent.
+    pub fn place_all(&mut self, rt: &impl Print, call: Call) -> io::Result<u32> {
+        let lent = self.everything();
+        self.place(rt, call, lent)
     }
 }

@@ -1,149 +1,47 @@
 // All subsets of 1 to 64 items, families of 2^64 - 1 members and of one more, and two parts of 2^63 members each; their
 // sizes by both entries, and the sums of weights of the latter.
-use crate::lend::everything;
-use crate::parts::needed;
-use crate::placing::{Operation, handle_of, of};
-use crate::state::{State, with_placed};
-use crate::{parity, placing, sizes, weighing};
+use crate::placing::Call;
+use crate::replay::Replay;
+use op_promise::Operation;
 use std::io;
-use store::record::Placed;
 
-// The state; the handles of all subsets so far, of all but the empty one, and of what came last.
-#[derive(Clone, Copy)]
-struct Built {
-    state: State,
-    all: u32,
-    less: u32,
-    last: u32,
-}
+impl Replay<'_> {
+    // Runs an operation, and measures what it gives by both entries, the second in scratch by a way.
+    fn subset_step(
+        &mut self,
+        rt: &impl Print,
+        way: u32,
+        op: Operation,
+        p: u32,
+        q: u32,
+    ) -> io::Result<u32> {
+        let handle = self.place_all(rt, Call::Operate(op, p, q))?;
+        self.both_sizes(rt, way, handle, self.everything())?;
+        Ok(handle)
+    }
 
-// The operation of a step: 64 times Change and Union; then 2^64 - 1 members and 2^64, each also with an item more; Even
-// and Odd.
-fn operation(step: u32, built: Built) -> Operation {
-    if step < 128 {
-        if step % 2 == 0 {
-            return of(3, built.all, step / 2 + 1);
+    // Runs a call, and writes the sizes and the sums of weights of what it gives.
+    fn large_step(&mut self, rt: &impl Print, call: Call) -> io::Result<u32> {
+        let handle = self.place_all(rt, call)?;
+        self.weigh_every(rt, handle, 65)?;
+        Ok(handle)
+    }
+
+    // Makes all subsets of 64 items; then 2^64 - 1 members and 2^64, each also with an item more; Even and Odd. Then both
+    // parts of all subsets but the empty one.
+    pub fn subsets(&mut self, rt: &impl Print) -> io::Result<()> {
+        let mut all = 1;
+        for item in 1..=64 {
+            let each = self.subset_step(rt, item - 1, Operation::Change, all, item)?;
+            all = self.subset_step(rt, item - 1, Operation::Union, all, each)?;
         }
-        return of(4, built.all, built.last);
+        let less = self.large_step(rt, Call::Operate(Operation::Diff, all, 1))?;
+        self.large_step(rt, Call::Operate(Operation::Change, less, 65))?;
+        self.large_step(rt, Call::Operate(Operation::Change, all, 65))?;
+        let last = self.large_step(rt, Call::Operate(Operation::Change, 1, 65))?;
+        self.large_step(rt, Call::Operate(Operation::Union, less, last))?;
+        self.large_step(rt, Call::Even(all))?;
+        self.large_step(rt, Call::Odd(all))?;
+        self.parity(rt, less, self.cache.len())
     }
-    match step {
-        128 => of(6, built.all, 1),
-        129 => of(3, built.less, 65),
-        130 => of(3, built.all, 65),
-        131 => of(3, 1, 65),
-        132 => of(4, built.less, built.last),
-        133 => of(7, built.all, 0),
-        _ => of(8, built.all, 0),
-    }
-}
-
-// What a step leaves.
-fn after(step: u32, built: Built, state: State, handle: u32) -> Built {
-    let mut all = built.all;
-    let mut less = built.less;
-    if step < 128 {
-        if step % 2 == 1 {
-            all = handle;
-        }
-    }
-    if step == 128 {
-        less = handle;
-    }
-    Built {
-        state: state,
-        all: all,
-        less: less,
-        last: handle,
-    }
-}
-
-// Runs the operation of a step.
-fn run_step(
-    rt: &impl Print,
-    step: u32,
-    built: Built,
-    nodes: &mut [u32],
-    lookup: &mut [u32],
-    cache: &mut [u32],
-) -> io::Result<Placed> {
-    let state = built.state;
-    let lent = everything(state.store, lookup.len(), cache.len());
-    placing::line(rt, operation(step, built), lent, nodes, lookup, cache)
-}
-
-// Measures what a step gives by both entries; from 2^64 - 1 members on, writes the sums of its weights too.
-fn measured(
-    rt: &impl Print,
-    step: u32,
-    handle: u32,
-    state: State,
-    nodes: &[u32],
-    lookup: &[u32],
-) -> io::Result<()> {
-    let lent = everything(state.store, lookup.len(), 0);
-    if step < 128 {
-        let need = needed(handle, state.store.count, nodes);
-        sizes::both(rt, step / 2, need, handle, lent, nodes, lookup)?;
-        return Ok(());
-    }
-    weighing::every(rt, handle, 65, state.draw, lent, nodes, lookup)
-}
-
-// Runs the operation of a step, and measures what it gives.
-fn stepped(
-    rt: &impl Print,
-    step: u32,
-    built: Built,
-    nodes: &mut [u32],
-    lookup: &mut [u32],
-    cache: &mut [u32],
-) -> io::Result<Built> {
-    let placed = run_step(rt, step, built, nodes, lookup, cache)?;
-    let answer = placed.answer;
-    let handle = handle_of(answer);
-    let state = with_placed(built.state, placed);
-    measured(rt, step, handle, state, nodes, lookup)?;
-    Ok(after(step, built, state, handle))
-}
-
-// Runs all steps.
-fn steps(
-    rt: &impl Print,
-    start: State,
-    nodes: &mut [u32],
-    lookup: &mut [u32],
-    cache: &mut [u32],
-) -> io::Result<Built> {
-    let mut built = Built {
-        state: start,
-        all: 1,
-        less: 1,
-        last: 1,
-    };
-    let mut step: u32 = 0;
-    while step < 135 {
-        built = stepped(rt, step, built, nodes, lookup, cache)?;
-        step = step + 1;
-    }
-    Ok(built)
-}
-
-// Writes the lines of all steps, and of both parts of all subsets but the empty one; gives the state after them.
-pub fn lines(
-    rt: &impl Print,
-    start: State,
-    nodes: &mut [u32],
-    lookup: &mut [u32],
-    cache: &mut [u32],
-) -> io::Result<State> {
-    let built = steps(rt, start, nodes, lookup, cache)?;
-    parity::lines(
-        rt,
-        built.less,
-        cache.len(),
-        built.state,
-        nodes,
-        lookup,
-        cache,
-    )
 }

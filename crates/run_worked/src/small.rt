@@ -1,82 +1,132 @@
 // The worked store: 12 node words, 7 lookup words.
-use crate::files::{load_lines, save_line};
-use crate::line::{lines, refused};
-use crate::output::{decimal, text, word};
-use crate::questions::has_line;
+use crate::call::Call;
+use crate::lent::{Lent, refused};
+use combination::Combination;
+use op_promise::Operation;
 use std::io;
 use store::record::Store;
-use store_fresh::{FreshAnswer, Freshened, fresh};
 use table::start::start_slot;
 
-// Writes what Fresh gave.
-fn fresh_text(rt: &impl Print, freshened: Freshened) -> io::Result<()> {
-    text(rt, b"Fresh(12 node words, 7 lookup words)")?;
-    let answer = freshened.answer;
+// The operations in the order of document 01.
+const CALLS: [Call; 11] = [
+    Call {
+        op: Operation::Change,
+        p: 1,
+        q: 1,
+    },
+    Call {
+        op: Operation::Change,
+        p: 1,
+        q: 2,
+    },
+    Call {
+        op: Operation::Union,
+        p: 2,
+        q: 3,
+    },
+    Call {
+        op: Operation::Union,
+        p: 3,
+        q: 2,
+    },
+    Call {
+        op: Operation::Diff,
+        p: 4,
+        q: 2,
+    },
+    Call {
+        op: Operation::Intsec,
+        p: 4,
+        q: 1,
+    },
+    Call {
+        op: Operation::Subset1,
+        p: 4,
+        q: 2,
+    },
+    Call {
+        op: Operation::Subset0,
+        p: 4,
+        q: 2,
+    },
+    Call {
+        op: Operation::Change,
+        p: 4,
+        q: 1,
+    },
+    Call {
+        op: Operation::Change,
+        p: 1,
+        q: 3,
+    },
+    Call {
+        op: Operation::Change,
+        p: 5,
+        q: 1,
+    },
+];
+
+// The files that are loaded: those that Save wrote, one with a needless item, one of no parts, and no bytes.
+const FILES: [&[u8]; 5] = [
+    b"\x01\x01\x00\x00\x00\x00",
+    b"\x01\x02\x00\x00\x00\x00\x06\x02\x00\x00\x00\x01\x00\x00\x00",
+    b"\x01\x01\x00\x00\x00\x01\x01\x00",
+    b"\x01\x00\x00\x00\x00",
+    b"",
+];
+
+// Fresh, with its line.
+fn fresh_line(rt: &impl Print, lent: &mut Lent) -> io::Result<()> {
+    let answer = lent.fresh(512);
+    print!(rt;
+        "Fresh({} node words, {} lookup words)",
+        lent.nodes.len(),
+        lent.lookup.len()
+    )?;
     match answer {
-        FreshAnswer::Done => {
-            text(rt, b": capacity ")?;
-            word(rt, freshened.store.capacity)?;
-            text(rt, b", held ")?;
-            word(rt, freshened.store.count)?;
-            text(rt, b"\n")
-        }
-        FreshAnswer::Refused(refusal) => refused(rt, refusal),
+        Ok(()) => println!(rt;
+            ": capacity {}, held {}",
+            lent.store.capacity, lent.store.count
+        ),
+        Err(refusal) => refused(rt, refusal),
     }
 }
 
 // The start slot of the words 1, 0, 1, and what stands there.
 fn slot_line(rt: &impl Print, lookup: &[u32]) -> io::Result<()> {
+    let sum = start_slot(1, 0, 1, 4294967296);
     let slot = start_slot(1, 0, 1, 7);
-    text(rt, b"Words 1, 0, 1: sum ")?;
-    decimal(rt, start_slot(1, 0, 1, 4294967296) as u64)?;
-    text(rt, b", slot ")?;
-    decimal(rt, slot as u64)?;
-    if slot < lookup.len() {
-        text(rt, b", which holds ")?;
-        word(rt, lookup[slot])?;
+    print!(rt; "Words 1, 0, 1: sum {sum}, slot {slot}")?;
+    if let Some(handle) = lookup.get(slot) {
+        print!(rt; ", which holds {handle}")?;
     }
-    text(rt, b"\n")
+    println!(rt; "")
 }
 
-// The lines of Fresh and of the operations.
-fn operation_lines(
-    rt: &impl Print,
-    nodes: &mut [u32],
-    lookup: &mut [u32],
-    cache: &mut [u32],
-) -> io::Result<Store> {
-    let freshened = fresh(nodes, lookup, cache, 512);
-    fresh_text(rt, freshened)?;
-    let one = lines(rt, 0, 1, freshened.store, nodes, lookup, cache)?;
-    slot_line(rt, lookup)?;
-    lines(rt, 1, 11, one, nodes, lookup, cache)
-}
-
-// The lines of Save and Has, which change no store word.
-fn reading_lines(rt: &impl Print, store: Store, nodes: &[u32], lookup: &[u32]) -> io::Result<()> {
-    save_line(rt, store, nodes, lookup, 2)?;
-    save_line(rt, store, nodes, lookup, 4)?;
-    has_line(rt, store, nodes, lookup, 4, b"{1}", 1)?;
-    has_line(rt, store, nodes, lookup, 4, b"{}", 0)
-}
-
-// The lines on lent words.
-fn lines_on(
-    rt: &impl Print,
-    nodes: &mut [u32],
-    lookup: &mut [u32],
-    cache: &mut [u32],
-) -> io::Result<()> {
-    let full = operation_lines(rt, nodes, lookup, cache)?;
-    reading_lines(rt, full, nodes, lookup)?;
-    load_lines(rt, full, nodes, lookup, cache)?;
-    Ok(())
+// The combinations of the item 1 and of none, asked for in p.
+fn has_lines(rt: &impl Print, lent: &Lent, p: u32) -> io::Result<()> {
+    let none = Combination { words: [0; 16] };
+    lent.has(rt, p, "{1}", none.including(1))?;
+    lent.has(rt, p, "{}", none)
 }
 
 // The lines of the worked store.
-pub fn small_lines(rt: &impl Print) -> io::Result<()> {
-    let mut nodes = [0u32; 12];
-    let mut lookup = [0u32; 7];
-    let mut cache = [0u32; 64];
-    lines_on(rt, &mut nodes, &mut lookup, &mut cache)
+pub fn lines(rt: &impl Print) -> io::Result<()> {
+    let mut lent = Lent {
+        store: Store::new(0, 0),
+        nodes: &mut [0; 12],
+        lookup: &mut [0; 7],
+        cache: &mut [0; 64],
+    };
+    fresh_line(rt, &mut lent)?;
+    lent.operations(rt, &CALLS[..1])?;
+    slot_line(rt, lent.lookup)?;
+    lent.operations(rt, &CALLS[1..])?;
+    lent.save(rt, 2, &mut [0; 16])?;
+    lent.save(rt, 4, &mut [0; 16])?;
+    has_lines(rt, &lent, 4)?;
+    for file in FILES {
+        lent.load(rt, file)?;
+    }
+    Ok(())
 }

@@ -10,7 +10,8 @@ use Rattle.family.specs.Book.{at, place}
 use Rattle.family.proofs.Placing.{place_grown, place_held}
 use Rattle.std.proofs.Common.{Ok, Err}
 use Rattle.store.specs.declared.record.Refusal.TheVariants.{Damaged}
-use Rattle.store.specs.Inner.{reached_as, Fill, Reached, Roomy, Holds, gave, Ran, RanPlain}
+use Rattle.store.specs.declared.record.Fill.{Fill}
+use Rattle.store.specs.Inner.{reached, Reached, Roomy, Holds, gave, Ran, RanPlain}
 use Rattle.store.proofs.Held.{held}
 use Rattle.store.proofs.Answers.{handle_is, damaged_not}
 use Rattle.store.proofs.Growing.{kept_self}
@@ -23,7 +24,7 @@ place_at {B} H h l = place_held B (at B h) H.book (held H h l)
 module _ (least : ℕ) (F : List Family → Family) (s : Fill) (nodes lookup : List ℕ) where
   -- a handle in the book already
   pub plain_held : Roomy s nodes lookup → (h : ℕ) → h ≤ s.count + 1 → ((limit : ℕ) (B : List Family) → Holds limit B s.count nodes lookup → at B h ≡ F B)
-      → RanPlain least F s nodes lookup (reached_as s.capacity s.count (Ok h)) nodes lookup
+      → RanPlain least F s nodes lookup (reached s (Ok h)) nodes lookup
   plain_held R h l means =
       record {
         kept = kept_self s nodes lookup R.within;
@@ -32,7 +33,7 @@ module _ (least : ℕ) (F : List Family → Family) (s : Fill) (nodes lookup : L
       }
 
   -- words that hold no book
-  pub plain_broken : Roomy s nodes lookup → ((limit : ℕ) (B : List Family) → Holds limit B s.count nodes lookup → ⊥) → RanPlain least F s nodes lookup (reached_as s.capacity s.count (Err Damaged)) nodes lookup
+  pub plain_broken : Roomy s nodes lookup → ((limit : ℕ) (B : List Family) → Holds limit B s.count nodes lookup → ⊥) → RanPlain least F s nodes lookup (reached s (Err Damaged)) nodes lookup
   plain_broken R f =
       record {
         kept = kept_self s nodes lookup R.within;

@@ -6,21 +6,13 @@ use Rattle.family.specs.Book.{at, place, Book}
 use Rattle.table.specs.Entered.{entered, start_at}
 use Rattle.store.specs.declared.record.Store.{Store}
 use Rattle.store.specs.declared.record.Refusal.{Refusal}
+use Rattle.store.specs.declared.record.Fill.{Fill}
 use Rattle.store.specs.declared.record.Refusal.TheVariants.{Full}
 use Rattle.store.specs.Cache.{True}
 
--- How far a store is filled: room for so many nodes, and so many held. It is all that the inner functions are told of
--- the record, so what they promise holds for every limit.
-pub record Fill : Type 0 where
-  pub capacity : ℕ
-  pub count : ℕ
-
-abbrev pub fill_of : ℕ → ℕ → Fill
-fill_of capacity n = record { capacity = capacity; count = n }
-
--- the same of a record
+-- how far a store is filled, by its record
 abbrev pub fill_in : Store → Fill
-fill_in s = fill_of s.capacity s.count
+fill_in s = record { capacity = s.capacity; count = s.count }
 
 -- What an inner call that places comes to: how far the store is filled, and a handle or a refusal. What it added is the
 -- difference of two counts, told where the public call ends.
@@ -28,8 +20,8 @@ pub record Reached : Type 0 where
   pub store : Fill
   pub answer : Result ℕ Refusal
 
-abbrev pub reached_as : ℕ → ℕ → Result ℕ Refusal → Reached
-reached_as capacity n answer = record { store = fill_of capacity n; answer = answer }
+abbrev pub reached : Fill → Result ℕ Refusal → Reached
+reached s answer = record { store = s; answer = answer }
 
 -- words that fit
 pub record Roomy (s : Fill) (nodes lookup : List ℕ) : Type 0 where

@@ -1,6 +1,7 @@
 // The store record, the refusals and the answers of a call.
 ghost use Rattle.std.specs.Prelude.{◌≡◌, ◌+◌, leb, Ok, Err};
 ghost use Rattle.store.specs.Capacity.{capacity_of, is_limit, fitting, counting};
+ghost use Rattle.store.specs.Inner.{fill_in};
 ghost use Rattle.store.specs.Refusals.{refusal_number};
 
 // The refusals, numbered 1 to 11 in this order, and 13.
@@ -52,6 +53,14 @@ pub struct Store {
     pub limit: u32,
 }
 
+// How far a store is filled: room for so many nodes, and so many held. It is all that the inner functions are told of
+// the record, so what they promise holds for every limit.
+#[derive(Clone, Copy)]
+pub struct Fill {
+    pub capacity: u32,
+    pub count: u32,
+}
+
 // What a call that places a family answers: its handle and how many nodes were added.
 #[derive(Clone, Copy)]
 pub struct Placement {
@@ -93,6 +102,16 @@ impl Store {
             capacity,
             count: 0,
             limit,
+        }
+    }
+
+    // How far the store is filled.
+    pub fn fill(self) -> Fill
+        ensures { result ≡ fill_in self }
+    {
+        Fill {
+            capacity: self.capacity,
+            count: self.count,
         }
     }
 

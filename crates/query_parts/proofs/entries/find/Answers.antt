@@ -1,30 +1,26 @@
 -- `find` goes along the chain of the handle; what is left of the chain leads to the handle's place.
--- The measure is the place, which falls along a chain.
+-- The measure is the link, which falls along a chain.
+use mathlib.Core.Path.{ap}
 use native.Mathlib.Omega.{arith}
-use Rattle.query_parts.proofs.Chains.{sought_head, sought_none, sought_here, sought_falls, sought_on}
+use Rattle.query_parts.specs.Inner.{link_to}
+use Rattle.query_parts.proofs.Chains.{sought_none, sought_here, sought_falls, sought_on}
 use Rattle.query_parts.proofs.entries.find.Goals as goal
 
-pub loop-at-init : goal.loop-at-init
-loop-at-init c = search sought_head
-
-pub overflow_cast-tag : goal.overflow_cast-tag
-overflow_cast-tag c = omega (arith, c.loop-at.invariant.low _ c.requires.table)
-
-pub offset_bounds-table-at : goal.offset_bounds-table-at
-offset_bounds-table-at c = omega (arith, c.loop-at.invariant.low _ c.requires.table)
-
-pub bounds-table-at : goal.bounds-table-at
-bounds-table-at c = omega (arith, c.loop-at.invariant.low _ c.requires.table)
-
-pub returns-then-at-eq0 : goal.returns-then-at-eq0
-returns-then-at-eq0 c = search sought_none
+pub bounds-table-place : goal.bounds-table-place
+bounds-table-place c =
+    let T = c.requires.table in
+    omega (arith, ap link_to c.in-Some.is, c.loop-chain.invariant.low _ T)
 
 pub returns-then-handle_of-handle : goal.returns-then-handle_of-handle
-returns-then-handle_of-handle c = search sought_here
+returns-then-handle_of-handle c = sought_here _ _ _ _ c.loop-chain.invariant _ _ (ap link_to c.in-Some.is) c.handle_of.ensures c.if-handle_of-handle.true
 
-pub loop-at-smaller : goal.loop-at-smaller
-loop-at-smaller c =
-    omega (arith, c.next_of-at.ensures, sought_falls _ _ _ _ c.loop-at.invariant c.if-at-eq0.false _ c.requires.table)
+pub loop-chain-smaller : goal.loop-chain-smaller
+loop-chain-smaller c =
+    omega (arith, c.next_of-chain.ensures, sought_falls _ _ _ _ c.loop-chain.invariant _ _ (ap link_to c.in-Some.is) c.handle_of.ensures _ c.requires.table)
 
-pub loop-at-preserved : goal.loop-at-preserved
-loop-at-preserved c = search sought_on
+pub loop-chain-preserved : goal.loop-chain-preserved
+loop-chain-preserved c =
+    sought_on _ _ _ _ c.loop-chain.invariant _ _ (ap link_to c.in-Some.is) c.handle_of.ensures c.if-handle_of-handle.false _ c.next_of-chain.ensures
+
+pub returns : goal.returns
+returns c = sought_none _ _ _ _ c.loop-chain.invariant (ap link_to c.in_default.is)

@@ -7,8 +7,8 @@ use Rattle.query_ways.proofs.hand.hand_down.Goals as goal
 pub returns-then-left-at : goal.returns-then-left-at
 returns-then-left-at c = record { refuses = λ e. refl; is = λ e. clash e refl }
 
-pub returns-then-ways-before : goal.returns-then-ways-before
-returns-then-ways-before c = record { refuses = λ e. refl; is = λ e. clash e refl }
+pub returns-in_err-words : goal.returns-in_err-words
+returns-in_err-words c = rw c.from_residual.ensures (record { refuses = λ e. refl; is = λ e. clash e refl })
 
 pub returns : goal.returns
-returns c = record { refuses = λ e. clash refl e; is = λ e. (c.if-left-at.false, refl) }
+returns c = record { refuses = λ e. clash refl e; is = λ e. (c.if-left-at.false, rw c.in_ok-words.ensures.1 refl) }

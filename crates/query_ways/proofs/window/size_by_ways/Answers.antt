@@ -9,8 +9,8 @@ pub go_down-requires : goal.go_down-requires
 go_down-requires c =
     let q = c.requires in
     let O = c.«open».ensures in
-    let w = c.least-width.ensures in
-    let t = c.least-places.ensures in
+    let w = c.min-width.ensures in
+    let t = c.places_in-places.ensures in
     record {
       handle = q.handle;
       low = omega (arith, w, q.part);
