@@ -72,12 +72,9 @@ impl Replay<'_> {
     fn audited(&mut self, rt: &impl Print, lent: Lent) -> io::Result<()> {
         let slots = lent.slots.min(self.lookup.len());
         let part = lent.cache.min(self.cache.len());
-        let audited = audit(
-            lent.record,
-            self.nodes,
-            &self.lookup[..slots],
-            &mut self.cache[..part],
-        );
+        let lookup = &self.lookup[..slots];
+        let cache = &mut self.cache[..part];
+        let audited = audit(lent.record, self.nodes, lookup, cache);
         print!(rt; " lent {slots} {part}: {}", told(audited.sound))?;
         record(rt, audited.store)?;
         println!(rt; " cleared {}", told(cleared(&self.cache[..part])))

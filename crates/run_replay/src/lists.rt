@@ -97,19 +97,27 @@ struct Lists {
 impl Lists {
     // A list on parts of the words.
     fn list(&mut self, rt: &impl Print, setting: Setting) -> io::Result<()> {
+        let Lists {
+            nodes,
+            lookup,
+            cache,
+            file,
+            draw,
+            length,
+        } = self;
         let mut replay = Replay {
-            draw: self.draw,
+            draw: *draw,
             store: Store::new(0, 0),
             added: 0,
-            nodes: &mut self.nodes[..setting.nodes.min(3010)],
-            lookup: &mut self.lookup[..setting.lookup.min(2060)],
-            cache: &mut self.cache[..setting.cache.min(4100)],
-            file: &mut self.file,
-            length: self.length,
+            nodes: &mut nodes[..setting.nodes.min(3010)],
+            lookup: &mut lookup[..setting.lookup.min(2060)],
+            cache: &mut cache[..setting.cache.min(4100)],
+            file,
+            length: *length,
         };
         replay.list(rt, setting)?;
-        self.draw = replay.draw;
-        self.length = replay.length;
+        *draw = replay.draw;
+        *length = replay.length;
         Ok(())
     }
 }

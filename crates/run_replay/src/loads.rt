@@ -40,15 +40,12 @@ impl Replay<'_> {
         let part = lent.cache.min(self.cache.len());
         let read = bytes.min(self.file.len());
         let room = words.min(12400);
-        let before = sum_of(&self.cache[..part]);
-        let placed = load(
-            lent.record,
-            self.nodes,
-            &mut self.lookup[..slots],
-            &mut self.cache[..part],
-            &self.file[..read],
-            &mut scratch[..room],
-        );
+        let lookup = &mut self.lookup[..slots];
+        let cache = &mut self.cache[..part];
+        let file = &self.file[..read];
+        let before = sum_of(cache);
+        let words = &mut scratch[..room];
+        let placed = load(lent.record, self.nodes, lookup, cache, file, words);
         print!(rt; "Load {read} lent {slots} {part} {room}:")?;
         given(rt, placed, &self.cache[..part], before)?;
         let free = match placed.answer {

@@ -46,14 +46,9 @@ impl Replay<'_> {
         let slots = lent.slots.min(self.lookup.len());
         let part = words.min(1100);
         let out = bytes.min(self.file.len());
-        let saved = save(
-            lent.record,
-            self.nodes,
-            &self.lookup[..slots],
-            p,
-            &mut links[..part],
-            &mut self.file[..out],
-        );
+        let lookup = &self.lookup[..slots];
+        let file = &mut self.file[..out];
+        let saved = save(lent.record, self.nodes, lookup, p, &mut links[..part], file);
         print!(rt; "Save {p} lent {slots} {part} {out}:")?;
         given(rt, saved, &links)?;
         println!(rt; " sum {:08x}", sum_of(self.file))?;

@@ -6,7 +6,7 @@ use crate::output::{record, refused, told};
 use crate::parts::needed;
 use crate::replay::Replay;
 use crate::sums::{WIDE_MARK, kept, sum_of};
-use std::io;
+use std::{fmt, io};
 use store::record::Refusal;
 
 // The entries of Size.
@@ -14,6 +14,15 @@ use store::record::Refusal;
 enum Entry {
     First,
     Compact,
+}
+
+impl fmt::Display for Entry {
+    fn fmt<W: fmt::Write>(&self, f: &mut fmt::Formatter<W>) -> fmt::Result {
+        match self {
+            Entry::First => write!(f, "Size"),
+            Entry::Compact => write!(f, "Size compact"),
+        }
+    }
 }
 
 // Writes what an entry gave.
@@ -58,17 +67,12 @@ impl Replay<'_> {
         let slots = lent.slots.min(self.lookup.len());
         let lookup = &self.lookup[..slots];
         let part = words.min(scratch.len());
-        let (name, measured) = match entry {
-            Entry::First => (
-                "Size",
-                size(lent.record, self.nodes, lookup, p, &mut scratch[..part]),
-            ),
-            Entry::Compact => (
-                "Size compact",
-                size_compact(lent.record, self.nodes, lookup, p, &mut scratch[..part]),
-            ),
+        let room = &mut scratch[..part];
+        let measured = match entry {
+            Entry::First => size(lent.record, self.nodes, lookup, p, room),
+            Entry::Compact => size_compact(lent.record, self.nodes, lookup, p, room),
         };
-        print!(rt; "{name} {p} lent {slots} {part}:")?;
+        print!(rt; "{entry} {p} lent {slots} {part}:")?;
         given(rt, measured)?;
         match entry {
             Entry::First => println!(rt; " sum {:08x}", sum_of(scratch))?,

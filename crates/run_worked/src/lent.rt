@@ -19,6 +19,14 @@ pub fn refused(rt: &impl Print, refusal: Refusal) -> io::Result<()> {
     println!(rt; " refused with {}", crate::old::number(refusal))
 }
 
+// Writes bytes in hexadecimal.
+fn hexadecimal(rt: &impl Print, bytes: &[u8]) -> io::Result<()> {
+    for byte in bytes {
+        print!(rt; " {byte:02x}")?;
+    }
+    Ok(())
+}
+
 impl Lent<'_> {
     // Fresh with a limit.
     pub fn fresh(&mut self, limit: u32) -> Result<(), Refusal> {
@@ -29,7 +37,7 @@ impl Lent<'_> {
 
     // Runs an operation.
     pub fn operate(&mut self, call: Call) -> Result<Placement, Refusal> {
-        let Call { op, p, q } = call;
+        let Call(op, p, q) = call;
         let placed = operate(op, self.store, self.nodes, self.lookup, self.cache, p, q);
         self.store = placed.store;
         placed.answer
@@ -77,9 +85,7 @@ impl Lent<'_> {
         match saved.answer {
             Ok(length) => {
                 print!(rt; " = {length} bytes:")?;
-                for byte in out.iter().take(length) {
-                    print!(rt; " {byte:02x}")?;
-                }
+                hexadecimal(rt, &out[..length.min(out.len())])?;
                 println!(rt; "")
             }
             Err(refusal) => refused(rt, refusal),
@@ -102,9 +108,7 @@ impl Lent<'_> {
         if file.is_empty() {
             print!(rt; " no bytes")?;
         }
-        for byte in file {
-            print!(rt; " {byte:02x}")?;
-        }
+        hexadecimal(rt, file)?;
         self.placed(rt, placed.answer)
     }
 

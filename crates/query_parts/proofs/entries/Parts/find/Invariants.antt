@@ -2,10 +2,10 @@
 -- The measure is the link, which falls along a chain.
 use Rattle.query_parts.specs.Inner.{link_to}
 use Rattle.query_parts.proofs.Chains.{Sought}
-use Rattle.query_parts.proofs.entries.find.Given as goal
+use Rattle.query_parts.proofs.entries.Parts.find.Given as goal
 
 abbrev pub invariant-loop-chain : goal.invariant-loop-chain
-invariant-loop-chain l = Sought l.table l.places l.handle (link_to l.chain)
+invariant-loop-chain l = Sought l.self.words.now l.self.places l.handle (link_to l.chain)
 
 abbrev pub decreases-loop-chain : goal.decreases-loop-chain
 decreases-loop-chain l = link_to l.chain

@@ -4,10 +4,10 @@ use mathlib.Core.Path.{ap}
 use native.Mathlib.Omega.{arith}
 use Rattle.query_parts.specs.Inner.{link_to}
 use Rattle.query_parts.proofs.Chains.{sought_none, sought_here, sought_falls, sought_on}
-use Rattle.query_parts.proofs.entries.find.Goals as goal
+use Rattle.query_parts.proofs.entries.Parts.find.Goals as goal
 
-pub bounds-table-place : goal.bounds-table-place
-bounds-table-place c =
+pub bounds-self-place : goal.bounds-self-place
+bounds-self-place c =
     let T = c.requires.table in
     omega (arith, ap link_to c.in-Some.is, c.loop-chain.invariant.low _ T)
 
