@@ -42,7 +42,7 @@ impl Replay<'_> {
         let room = words.min(12400);
         let lookup = &mut self.lookup[..slots];
         let cache = &mut self.cache[..part];
-        let file = &self.file[..read];
+        let file = &mut self.file[..read];
         let before = sum_of(cache);
         let words = &mut scratch[..room];
         let placed = load(lent.record, self.nodes, lookup, cache, file, words);

@@ -46,9 +46,10 @@ impl Replay<'_> {
         let slots = lent.slots.min(self.lookup.len());
         let part = words.min(1100);
         let out = bytes.min(self.file.len());
-        let lookup = &self.lookup[..slots];
+        let lookup = &mut self.lookup[..slots];
         let file = &mut self.file[..out];
-        let saved = save(lent.record, self.nodes, lookup, p, &mut links[..part], file);
+        let nodes = &mut *self.nodes;
+        let saved = save(lent.record, nodes, lookup, p, &mut links[..part], file);
         print!(rt; "Save {p} lent {slots} {part} {out}:")?;
         given(rt, saved, &links)?;
         println!(rt; " sum {:08x}", sum_of(self.file))?;
