@@ -1,2 +1,3 @@
 -- The laws of `combination`.
 pub mod Given
+pub mod Places

@@ -1,2 +1,2 @@
--- The laws of reading records.
+-- The laws of reading one record.
 pub mod Taking

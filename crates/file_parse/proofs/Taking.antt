@@ -7,6 +7,7 @@ use mathlib.Core.Bool.{Bool, true, false, cond}
 use mathlib.Core.List.{List, [], ◌∷◌}
 use mathlib.Core.Option.{Option, none, some}
 use native.Mathlib.Omega.{arith}
+use native.Mathlib.Numerals.{add-one}
 use lib.Dec.{ltb}
 use lib.ListN.{length, get_or, take, drop, length-drop}
 use lib.Seq.{take_all, drop-drop, drop-cons}
@@ -14,11 +15,8 @@ use borrow.Author.Tests.{eq-eqb, ne_eqb, lt-ltb, le-ltb}
 use Rattle.family.specs.Record.{Front, front, Triple, triple, read_number, read_field, bit1, bit2, bit4, read_fields, read_record}
 use Rattle.file_record.specs.declared.field.Last.{Last}
 use Rattle.file_record.specs.declared.field.Part.{Part}
-use Rattle.file_parse.specs.declared.Field.{Field}
-use Rattle.file_parse.specs.declared.Field.TheVariants.{Value, Bad}
-use Rattle.file_parse.specs.declared.Record.{Record}
-use Rattle.file_parse.specs.declared.Record.TheVariants.{Taken, Bad as NoRecord}
-use Rattle.file_parse.specs.Inner.{FieldOf, value, bad, FieldsOf, RecordOf}
+use Rattle.file_parse.specs.declared.Taken.{Taken}
+use Rattle.file_parse.specs.Inner.{FieldTaken, FieldsTaken, RecordTaken}
 
 -- a part lent from a place on
 pub part_from : (l : List ℕ) (a : ℕ) → take (length l - a) (drop a l) ≡ drop a l
@@ -68,96 +66,51 @@ number_done {width = width} e R = let z : width - 0 ≡ width = omega arith in r
 
 -- the ways out of a field reader
 module _ (n : ℕ) {s : Bool} (other : ℕ) (l : List ℕ) where
-  pub field_off : s ≡ false → FieldOf n s other l (Value other 0)
-  field_off e = rw e (value {v = other} {k = 0} refl (omega arith) (omega arith))
+  pub field_off : s ≡ false → FieldTaken n s other l (record { value = other; bytes = 0 })
+  field_off e = rw e record { is = refl; fits = omega arith; few = omega arith }
 
-  pub field_short : s ≡ true → length l < n → FieldOf n s other l Bad
-  field_short e h = rw e (bad (rw (number_short n l h)))
+  pub field_short : s ≡ true → length l < n → read_field n s other l ≡ none
+  field_short e h = rw e (rw (number_short n l h))
 
   module _ (e : s ≡ true) (v : ℕ) (is : read_number n l ≡ some (front v (drop n l))) where
-    pub field_same : v ≡ other → FieldOf n s other l Bad
-    field_same d = rw e (bad (rw (is, eq-eqb v other d)))
+    pub field_same : v ≡ other → read_field n s other l ≡ none
+    field_same d = rw e (rw (is, eq-eqb v other d))
 
-    pub field_value : n ≤ length l → (v ≡ other → ⊥) → FieldOf n s other l (Value v n)
-    field_value h d = rw e (value {v = v} {k = n} (rw (is, ne_eqb v other d)) h (omega arith))
-
--- what a field reader said
-pub record FieldRead (n : ℕ) (s : Bool) (other : ℕ) (l : List ℕ) (v k : ℕ) : Type 0 where
-  pub is : read_field n s other l ≡ some (front v (drop k l))
-  pub fits : k ≤ length l
-  pub few : k ≤ n
-
-pub field_read : {n : ℕ} {s : Bool} {other : ℕ} {l : List ℕ} {x : Field} (v k : ℕ) → x ≡ Value v k → FieldOf n s other l x → FieldRead n s other l v k
-field_read v k e A = out (rw e at A)
-  where
-    out : {n : ℕ} {s : Bool} {other : ℕ} {l : List ℕ} {v k : ℕ} → FieldOf n s other l (Value v k) → FieldRead n s other l v k
-    out (value is fits few) = record { is = is; fits = fits; few = few }
-
-field_none : {n : ℕ} {s : Bool} {other : ℕ} {l : List ℕ} {x : Field} → x ≡ Bad → FieldOf n s other l x → read_field n s other l ≡ none
-field_none e A = out (rw e at A)
-  where
-    out : {n : ℕ} {s : Bool} {other : ℕ} {l : List ℕ} → FieldOf n s other l Bad → read_field n s other l ≡ none
-    out (bad is) = is
+    pub field_value : n ≤ length l → (v ≡ other → ⊥) → FieldTaken n s other l (record { value = v; bytes = n })
+    field_value h d = rw e record { is = rw (is, ne_eqb v other d); fits = h; few = omega arith }
 
 -- the three fields
-module _ (map : ℕ) (last : Last) (l : List ℕ) {other : ℕ} (eo : other ≡ suc last.item) {x : Field} (A : FieldOf 2 (bit1 map) other l x) where
-  item : FieldOf 2 (bit1 map) (suc last.item) l x
-  item = rw (← eo) A
-
-  pub fields_no_item : x ≡ Bad → FieldsOf map last l NoRecord
+module _ (map : ℕ) (last : Last) (l : List ℕ) where
+  pub fields_no_item : read_field 2 (bit1 map) (last.item + 1) l ≡ none → read_fields last.item last.number (bit1 map) (bit2 map) (bit4 map) l ≡ none
   unfolding read_fields
-  fields_no_item e = FieldsOf.bad (rw (field_none e item))
+  fields_no_item e = rw (rw add-one at e)
 
-  module _ (i a : ℕ) (ex : x ≡ Value i a) {l₁ : List ℕ} (e₁ : l₁ ≡ drop a l) {y : Field} (Z : FieldOf 4 (bit2 map) 0 l₁ y) where
-    zeroth : FieldOf 4 (bit2 map) 0 (drop a l) y
-    zeroth = rw (← e₁) Z
+  module _ {i : Taken ℕ} (I : FieldTaken 2 (bit1 map) (last.item + 1) l i) where
+    item_is : read_field 2 (bit1 map) (suc last.item) l ≡ some (front i.value (drop i.bytes l))
+    item_is = rw add-one at I.is
 
-    pub fields_no_zero : y ≡ Bad → FieldsOf map last l NoRecord
+    pub fields_no_zero : read_field 4 (bit2 map) 0 (drop i.bytes l) ≡ none → read_fields last.item last.number (bit1 map) (bit2 map) (bit4 map) l ≡ none
     unfolding read_fields
-    fields_no_zero e = FieldsOf.bad (rw ((field_read i a ex item).is, field_none e zeroth))
+    fields_no_zero e = rw (item_is, e)
 
-    module _ (z b : ℕ) (ey : y ≡ Value z b) where
+    module _ {z : Taken ℕ} (Z : FieldTaken 4 (bit2 map) 0 (drop i.bytes l) z) where
       -- how far the first two fields go
-      pub fields_reach : a + b ≤ length l
-      fields_reach = omega (arith, (field_read i a ex item).fits, (field_read z b ey zeroth).fits, length-drop a l)
+      pub fields_reach : i.bytes + z.bytes ≤ length l
+      fields_reach = omega (arith, I.fits, Z.fits, length-drop i.bytes l)
 
-      module _ {l₂ : List ℕ} (e₂ : l₂ ≡ drop (a + b) l) {w : Field} (O : FieldOf 4 (bit4 map) last.number l₂ w) where
-        first : FieldOf 4 (bit4 map) last.number (drop b (drop a l)) w
-        first = rw (drop-drop b a l, ← e₂) O
+      pub fields_no_one : read_field 4 (bit4 map) last.number (drop (i.bytes + z.bytes) l) ≡ none → read_fields last.item last.number (bit1 map) (bit2 map) (bit4 map) l ≡ none
+      unfolding read_fields
+      fields_no_one e = rw (item_is, Z.is, drop-drop z.bytes i.bytes l, e)
 
-        pub fields_no_one : w ≡ Bad → FieldsOf map last l NoRecord
-        unfolding read_fields
-        fields_no_one e = FieldsOf.bad (rw ((field_read i a ex item).is, (field_read z b ey zeroth).is, field_none e first))
-
-        pub fields_taken : (o c : ℕ) → w ≡ Value o c → FieldsOf map last l (Taken (record { item = i; zero = z; one = o }) (a + b + c))
-        unfolding read_fields
-        fields_taken o c e =
-            let I = field_read i a ex item in
-            let Z' = field_read z b ey zeroth in
-            let O' = field_read o c e first in
-            let sum : a + (b + c) ≡ a + b + c = omega arith in
-            FieldsOf.taken {part = record { item = i; zero = z; one = o }} {k = a + b + c}
-            (rw (I.is, Z'.is, O'.is) (ap (λ r. some (front (triple i z o) r)) (drop-drop c b (drop a l) ∙ drop-drop (b + c) a l ∙ ap (λ k. drop k l) sum)))
-            (omega (arith, fields_reach, O'.fits, length-drop b (drop a l), length-drop a l))
-            (omega (arith, I.few, Z'.few, O'.few))
-
--- what the fields reader said
-pub record FieldsRead (map : ℕ) (last : Last) (l : List ℕ) (part : Part) (k : ℕ) : Type 0 where
-  pub is : read_fields last.item last.number (bit1 map) (bit2 map) (bit4 map) l ≡ some (front (triple part.item part.zero part.one) (drop k l))
-  pub fits : k ≤ length l
-  pub few : k ≤ 10
-
-pub fields_read : {map : ℕ} {last : Last} {l : List ℕ} {x : Record} (part : Part) (k : ℕ) → x ≡ Taken part k → FieldsOf map last l x → FieldsRead map last l part k
-fields_read part k e A = out (rw e at A)
-  where
-    out : {map : ℕ} {last : Last} {l : List ℕ} {part : Part} {k : ℕ} → FieldsOf map last l (Taken part k) → FieldsRead map last l part k
-    out (FieldsOf.taken is fits few) = record { is = is; fits = fits; few = few }
-
-fields_none : {map : ℕ} {last : Last} {l : List ℕ} {x : Record} → x ≡ NoRecord → FieldsOf map last l x → read_fields last.item last.number (bit1 map) (bit2 map) (bit4 map) l ≡ none
-fields_none e A = out (rw e at A)
-  where
-    out : {map : ℕ} {last : Last} {l : List ℕ} → FieldsOf map last l NoRecord → read_fields last.item last.number (bit1 map) (bit2 map) (bit4 map) l ≡ none
-    out (FieldsOf.bad is) = is
+      pub fields_taken : {o : Taken ℕ} → FieldTaken 4 (bit4 map) last.number (drop (i.bytes + z.bytes) l) o
+          → FieldsTaken map last l (record { value = record { item = i.value; zero = z.value; one = o.value }; bytes = i.bytes + z.bytes + o.bytes })
+      unfolding read_fields
+      fields_taken {o} O =
+          record {
+            is = rw (item_is, Z.is, drop-drop z.bytes i.bytes l, O.is, drop-drop o.bytes (i.bytes + z.bytes) l);
+            fits = omega (arith, fields_reach, O.fits, length-drop (i.bytes + z.bytes) l);
+            few = omega (arith, I.few, Z.few, O.few);
+          }
 
 both : (b : Bool) → ◌≡◌ {A = Option (Front Triple)} (cond b none none) none
 both true = refl
@@ -165,32 +118,26 @@ both false = refl
 
 -- the record
 module _ (last : Last) where
-  pub record_end : (l : List ℕ) → length l ≡ 0 → RecordOf last l NoRecord
+  pub record_end : (l : List ℕ) → length l ≡ 0 → read_record last.item last.number l ≡ none
   unfolding read_record
-  record_end [] e = RecordOf.bad refl
+  record_end [] e = refl
   record_end (x ∷ l) e = absurd (omega arith)
 
-  pub record_map : (l : List ℕ) (m : ℕ) → m ≡ get_or l 0 0 → (length l ≡ 0 → ⊥) → 7 < m → RecordOf last l NoRecord
-  unfolding read_record
-  record_map [] m e s h = absurd (s refl)
-  record_map (x ∷ l) m e s h = RecordOf.bad (rw (le-ltb x 8 (omega arith)))
-
-  module _ {x : Record} (l l₁ : List ℕ) (m : ℕ) (em : m ≡ get_or l 0 0) (some' : length l ≡ 0 → ⊥) (e₁ : l₁ ≡ drop 1 l) (A : FieldsOf m last l₁ x) where
-    pub record_no : x ≡ NoRecord → RecordOf last l NoRecord
+  -- behind a bit map byte
+  module _ {l l₁ : List ℕ} {m : ℕ} (e : l ≡ m ∷ l₁) where
+    pub record_map : 7 < m → read_record last.item last.number l ≡ none
     unfolding read_record
-    record_no e = go l em some' e₁
-      where
-        go : (l : List ℕ) → m ≡ get_or l 0 0 → (length l ≡ 0 → ⊥) → l₁ ≡ drop 1 l → RecordOf last l NoRecord
-        go [] em s e₁ = absurd (s refl)
-        go (y ∷ l) em s e₁ = RecordOf.bad (rw (← em, ← e₁, fields_none e A) (both (ltb m 8)))
+    record_map h = rw (e, le-ltb m 8 (omega arith))
 
-    pub record_taken : m ≤ 7 → (part : Part) (k : ℕ) → x ≡ Taken part k → RecordOf last l (Taken part (1 + k))
+    pub record_no : read_fields last.item last.number (bit1 m) (bit2 m) (bit4 m) l₁ ≡ none → read_record last.item last.number l ≡ none
     unfolding read_record
-    record_taken low part k e = go l em some' e₁
-      where
-        go : (l : List ℕ) → m ≡ get_or l 0 0 → (length l ≡ 0 → ⊥) → l₁ ≡ drop 1 l → RecordOf last l (Taken part (1 + k))
-        go [] em s e₁ = absurd (s refl)
-        go (y ∷ l) em s e₁ =
-            let F = fields_read part k e A in
-            let d : drop (1 + k) (y ∷ l) ≡ drop k l₁ = sym (drop-drop k 1 (y ∷ l)) ∙ ap (λ r. drop k r) (sym e₁) in
-            RecordOf.taken {part = part} {k = 1 + k} (rw (lt-ltb y 8 (omega arith), d, ← em, ← e₁) F.is) (omega (arith, F.fits, ap length e₁)) (omega arith)
+    record_no n = rw (e, n) (both (ltb m 8))
+
+    pub record_taken : {t : Taken Part} → m ≤ 7 → FieldsTaken m last l₁ t → RecordTaken last l (record { value = t.value; bytes = 1 + t.bytes })
+    unfolding read_record
+    record_taken {t} low F =
+        rw e record {
+          is = rw (lt-ltb m 8 (omega arith), F.is) (ap (λ r. some (front (triple t.value.item t.value.zero t.value.one) r)) (drop-drop t.bytes 1 (m ∷ l₁)));
+          fits = omega (arith, F.fits);
+          some_bytes = omega arith;
+        }

@@ -120,7 +120,7 @@ module _ {limit : ℕ} {B C : List Family} {n : ℕ} {nodes lookup links : List 
 
   -- the visit of a new part
   module _ (p i z o : ℕ) (lp : p < n + 2) (lz : z < n + 2) (lo : o < n + 2) (is : at B p ≡ node i (at B z) (at B o)) (lacks : Held C (node i (at B z) (at B o)) → ⊥)
-      (ha : Held C (at B z)) (hb : Held C (at B o)) {t' : Trail} {links' : List ℕ} (W : Visited t links p i z o t' links') (room : n ≤ length links) where
+      (ha : Held C (at B z)) (hb : Held C (at B o)) {t' : Trail} {links' : List ℕ} (W : Visited t links p (record { item = i; zero = z; one = o }) t' links') (room : n ≤ length links) where
     missing : length C ≤ number C (node i (at B z) (at B o))
     missing = by_lt (number C (node i (at B z) (at B o))) (length C) (λ h e. absurd (lacks h)) (λ h e. h)
 

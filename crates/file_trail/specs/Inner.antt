@@ -1,19 +1,17 @@
 -- The trail of the parts in placing order, and what its functions promise each other. A reader of the promise can
 -- pass this page over.
-use Rattle.std.specs.Prelude.{ℕ, ◌+◌, ◌*◌, ◌-◌, ◌≤◌, ◌<◌, ◌≡◌, Bool, true, false, cond, not, List, eqb, ltb, length, get_or, set, drop}
+use Rattle.std.specs.Prelude.{ℕ, ◌+◌, ◌*◌, ◌-◌, ◌≤◌, ◌<◌, ◌≡◌, Bool, true, false, cond, not, Option, Some, None, MatchOption, IfSome, IsSomeAnd, List, eqb, ltb, length, get_or, set, drop}
 use Rattle.family.specs.Family.{Family, top, largest_item}
 use Rattle.family.specs.Book.{at, number, Held, place, Book}
 use Rattle.family.specs.Record.{stands}
 use Rattle.family.specs.File.{triples_of, records_bytes}
 use Rattle.store_sides.specs.declared.Sides.{Sides}
-use Rattle.store_sides.specs.declared.Sides.TheVariants.{Two, Broken}
 use Rattle.store.specs.Words.{top_at}
 use Rattle.store.specs.Inner.{Holds}
 use Rattle.store_sides.specs.Inner.{TwoSides}
+use Rattle.file_record.specs.declared.field.Part.{Part}
 use Rattle.file_record.specs.Widths.{widths}
 use Rattle.file_trail.specs.declared.trail.Trail.{Trail}
-use Rattle.file_trail.specs.declared.walk.Walked.{Walked}
-use Rattle.file_trail.specs.declared.walk.Walked.TheVariants.{Went, Broken as NoWay}
 
 -- whether a handle has a link, or is {} or {{}}
 unfoldable pub met_in : List ℕ → ℕ → Bool
@@ -26,14 +24,6 @@ linked links p next = cond (ltb p 2) links (set links (p - 2) next)
 -- the first part once p is met
 unfoldable pub first_of : Trail → ℕ → ℕ
 first_of t p = cond (eqb t.parts 0) p t.first
-
--- the trail that five words stand for
-abbrev pub trail_of : List ℕ → Trail
-trail_of w = record { first = get_or w 0 0; last = get_or w 1 0; item = get_or w 2 0; parts = get_or w 3 0; bytes = get_or w 4 0 }
-
--- a walk's answer: whether it came to its end, and the words of its trail
-unfoldable pub walked_of : Bool → List ℕ → Walked
-walked_of b w = cond b (Went (trail_of w)) NoWay
 
 -- the words of n nodes, and a link for each of them
 pub record Lent (nodes : List ℕ) (n : ℕ) (links : List ℕ) : Type 0 where
@@ -49,13 +39,13 @@ pub record VisitAsks (t : Trail) (links : List ℕ) (p : ℕ) : Type 0 where
   pub few : t.parts < 1000000
   pub short : t.bytes ≤ 5 + 11 * t.parts
 
--- the trail and the links after p was put behind the last part
-pub record Visited (t : Trail) (links : List ℕ) (p item z o : ℕ) (t' : Trail) (links' : List ℕ) : Type 0 where
+-- the trail and the links after p, which is this part by handles, was put behind the last part
+pub record Visited (t : Trail) (links : List ℕ) (p : ℕ) (part : Part) (t' : Trail) (links' : List ℕ) : Type 0 where
   pub first_is : t'.first ≡ first_of t p
   pub last_is : t'.last ≡ p
-  pub item_is : t'.item ≡ item
+  pub item_is : t'.item ≡ part.item
   pub parts_is : t'.parts ≡ t.parts + 1
-  pub bytes_is : t'.bytes ≡ t.bytes + widths (stands item (t.item + 1)) (stands z 0) (stands o t.last)
+  pub bytes_is : t'.bytes ≡ t.bytes + widths (stands part.item (t.item + 1)) (stands part.zero 0) (stands part.one t.last)
   pub longer : t'.bytes ≤ t.bytes + 11
   pub links_are : links' ≡ linked (linked links t.last p) p p
 
@@ -66,10 +56,18 @@ pub record ChildrenAsks (nodes : List ℕ) (n p level : ℕ) : Type 0 where
   pub few : n ≤ 1000000
   pub level_is : level ≡ top_at nodes p
 
+-- the children of p
+pub record Children (nodes : List ℕ) (n p level : ℕ) (s : Sides) : Type 0 where
+  pub some : 0 < level
+  pub sides : TwoSides nodes n p level s.zero s.one s.ztop s.otop
+
+-- no book has p as a node
+pub record NoNode (nodes : List ℕ) (n p : ℕ) : Type 0 where
+  pub never : {limit : ℕ} → 2 ≤ p → (B : List Family) (lookup : List ℕ) → Holds limit B n nodes lookup → ⊥
+
 -- the children of p, or words of no sound store
-pub data SplitOf (nodes : List ℕ) (n p level : ℕ) : Sides → Type 0 where
-  two : {z o zt ot : ℕ} → 0 < level → TwoSides nodes n p level z o zt ot → SplitOf nodes n p level (Two z o zt ot)
-  broken : ((limit : ℕ) → 2 ≤ p → (B : List Family) (lookup : List ℕ) → Holds limit B n nodes lookup → ⊥) → SplitOf nodes n p level Broken
+abbrev pub SplitOf : List ℕ → ℕ → ℕ → ℕ → Option Sides → Type 0
+SplitOf nodes n p level r = MatchOption r (NoNode nodes n p) (λ s. Children nodes n p level s)
 
 -- what a trail keeps on any words
 pub record TrailFits (n : ℕ) (t : Trail) : Type 0 where
@@ -105,13 +103,15 @@ pub record Trailed (limit : ℕ) (B C : List Family) (n : ℕ) (t : Trail) (link
   pub end : 2 < length C → get_or links (number B (at C (length C - 1)) - 2) 0 ≡ number B (at C (length C - 1))
   pub unmet : (h : ℕ) → 2 ≤ h → h < n + 2 → (Held C (at B h) → ⊥) → get_or links (h - 2) 0 ≡ 0
 
--- a walk from the local book C comes to the local book with the family placed; it is never broken
-pub data Came (limit : ℕ) (B C : List Family) (n : ℕ) (links : List ℕ) : Walked → Type 0 where
-  came : {t : Trail} → Trailed limit B C n t links → Came limit B C n links (Went t)
+-- the trail of a walk that came to its end
+abbrev pub came_with : {A : Type 0} → Option A → Trail → Option Trail
+came_with None t = None
+came_with (Some _) t = Some t
 
--- what `walk` does: the links of no node stay
-pub record WalkOf (t : Trail) (p : ℕ) (nodes : List ℕ) (n : ℕ) (links : List ℕ) (r : Walked) (links' : List ℕ) : Type 0 where
+-- What `walk` does: the links of no node stay. A walk from the local book C comes to the local book with the family
+-- placed, and is never broken.
+pub record WalkOf (t : Trail) (p : ℕ) (nodes : List ℕ) (n : ℕ) (links : List ℕ) (r : Option Trail) (links' : List ℕ) : Type 0 where
   pub long : length links' ≡ length links
   pub rest : (k : ℕ) → n ≤ k → get_or links' k 0 ≡ get_or links k 0
-  pub trail_fits : (t' : Trail) → r ≡ Went t' → TrailFits n t'
-  pub sound : {limit : ℕ} (B C : List Family) (lookup : List ℕ) → Holds limit B n nodes lookup → Trailed limit B C n t links → Came limit B (place C (at B p)) n links' r
+  pub trail_fits : IfSome r (λ t'. TrailFits n t')
+  pub sound : {limit : ℕ} (B C : List Family) (lookup : List ℕ) → Holds limit B n nodes lookup → Trailed limit B C n t links → IsSomeAnd r (λ t'. Trailed limit B (place C (at B p)) n t' links')

@@ -1,12 +1,12 @@
 // The parts met so far, in placing order. The link of a part is the handle of the part after it, its own for the
 // last; 0 is no link.
 ghost use Rattle.std.specs.Prelude.{◌≡◌, ◌+◌, ◌≤◌, length};
-ghost use Rattle.file_trail.specs.Inner.{met_in, linked, first_of, trail_of, VisitAsks, Visited};
+ghost use Rattle.file_trail.specs.Inner.{met_in, linked, first_of, VisitAsks, Visited};
 
-use file_record::write::length_of;
+use file_record::field::{Last, Part};
 
 // The first part and the last one by their handles, the item of the last, how many there are, and the length of the
-// file so far. The walk carries them as five words in this order.
+// file so far.
 #[derive(Clone, Copy)]
 pub struct Trail {
     pub first: u32,
@@ -38,27 +38,31 @@ fn put_link(links: &mut [u32], p: u32, next: u32)
     links[(p - 2) as usize] = next;
 }
 
-// The first part once p is met.
-fn first_of(trail: &[u32; 5], p: u32) -> u32
-    ensures { result ≡ first_of (trail_of trail.now) p }
-{
-    if trail[3] == 0 { p } else { trail[0] }
-}
+impl Trail {
+    // The first part once p is met.
+    fn first_of(&self, p: u32) -> u32
+        ensures { result ≡ first_of self.now p }
+    {
+        if self.parts == 0 { p } else { self.first }
+    }
 
-// Puts the part p, of this item and these children, behind the last one.
-pub fn visit(trail: &mut [u32; 5], links: &mut [u32], p: u32, item: u32, zero: u32, one: u32)
-    requires { VisitAsks (trail_of trail.old) links.old p }
-    ensures { Visited (trail_of trail.old) links.old p item zero one (trail_of trail.new) links.new }
-{
-    let last = trail[1];
-    let record = length_of(item != trail[2] + 1, zero != 0, one != last);
-    put_link(links, last, p);
-    put_link(links, p, p);
-    *trail = [
-        first_of(trail, p),
-        p,
-        item,
-        trail[3] + 1,
-        trail[4] + record as u32,
-    ];
+    // Puts the part p behind the last one; its children are given by their handles.
+    pub fn visit(&mut self, links: &mut [u32], p: u32, part: Part)
+        requires { VisitAsks self.old links.old p }
+        ensures { Visited self.old links.old p part self.new links.new }
+    {
+        let last = Last {
+            item: self.item,
+            number: self.last,
+        };
+        put_link(links, self.last, p);
+        put_link(links, p, p);
+        *self = Trail {
+            first: self.first_of(p),
+            last: p,
+            item: part.item,
+            parts: self.parts + 1,
+            bytes: self.bytes + part.standing(last).length(),
+        };
+    }
 }

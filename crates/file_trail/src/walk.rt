@@ -1,61 +1,53 @@
 // The walk over the parts of a family, without-side first, then with-side, then the part itself; the top item falls
 // from a part to its children.
-ghost use Rattle.file_trail.specs.Inner.{ChildrenAsks, SplitOf, trail_of, walked_of, WalkAsks, DescendAsks, WalkOf};
+ghost use Rattle.file_trail.specs.Inner.{ChildrenAsks, SplitOf, came_with, WalkAsks, DescendAsks, WalkOf};
 
-use crate::trail::{Trail, is_met, visit};
+use crate::trail::{Trail, is_met};
+use file_record::field::Part;
 use store_sides::{Sides, sides_at};
 
-// A walk that came to its end, or words that no sound store has.
-#[derive(Clone, Copy)]
-pub enum Walked {
-    Went(Trail),
-    Broken,
-}
-
-// The children of a part.
-fn children(nodes: &[u32], count: u32, p: u32, top: u32) -> Sides
+// The children of a part; None on words that no sound store has.
+fn children(nodes: &[u32], count: u32, p: u32, top: u32) -> Option<Sides>
     requires { ChildrenAsks nodes.now count p top }
     ensures { SplitOf nodes.now count p top result }
 {
     if top == 0 {
-        return Sides::Broken;
+        return None;
     }
     sides_at(nodes, count, p, top)
 }
 
-// Meets the parts of p that were not met yet, p among them; false on words that no sound store has.
+// Meets the parts of p that were not met yet, p among them; None on words that no sound store has.
 #[cycle(descend_reach)]
 fn descend(
     p: u32,
     top: u32,
     nodes: &[u32],
     count: u32,
-    trail: &mut [u32; 5],
+    trail: &mut Trail,
     links: &mut [u32],
-) -> bool
-    requires { DescendAsks (trail_of trail.old) p top nodes.now count links.old }
-    ensures { WalkOf (trail_of trail.old) p nodes.now count links.old (walked_of result trail.new) links.new }
+) -> Option<()>
+    requires { DescendAsks trail.old p top nodes.now count links.old }
+    ensures { WalkOf trail.old p nodes.now count links.old (came_with result trail.new) links.new }
 {
-    let Sides::Two {
+    let Sides {
         zero,
         one,
         ztop,
         otop,
-    } = children(nodes, count, p, top)
-    else {
-        return false;
+    } = children(nodes, count, p, top)?;
+    reach(zero, ztop, nodes, count, trail, links)?;
+    reach(one, otop, nodes, count, trail, links)?;
+    if 1000000 <= trail.parts {
+        return None;
+    }
+    let part = Part {
+        item: top,
+        zero,
+        one,
     };
-    if !reach(zero, ztop, nodes, count, trail, links) {
-        return false;
-    }
-    if !reach(one, otop, nodes, count, trail, links) {
-        return false;
-    }
-    if 1000000 <= trail[3] {
-        return false;
-    }
-    visit(trail, links, p, top, zero, one);
-    true
+    trail.visit(links, p, part);
+    Some(())
 }
 
 // The same, where p may have been met. It is inlined: a child that was met costs no call.
@@ -65,41 +57,33 @@ fn reach(
     top: u32,
     nodes: &[u32],
     count: u32,
-    trail: &mut [u32; 5],
+    trail: &mut Trail,
     links: &mut [u32],
-) -> bool
-    requires { WalkAsks (trail_of trail.old) p top nodes.now count links.old }
-    ensures { WalkOf (trail_of trail.old) p nodes.now count links.old (walked_of result trail.new) links.new }
+) -> Option<()>
+    requires { WalkAsks trail.old p top nodes.now count links.old }
+    ensures { WalkOf trail.old p nodes.now count links.old (came_with result trail.new) links.new }
 {
     if is_met(links, p) {
-        return true;
+        return Some(());
     }
     descend(p, top, nodes, count, trail, links)
 }
 
-// Meets the parts of p that were not met yet.
-pub fn walk(trail: Trail, p: u32, top: u32, nodes: &[u32], count: u32, links: &mut [u32]) -> Walked
+// The trail once the parts of p that were not met yet are met; None on words that no sound store has.
+pub fn walk(
+    mut trail: Trail,
+    p: u32,
+    top: u32,
+    nodes: &[u32],
+    count: u32,
+    links: &mut [u32],
+) -> Option<Trail>
     requires { WalkAsks trail p top nodes.now count links.old }
     ensures { WalkOf trail p nodes.now count links.old result links.new }
 {
     if is_met(links, p) {
-        return Walked::Went(trail);
+        return Some(trail);
     }
-    let mut words = [
-        trail.first,
-        trail.last,
-        trail.item,
-        trail.parts,
-        trail.bytes as u32,
-    ];
-    if !descend(p, top, nodes, count, &mut words, links) {
-        return Walked::Broken;
-    }
-    Walked::Went(Trail {
-        first: words[0],
-        last: words[1],
-        item: words[2],
-        parts: words[3],
-        bytes: words[4] as usize,
-    })
+    descend(p, top, nodes, count, &mut trail, links)?;
+    Some(trail)
 }

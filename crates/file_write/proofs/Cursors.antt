@@ -9,9 +9,10 @@ use native.Mathlib.Numerals.{add-one}
 use lib.ListN.{length, get_or, set, take, drop, length-set, length-append, length-drop, take-append-drop, drop_of_length-le}
 use lib.Seq.{sets, sets-eq, take_all, drop-drop, drop-cons, get_or-set_same, get_or-set_other, take-add, drop_at, take_at, length-take-le}
 use borrow.Rule.Slice.PartMut.{put_mid}
+use Rattle.std.proofs.Common.{Some, None}
 use Rattle.family.specs.Family.{Family, empty, node, largest_item}
 use Rattle.family.specs.Book.{at, number}
-use Rattle.family.specs.Record.{stands, triple, record_bytes}
+use Rattle.family.specs.Record.{triple, record_bytes}
 use Rattle.family.specs.File.{triples_of, records_bytes}
 use Rattle.family.proofs.Books.{number_at, number_empty, number_base}
 use Rattle.words.proofs.Cases.{by_eq}
@@ -20,11 +21,8 @@ use Rattle.store.specs.Inner.{Holds}
 use Rattle.store.proofs.Handles.{word_leaf, word_node}
 use Rattle.store.proofs.Held.{at_0, at_1, at_node, handle_of, within}
 use Rattle.file_record.specs.declared.field.Part.{Part}
-use Rattle.file_record.specs.Widths.{widths}
-use Rattle.file_record.proofs.Laying.{widths_length}
 use Rattle.file_write.specs.declared.Cursor.{Cursor}
-use Rattle.file_write.specs.declared.Turn.TheVariants.{Next, Broken}
-use Rattle.file_write.specs.Inner.{LocalPart, CursorFits, Writing, turned, TurnOf}
+use Rattle.file_write.specs.Inner.{LocalPart, CursorFits, Writing, TurnOf}
 use Rattle.file_trail.proofs.Trails.{handle_in_lem, handle_at_lem, handle_apart, handle_two, local_two}
 
 -- bytes at the front, later bytes untouched
@@ -165,47 +163,36 @@ module _ {limit : ℕ} {B D : List Family} {n k : ℕ} {nodes lookup : List ℕ}
               (λ e d. get_or-set_other links (c.at - 2) (number B (at D m) - 2) (c.last.number + 1) 0 (apart m e q l) ∙ W.numbered m l (omega arith) q)
 
 -- the ways out of `write_part`
-next_is : {c d : Cursor} → Next c ≡ Next d → c ≡ d
-next_is e = cc
-
-broken_next : {A : Type 0} {c : Cursor} → Broken ≡ Next c → A
-broken_next e = absurd (let z : ◌≡◌ {A = ℕ} 0 1 = cc in omega arith)
-
 module _ (c : Cursor) (nodes : List ℕ) (n : ℕ) (links out : List ℕ) where
-  turn_broken : ((limit : ℕ) (B D : List Family) (k : ℕ) (lookup whole before : List ℕ) → Holds limit B n nodes lookup → k < length D → Writing limit B D k c links whole before out → ⊥) → TurnOf c nodes n links out Broken links out
+  turn_broken : ((limit : ℕ) (B D : List Family) (k : ℕ) (lookup whole before : List ℕ) → Holds limit B n nodes lookup → k < length D → Writing limit B D k c links whole before out → ⊥) → TurnOf c nodes n links out None links out
   turn_broken f =
-      record { long = refl; long_out = refl; rest = λ k l. refl; next_fits = λ d e. broken_next e; sound = λ B D k lookup whole before H kl W. absurd (f _ B D k lookup whole before H kl W) }
+      record { long = refl; long_out = refl; rest = λ k l. refl; next_fits = tt; sound = λ B D k lookup whole before H kl W. f _ B D k lookup whole before H kl W }
 
-  pub turn_low : c.at < 2 → TurnOf c nodes n links out Broken links out
+  pub turn_low : c.at < 2 → TurnOf c nodes n links out None links out
   turn_low l = turn_broken (λ limit B D k lookup whole before H kl W. omega (arith, at_two H kl W))
 
-  pub turn_high : n + 1 < c.at → TurnOf c nodes n links out Broken links out
+  pub turn_high : n + 1 < c.at → TurnOf c nodes n links out None links out
   turn_high l = turn_broken (λ limit B D k lookup whole before H kl W. omega (arith, at_in H kl W))
 
   module _ (part : Part) (is-part : LocalPart nodes (3 * (c.at - 2)) links part) where
-    pub turn_item : largest_item < part.item → TurnOf c nodes n links out Broken links out
+    pub turn_item : largest_item < part.item → TurnOf c nodes n links out None links out
     turn_item l = turn_broken (λ limit B D k lookup whole before H kl W. omega (arith, item_low H kl W, is-part.item_is))
 
-    module _ (len : ℕ) (is-len : len ≡ widths (stands part.item (c.last.item + 1)) (stands part.zero 0) (stands part.one c.last.number)) where
-      pub length_is : len ≡ length (record_bytes c.last.item c.last.number (triple part.item part.zero part.one))
-      length_is =
-          is-len ∙ ap (λ x. widths (stands part.item x) (stands part.zero 0) (stands part.one c.last.number)) (add-one c.last.item)
-          ∙ widths_length c.last.item c.last.number part.item part.zero part.one
-
-      pub turn_full : c.place ≤ length out → length out - c.place < len → TurnOf c nodes n links out Broken links out
+    module _ (len : ℕ) (length_is : len ≡ length (record_bytes c.last.item c.last.number (triple part.item part.zero part.one))) where
+      pub turn_full : c.place ≤ length out → length out - c.place < len → TurnOf c nodes n links out None links out
       turn_full p l = turn_broken (λ limit B D k lookup whole before H kl W. omega (arith, length_is, turn_room H kl W part is-part))
 
       pub turn_done : n ≤ length links → CursorFits c out → 2 ≤ c.at → c.at ≤ n + 1 → part.item ≤ largest_item → len ≤ 11 → c.place + len ≤ length out → {ys : List ℕ}
           → ys ≡ sets (take (length out - c.place) (drop c.place out)) 0 (record_bytes c.last.item c.last.number (triple part.item part.zero part.one))
-          → TurnOf c nodes n links out (Next (record { at = get_or links (c.at - 2) 0; last = record { item = part.item; number = c.last.number + 1 }; place = c.place + len }))
+          → TurnOf c nodes n links out (Some (record { at = get_or links (c.at - 2) 0; last = record { item = part.item; number = c.last.number + 1 }; place = c.place + len }))
           (set links (c.at - 2) (c.last.number + 1)) (put_mid c.place (length out - c.place) out ys)
       turn_done room F lo hi low few fit {ys} ey =
           record {
             long = length-set links (c.at - 2) (c.last.number + 1);
             long_out = long_out;
             rest = λ k l. get_or-set_other links (c.at - 2) k (c.last.number + 1) 0 (omega arith);
-            next_fits = λ d e. rw (← next_is e) record { within = omega (arith, long_out); item_low = low; number_is = refl; short = omega (arith, F.short) };
-            sound = λ B D k lookup whole before H kl W. turned (turn_next H kl W part is-part len length_is room laid);
+            next_fits = record { within = omega (arith, long_out); item_low = low; number_is = refl; short = omega (arith, F.short) };
+            sound = λ B D k lookup whole before H kl W. turn_next H kl W part is-part len length_is room laid;
           }
         where
           laid : put_mid c.place (length out - c.place) out ys

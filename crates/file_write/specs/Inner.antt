@@ -1,5 +1,5 @@
 -- What writing the records promises. A reader of the promise can pass this page over.
-use Rattle.std.specs.Prelude.{ℕ, ◌+◌, ◌*◌, ◌-◌, ◌≤◌, ◌<◌, ◌≡◌, Bool, true, List, ◌++◌, length, get_or, take, drop}
+use Rattle.std.specs.Prelude.{ℕ, ◌+◌, ◌*◌, ◌-◌, ◌≤◌, ◌<◌, ◌≡◌, Option, IfSome, IsSomeAnd, ⊤, List, ◌++◌, length, get_or, take, drop}
 use Rattle.family.specs.Family.{Family, largest_item}
 use Rattle.family.specs.Book.{at, number, Held, Book}
 use Rattle.family.specs.File.{triples_of, records_bytes}
@@ -7,8 +7,6 @@ use Rattle.store.specs.Words.{word_of}
 use Rattle.store.specs.Inner.{Holds}
 use Rattle.file_record.specs.declared.field.Part.{Part}
 use Rattle.file_write.specs.declared.Cursor.{Cursor}
-use Rattle.file_write.specs.declared.Turn.{Turn}
-use Rattle.file_write.specs.declared.Turn.TheVariants.{Next}
 
 -- the part whose node words start at a place, its children by local numbers
 pub record LocalPart (nodes : List ℕ) (base : ℕ) (links : List ℕ) (part : Part) : Type 0 where
@@ -38,10 +36,6 @@ pub record Writing (limit : ℕ) (B D : List Family) (k : ℕ) (c : Cursor) (lin
   pub numbered : (m : ℕ) → 2 ≤ m → m < k → m < length D → get_or links (number B (at D m) - 2) 0 ≡ m
   pub next : (m : ℕ) → k ≤ m → m + 1 < length D → get_or links (number B (at D m) - 2) 0 ≡ number B (at D (m + 1))
 
--- a turn comes to the family after; it is never broken
-pub data Turned (limit : ℕ) (B D : List Family) (k : ℕ) (links whole before out : List ℕ) : Turn → Type 0 where
-  turned : {c : Cursor} → Writing limit B D k c links whole before out → Turned limit B D k links whole before out (Next c)
-
 -- the cursor after a turn, on any words
 pub record NextFits (c c' : Cursor) (out : List ℕ) : Type 0 where
   pub within : c'.place ≤ length out
@@ -49,14 +43,14 @@ pub record NextFits (c c' : Cursor) (out : List ℕ) : Type 0 where
   pub number_is : c'.last.number ≡ c.last.number + 1
   pub short : c'.place ≤ 11 * c'.last.number
 
--- what `write_part` does: the links of no node stay
-pub record TurnOf (c : Cursor) (nodes : List ℕ) (n : ℕ) (links out : List ℕ) (r : Turn) (links' out' : List ℕ) : Type 0 where
+-- What `write_part` does: the links of no node stay. A turn comes to the family after, and is never broken.
+pub record TurnOf (c : Cursor) (nodes : List ℕ) (n : ℕ) (links out : List ℕ) (r : Option Cursor) (links' out' : List ℕ) : Type 0 where
   pub long : length links' ≡ length links
   pub long_out : length out' ≡ length out
   pub rest : (k : ℕ) → n ≤ k → get_or links' k 0 ≡ get_or links k 0
-  pub next_fits : (c' : Cursor) → r ≡ Next c' → NextFits c c' out'
+  pub next_fits : IfSome r (λ c'. NextFits c c' out')
   pub sound : {limit : ℕ} (B D : List Family) (k : ℕ) (lookup whole before : List ℕ) → Holds limit B n nodes lookup → k < length D → Writing limit B D k c links whole before out
-      → Turned limit B D (k + 1) links' whole before out' r
+      → IsSomeAnd r (λ c'. Writing limit B D (k + 1) c' links' whole before out')
 
 -- the first cursor
 abbrev pub first_cursor : ℕ → Cursor
@@ -68,9 +62,9 @@ pub record HeadRoom (parts : ℕ) (out : List ℕ) : Type 0 where
   pub few : parts ≤ 1000000
 
 -- what `write_parts` does: the links of no node stay
-pub record WritesOf (first parts : ℕ) (nodes : List ℕ) (n : ℕ) (links out : List ℕ) (r : Bool) (links' out' : List ℕ) : Type 0 where
+pub record WritesOf (first parts : ℕ) (nodes : List ℕ) (n : ℕ) (links out : List ℕ) (r : Option ⊤) (links' out' : List ℕ) : Type 0 where
   pub long : length links' ≡ length links
   pub long_out : length out' ≡ length out
   pub rest : (k : ℕ) → n ≤ k → get_or links' k 0 ≡ get_or links k 0
   pub sound : {limit : ℕ} (B D : List Family) (lookup whole before : List ℕ) → Holds limit B n nodes lookup → parts + 2 ≡ length D → Writing limit B D 2 (first_cursor first) links whole before out
-      → (r ≡ true) × (out' ≡ whole ++ drop (length whole) before)
+      → IsSomeAnd r (λ _. out' ≡ whole ++ drop (length whole) before)

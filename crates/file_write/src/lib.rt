@@ -8,7 +8,7 @@ ghost use Rattle.file_trail.specs.Inner.{Lent};
 ghost use Rattle.file_write.specs.Inner.{LocalPart, CursorFits, TurnOf, HeadRoom, WritesOf};
 
 use file_record::field::{Last, Part};
-use file_record::write::{length_of, put_record};
+use file_record::write::put_record;
 
 // The part to be written next, what its record goes by, and the record's place.
 #[derive(Clone, Copy)]
@@ -18,13 +18,6 @@ pub struct Cursor {
     pub place: usize,
 }
 
-// The cursor after a record, or words that no sound store has.
-#[derive(Clone, Copy)]
-pub enum Turn {
-    Next(Cursor),
-    Broken,
-}
-
 // The local number of a handle whose part is written.
 fn local(links: &[u32], handle: u32) -> u32
     ensures { result ≡ word_of links.now handle }
@@ -32,11 +25,7 @@ fn local(links: &[u32], handle: u32) -> u32
     if handle < 2 {
         return handle;
     }
-    let j = (handle - 2) as usize;
-    if j < links.len() {
-        return links[j];
-    }
-    0
+    links.get((handle - 2) as usize).copied().unwrap_or(0)
 }
 
 // The part whose node words start at `base`, its children by local numbers.
@@ -51,49 +40,50 @@ fn part_at(nodes: &[u32], base: usize, links: &[u32]) -> Part
     }
 }
 
-// Writes the record of the part at the cursor into what remains of the output.
-fn write_part(cursor: Cursor, nodes: &[u32], count: u32, links: &mut [u32], out: &mut [u8]) -> Turn
+// Writes the record of the part at the cursor into what remains of the output, and gives the cursor after it; None on
+// words that no sound store has.
+fn write_part(
+    cursor: Cursor,
+    nodes: &[u32],
+    count: u32,
+    links: &mut [u32],
+    out: &mut [u8],
+) -> Option<Cursor>
     requires lent { Lent nodes.now count links.old }
     requires cursor_fits { CursorFits cursor out.old }
     ensures { TurnOf cursor nodes.now count links.old out.old result links.new out.new }
 {
-    let at = cursor.at;
+    let Cursor { at, last, place } = cursor;
     if at < 2 {
-        return Turn::Broken;
+        return None;
     }
     if count + 1 < at {
-        return Turn::Broken;
+        return None;
     }
     let j = (at - 2) as usize;
     let part = part_at(nodes, 3 * j, links);
     if 512 < part.item {
-        return Turn::Broken;
+        return None;
     }
-    let last = cursor.last;
-    let place = cursor.place;
-    let record = length_of(
-        part.item != last.item + 1,
-        part.zero != 0,
-        part.one != last.number,
-    );
-    if out.len() - place < record {
-        return Turn::Broken;
+    let length = part.standing(last).length();
+    if out.len() - place < length {
+        return None;
     }
     put_record(&mut out[place..], last, part);
     let next = links[j];
     let number = last.number + 1;
     links[j] = number;
-    Turn::Next(Cursor {
+    Some(Cursor {
         at: next,
         last: Last {
             item: part.item,
-            number: number,
+            number,
         },
-        place: place + record,
+        place: place + length,
     })
 }
 
-// Writes the records of so many parts, from the first on; false on words that no sound store has.
+// Writes the records of so many parts, from the first on; None on words that no sound store has.
 pub fn write_parts(
     first: u32,
     parts: u32,
@@ -101,7 +91,7 @@ pub fn write_parts(
     count: u32,
     links: &mut [u32],
     out: &mut [u8],
-) -> bool
+) -> Option<()>
     requires lent { Lent nodes.now count links.old }
     requires head_room { HeadRoom parts out.old }
     ensures { WritesOf first parts nodes.now count links.old out.old result links.new out.new }
@@ -111,13 +101,8 @@ pub fn write_parts(
         last: Last { item: 0, number: 1 },
         place: 5,
     };
-    let mut left = parts;
-    while 0 < left {
-        let Turn::Next(next) = write_part(cursor, nodes, count, links, out) else {
-            return false;
-        };
-        cursor = next;
-        left = left - 1;
+    for _ in 0..parts {
+        cursor = write_part(cursor, nodes, count, links, out)?;
     }
-    true
+    Some(())
 }

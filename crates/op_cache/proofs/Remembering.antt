@@ -12,21 +12,20 @@ use Rattle.family.specs.Family.{Family}
 use Rattle.words.proofs.Cases.{by_eq}
 use Rattle.store.specs.Cache.{Group, Truth, True}
 use Rattle.op_cache.specs.declared.Call.{Call}
-use Rattle.op_cache.specs.declared.Recalled.{Recalled}
-use Rattle.op_cache.specs.declared.Recalled.TheVariants.{Hit}
+use Rattle.std.proofs.Common.{Option, Some}
 use Rattle.op_cache.specs.Inner.{RecallOf, hit, Remembered}
 
 -- a recalled result is true
-recalled_group : {cache : List ℕ} {n : ℕ} {call : Call} {h : ℕ} → RecallOf cache n call (Hit h) → (g : ℕ) × Group cache g call.op call.p call.q h
+recalled_group : {cache : List ℕ} {n : ℕ} {call : Call} {h : ℕ} → RecallOf cache n call (Some h) → (g : ℕ) × Group cache g call.op call.p call.q h
 recalled_group (hit {g = g} G l) = (g, G)
 
-pub recalled_within : {cache : List ℕ} {n : ℕ} {call : Call} {h : ℕ} {x : Recalled} → x ≡ Hit h → RecallOf cache n call x → h ≤ n + 1
+pub recalled_within : {cache : List ℕ} {n : ℕ} {call : Call} {h : ℕ} {x : Option ℕ} → x ≡ Some h → RecallOf cache n call x → h ≤ n + 1
 recalled_within e r = out (rw e at r)
   where
-    out : {cache : List ℕ} {n : ℕ} {call : Call} {h : ℕ} → RecallOf cache n call (Hit h) → h ≤ n + 1
+    out : {cache : List ℕ} {n : ℕ} {call : Call} {h : ℕ} → RecallOf cache n call (Some h) → h ≤ n + 1
     out (hit G l) = l
 
-pub recalled_true : {limit : ℕ} {B : List Family} {cache : List ℕ} {n : ℕ} {call : Call} {h : ℕ} {x : Recalled} → True limit B cache → 1 ≤ call.op → x ≡ Hit h → RecallOf cache n call x → Truth limit B call.op call.p call.q h
+pub recalled_true : {limit : ℕ} {B : List Family} {cache : List ℕ} {n : ℕ} {call : Call} {h : ℕ} {x : Option ℕ} → True limit B cache → 1 ≤ call.op → x ≡ Some h → RecallOf cache n call x → Truth limit B call.op call.p call.q h
 recalled_true {cache = cache} {n} {call} {h} t l e r =
     let g = recalled_group (rw e at r) in
     ⊎_elim (λ z. absurd (omega (arith, z.op_is, g.1.op_is))) (λ u. u) (t.each g.0 call.op call.p call.q h g.1)

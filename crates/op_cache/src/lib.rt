@@ -12,12 +12,6 @@ pub struct Call {
     pub q: u32,
 }
 
-#[derive(Clone, Copy)]
-pub enum Recalled {
-    Hit(u32),
-    Miss,
-}
-
 // The number of a call's group in a cache of so many words; 0 where there is none. Rising first operands go to groups
 // side by side, and the second operand is spread.
 pub fn group_of(call: Call, words: usize) -> usize
@@ -33,28 +27,28 @@ pub fn group_of(call: Call, words: usize) -> usize
 }
 
 // The result of a call in the group of this number, where the group has that call and the result is a handle held.
-pub fn recall(cache: &[u32], group: usize, count: u32, call: Call) -> Recalled
+pub fn recall(cache: &[u32], group: usize, count: u32, call: Call) -> Option<u32>
     requires { count ≤ 1000000 }
     ensures { RecallOf cache.now count call result }
 {
     if cache.len() / 4 <= group {
-        return Recalled::Miss;
+        return None;
     }
     let at = 4 * group;
     if cache[at + 1] != call.p {
-        return Recalled::Miss;
+        return None;
     }
     if cache[at + 2] != call.q {
-        return Recalled::Miss;
+        return None;
     }
     if cache[at] != call.op {
-        return Recalled::Miss;
+        return None;
     }
     let result = cache[at + 3];
     if count + 1 < result {
-        return Recalled::Miss;
+        return None;
     }
-    Recalled::Hit(result)
+    Some(result)
 }
 
 // Puts a call and its result into the group of this number, where there is one.

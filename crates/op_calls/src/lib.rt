@@ -6,7 +6,7 @@ ghost use Rattle.op_promise.specs.Promise.{number_of, OperationCall};
 use op_families::calls::{diff, intsec, union};
 use op_items::calls::{change, subset0, subset1};
 use op_promise::Operation;
-use store::record::{Placed, Store};
+use store::record::{Answered, Placement, Store};
 
 // An operation on a handle and, by the operation, an item or a second handle.
 pub fn operate(
@@ -17,7 +17,7 @@ pub fn operate(
     cache: &mut [u32],
     p: u32,
     q: u32,
-) -> Placed
+) -> Answered<Placement>
     ensures { OperationCall (number_of op) p q store nodes.old lookup.old cache.old result nodes.new lookup.new cache.new }
 {
     match op {

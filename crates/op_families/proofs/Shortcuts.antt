@@ -5,42 +5,37 @@ use mathlib.Core.Path.{◌≡◌, sym, ◌∙◌}
 use mathlib.Core.List.{List}
 use mathlib.Core.Logic.{⊎_elim}
 use native.Mathlib.Omega.{arith}
-use Rattle.store.specs.Coded.{answer_of, reached_as}
-use Rattle.store.specs.Inner.{Handle, Fill, Reached, Ran}
-use Rattle.store.proofs.Codes.{coded_held}
+use Rattle.std.proofs.Common.{Option, Some, None, Ok}
+use Rattle.store.specs.declared.record.Fill.{Fill}
+use Rattle.store.specs.Inner.{reached, Reached, Ran}
 use Rattle.store.proofs.Held.{at_0, within}
 use Rattle.op_cache.specs.declared.Call.{Call}
-use Rattle.op_cache.specs.declared.Recalled.{Recalled}
-use Rattle.op_cache.specs.declared.Recalled.TheVariants.{Hit, Miss}
 use Rattle.op_terminal.specs.Inner.{OrderedAs, Shortcut, Proper, ShortcutOf, known, unknown}
 use Rattle.op_families.specs.Inner.{ApplyAsks, FamilyStepAsks}
-use Rattle.store.proofs.Plain.{plain_coded, plain_ran}
+use Rattle.store.proofs.Plain.{plain_held, plain_ran}
 use Rattle.op_step.proofs.Steps.{of}
 use Rattle.op_step.proofs.Outcomes.{ran_same}
 
-shortcut_known : {call : Call} {h : ℕ} {x : Recalled} → x ≡ Hit h → ShortcutOf call x → Shortcut call h
+shortcut_known : {call : Call} {h : ℕ} {x : Option ℕ} → x ≡ Some h → ShortcutOf call x → Shortcut call h
 shortcut_known e S = out (rw e at S)
   where
-    out : {call : Call} {h : ℕ} → ShortcutOf call (Hit h) → Shortcut call h
+    out : {call : Call} {h : ℕ} → ShortcutOf call (Some h) → Shortcut call h
     out (known K) = K
 
-shortcut_proper : {call : Call} {x : Recalled} → x ≡ Miss → ShortcutOf call x → Proper call
+shortcut_proper : {call : Call} {x : Option ℕ} → x ≡ None → ShortcutOf call x → Proper call
 shortcut_proper e S = out (rw e at S)
   where
-    out : {call : Call} → ShortcutOf call Miss → Proper call
+    out : {call : Call} → ShortcutOf call None → Proper call
     out (unknown K) = K
 
 -- a terminal case
-module _ {call : Call} {bound : ℕ} {s : Fill} {nodes lookup : List ℕ} (A : ApplyAsks call bound s nodes lookup) (cache : List ℕ) {h : ℕ} {x : Recalled} (e : x ≡ Hit h) (S : ShortcutOf call x) where
+module _ {call : Call} {bound : ℕ} {s : Fill} {nodes lookup : List ℕ} (A : ApplyAsks call bound s nodes lookup) (cache : List ℕ) {h : ℕ} {x : Option ℕ} (e : x ≡ Some h) (S : ShortcutOf call x) where
   terminal_held : h ≤ s.count + 1
   terminal_held = ⊎_elim (λ d. omega arith) (λ d. ⊎_elim (λ c. omega (arith, A.taken.first)) (λ c. omega (arith, A.taken.second)) d) (shortcut_known e S).one_of
 
-  pub terminal_code : answer_of h ≡ Handle h
-  terminal_code = coded_held h A.taken.roomy A.taken.roomy.within terminal_held
-
-  pub ran_terminal : Ran 0 (of call) s nodes lookup cache (reached_as s.capacity s.count h) nodes lookup cache
+  pub ran_terminal : Ran 0 (of call) s nodes lookup cache (reached s (Ok h)) nodes lookup cache
   ran_terminal =
-      plain_ran 0 (of call) s nodes lookup cache (plain_coded 0 (of call) s nodes lookup A.taken.roomy h terminal_held
+      plain_ran 0 (of call) s nodes lookup cache (plain_held 0 (of call) s nodes lookup A.taken.roomy h terminal_held
       (λ l B H. (shortcut_known e S).means B (at_0 H) (within H call.p (omega (arith, A.taken.first))).ordered (within H call.q (omega (arith, A.taken.second))).ordered))
 
 -- a call, and the same with its operands in order
@@ -67,7 +62,7 @@ module _ {asked call : Call} (O : OrderedAs asked call) {bound : ℕ} {s : Fill}
       (λ l B H. sym (O.named_is B (within H asked.p (omega (arith, A.taken.first))).ordered (within H asked.q (omega (arith, A.taken.second))).ordered)) R
 
   -- no terminal case
-  pub ordered_step : {x : Recalled} → x ≡ Miss → ShortcutOf asked x → FamilyStepAsks call bound s nodes lookup
+  pub ordered_step : {x : Option ℕ} → x ≡ None → ShortcutOf asked x → FamilyStepAsks call bound s nodes lookup
   ordered_step e S =
       let P = shortcut_proper e S in
       record {

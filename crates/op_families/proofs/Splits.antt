@@ -9,7 +9,7 @@ use Rattle.family.specs.Book.{at}
 use Rattle.op_cache.specs.declared.Call.{Call}
 use Rattle.op_families.specs.Inner.{Forked}
 use Rattle.store.proofs.Naming.{named_families, families_step, families_within}
-use Rattle.store.specs.Inner.{Fill}
+use Rattle.store.specs.declared.record.Fill.{Fill}
 use Rattle.op_families.specs.Inner.{FamilyCall, ApplyAsks}
 use Rattle.op_step.proofs.Steps.{Taken, Split}
 use Rattle.store.proofs.Held.{top_at_lem, within, low_at}

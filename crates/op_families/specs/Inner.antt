@@ -1,18 +1,18 @@
 -- What the functions below Union, Intsec and Diff ask and promise. A reader of the promises can pass this page over.
-use Rattle.std.specs.Prelude.{ℕ, ◌+◌, ◌*◌, ◌≤◌, ◌<◌, max, ◌≡◌, List, length}
+use Rattle.std.specs.Prelude.{ℕ, ◌+◌, ◌*◌, ◌≤◌, ◌<◌, max, ◌≡◌, List, length, Option, Some, None}
 use Rattle.family.specs.Family.{Family, largest_item}
 use Rattle.store.specs.Words.{top_at}
-use Rattle.store.specs.Inner.{Fill, Roomy, Holds}
+use Rattle.store.specs.declared.record.Fill.{Fill}
+use Rattle.store.specs.Inner.{Roomy, Holds}
 use Rattle.store_sides.specs.Inner.{Low, Halves}
 use Rattle.op_cache.specs.declared.Call.{Call}
-use Rattle.op_terminal.specs.Inner.{FamilyOperation, Proper}
+use Rattle.op_terminal.specs.Inner.{OnFamilies, Proper}
 use Rattle.op_families.specs.declared.recursion.Fork.{Fork}
-use Rattle.op_families.specs.declared.recursion.Fork.TheVariants.{Two, Broken}
 
 -- a call of these three on words that fit: two handles held
 pub record FamilyCall (call : Call) (s : Fill) (nodes lookup : List ℕ) : Type 0 where
   pub roomy : Roomy s nodes lookup
-  pub operation : FamilyOperation call.op
+  pub operation : OnFamilies call.op
   pub first : call.p ≤ s.count + 1
   pub second : call.q ≤ s.count + 1
 
@@ -47,6 +47,6 @@ pub record Forked (nodes : List ℕ) (n : ℕ) (call : Call) (bound level p₀ q
   pub second : Halves nodes n call.q level q₀ q₁
 
 -- the two sides of both operands, or words that no sound store has
-pub data ForkOf (nodes : List ℕ) (n : ℕ) (call : Call) (bound : ℕ) : Fork → Type 0 where
-  two : {level p₀ q₀ p₁ q₁ : ℕ} → Forked nodes n call bound level p₀ q₀ p₁ q₁ → ForkOf nodes n call bound (Two level p₀ q₀ p₁ q₁)
-  broken : ((limit : ℕ) (B : List Family) (lookup : List ℕ) → Holds limit B n nodes lookup → ⊥) → ForkOf nodes n call bound Broken
+pub data ForkOf (nodes : List ℕ) (n : ℕ) (call : Call) (bound : ℕ) : Option Fork → Type 0 where
+  two : {f : Fork} → Forked nodes n call bound f.level f.p0 f.q0 f.p1 f.q1 → ForkOf nodes n call bound (Some f)
+  broken : ((limit : ℕ) (B : List Family) (lookup : List ℕ) → Holds limit B n nodes lookup → ⊥) → ForkOf nodes n call bound None

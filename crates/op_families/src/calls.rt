@@ -1,50 +1,36 @@
 // Union, Intsec and Diff: what refuses them, the recursion, and the end of the call.
-ghost use Rattle.op_terminal.specs.Inner.{FamilyOperation};
+ghost use Rattle.op_terminal.specs.Inner.{set_number};
 ghost use Rattle.op_promise.specs.Promise.{OperationCall};
 
 use crate::recursion::expand;
-use op_cache::{Call, Recalled};
-use op_terminal::families::{ordered, shortcut};
-use store::record::{Placed, Store};
-use store::tests::{Test, tested};
+use op_terminal::families::{SetOperation, ordered, shortcut};
+use store::record::{Answered, Fill, Placement, Store};
+use store::tests::tested;
 use store_undo::finish;
 
 // An operation on two families.
 fn of_families(
-    op: u32,
+    op: SetOperation,
     store: Store,
     nodes: &mut [u32],
     lookup: &mut [u32],
     cache: &mut [u32],
     p: u32,
     q: u32,
-) -> Placed
-    requires { FamilyOperation op }
-    ensures { OperationCall op p q store nodes.old lookup.old cache.old result nodes.new lookup.new cache.new }
+) -> Answered<Placement>
+    ensures { OperationCall (set_number op) p q store nodes.old lookup.old cache.old result nodes.new lookup.new cache.new }
 {
-    let found = tested(store, nodes.len(), lookup.len(), p, q, Test::Clear, 0, 0);
-    if let Test::Refuses(refusal) = found {
+    if let Err(refusal) = tested(store, nodes.len(), lookup.len(), p, q, Ok(()), 0, 0) {
         return store.refused(refusal);
     }
-    let asked = Call { op: op, p: p, q: q };
-    if let Recalled::Hit(handle) = shortcut(asked) {
+    if let Some(handle) = shortcut(op, p, q) {
         return store.placed(handle, 0);
     }
-    let call = ordered(asked);
-    let mut held = store.count;
+    let (first, second) = ordered(op, p, q);
+    let mut fill = store.fill();
     // In a sound store every top is below 513, whatever its limit.
-    let coded = expand(
-        call.op,
-        call.p,
-        call.q,
-        513,
-        store.capacity,
-        &mut held,
-        nodes,
-        lookup,
-        cache,
-    );
-    finish(store, held, coded, nodes, lookup, cache)
+    let answer = expand(op, first, second, 513, &mut fill, nodes, lookup, cache);
+    finish(store, fill.count, answer, nodes, lookup, cache)
 }
 
 // The combinations in p or in q.
@@ -55,10 +41,10 @@ pub fn union(
     cache: &mut [u32],
     p: u32,
     q: u32,
-) -> Placed
+) -> Answered<Placement>
     ensures { OperationCall 4 p q store nodes.old lookup.old cache.old result nodes.new lookup.new cache.new }
 {
-    of_families(4, store, nodes, lookup, cache, p, q)
+    of_families(SetOperation::Union, store, nodes, lookup, cache, p, q)
 }
 
 // The combinations in p and in q.
@@ -69,10 +55,10 @@ pub fn intsec(
     cache: &mut [u32],
     p: u32,
     q: u32,
-) -> Placed
+) -> Answered<Placement>
     ensures { OperationCall 5 p q store nodes.old lookup.old cache.old result nodes.new lookup.new cache.new }
 {
-    of_families(5, store, nodes, lookup, cache, p, q)
+    of_families(SetOperation::Intsec, store, nodes, lookup, cache, p, q)
 }
 
 // The combinations in p and not in q.
@@ -83,8 +69,8 @@ pub fn diff(
     cache: &mut [u32],
     p: u32,
     q: u32,
-) -> Placed
+) -> Answered<Placement>
     ensures { OperationCall 6 p q store nodes.old lookup.old cache.old result nodes.new lookup.new cache.new }
 {
-    of_families(6, store, nodes, lookup, cache, p, q)
+    of_families(SetOperation::Diff, store, nodes, lookup, cache, p, q)
 }

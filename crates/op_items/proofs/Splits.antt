@@ -11,8 +11,9 @@ use Rattle.store_sides.specs.Inner.{TwoSides}
 use Rattle.store.proofs.Held.{top_at_lem, within, low_at}
 use Rattle.op_cache.specs.declared.Call.{Call}
 use Rattle.store.proofs.Naming.{named_item, restrict_step, restrict_within}
-use Rattle.store.specs.Coded.{reached_as}
-use Rattle.store.specs.Inner.{Fill, Ran}
+use Rattle.std.proofs.Common.{Ok}
+use Rattle.store.specs.declared.record.Fill.{Fill}
+use Rattle.store.specs.Inner.{reached, Ran}
 use Rattle.store.proofs.Plain.{plain_ran}
 use Rattle.op_terminal.specs.Inner.{ItemCall}
 use Rattle.op_terminal.proofs.Restricting.{above_none, above_same}
@@ -21,10 +22,10 @@ use Rattle.op_step.proofs.Steps.{of, Taken, Split}
 
 -- the item above the top
 module _ {call : Call} {level : ℕ} {s : Fill} {nodes lookup : List ℕ} (A : RestrictAsks call level s nodes lookup) (cache : List ℕ) (above : level < call.q) where
-  pub ran_none : call.op ≡ 1 → Ran call.q (of call) s nodes lookup cache (reached_as s.capacity s.count 0) nodes lookup cache
+  pub ran_none : call.op ≡ 1 → Ran call.q (of call) s nodes lookup cache (reached s (Ok 0)) nodes lookup cache
   ran_none e = plain_ran call.q (of call) s nodes lookup cache (above_none call s nodes lookup A.taken (omega (arith, A.level_is)) e)
 
-  pub ran_whole : call.op ≡ 2 → Ran call.q (of call) s nodes lookup cache (reached_as s.capacity s.count call.p) nodes lookup cache
+  pub ran_whole : call.op ≡ 2 → Ran call.q (of call) s nodes lookup cache (reached s (Ok call.p)) nodes lookup cache
   ran_whole e = plain_ran call.q (of call) s nodes lookup cache (above_same call s nodes lookup A.taken (omega (arith, A.level_is)) e)
 
 -- the item below it

@@ -2,7 +2,7 @@
 use Rattle.std.specs.Prelude.{ℕ, ◌≤◌, ◌<◌, ◌≡◌, List}
 use Rattle.family.specs.Family.{largest_item}
 use Rattle.store.specs.Words.{top_at}
-use Rattle.store.specs.Inner.{Fill}
+use Rattle.store.specs.declared.record.Fill.{Fill}
 use Rattle.op_cache.specs.declared.Call.{Call}
 use Rattle.op_terminal.specs.Inner.{ItemCall}
 

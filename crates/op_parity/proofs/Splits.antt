@@ -9,14 +9,14 @@ use native.Mathlib.Omega.{arith}
 use Rattle.family.specs.Family.{Family, empty, top}
 use Rattle.family.specs.Book.{at}
 use Rattle.family.proofs.Parity.{within_parity, parity_step, parity_leaf}
-use Rattle.store.specs.Coded.{answer_of, reached_as}
+use Rattle.std.proofs.Common.{Ok}
 use Rattle.store.specs.Operations.{parity_number}
-use Rattle.store.specs.Inner.{Handle, Fill, Holds, Kept, Ran}
-use Rattle.store.proofs.Codes.{coded_held}
+use Rattle.store.specs.declared.record.Fill.{Fill}
+use Rattle.store.specs.Inner.{reached, Holds, Kept, Ran}
 use Rattle.store.proofs.Held.{at_0, top_at_lem, within, low_at}
 use Rattle.store.proofs.Growing.{kept_top, kept_roomy}
 use Rattle.store.proofs.Naming.{named_part}
-use Rattle.store.proofs.Plain.{plain_coded, plain_ran}
+use Rattle.store.proofs.Plain.{plain_held, plain_ran}
 use Rattle.store_sides.specs.Inner.{SidesAsks, TwoSides}
 use Rattle.op_cache.specs.declared.Call.{Call}
 use Rattle.op_cache.specs.Inner.{call_of}
@@ -42,9 +42,6 @@ module _ (even : Bool) {p level : ℕ} {s : Fill} {nodes lookup : List ℕ} (A :
   leaf_held true = A.held
   leaf_held false = omega arith
 
-  pub leaf_code : answer_of (cond even p 0) ≡ Handle (cond even p 0)
-  leaf_code = coded_held (cond even p 0) A.roomy A.roomy.within (leaf_held even)
-
   leaf_means : level ≡ 0 → (limit : ℕ) (B : List Family) → Holds limit B s.count nodes lookup → at B (cond even p 0) ≡ of (part_of even p) B
   leaf_means none limit B H =
       let l = A.held in
@@ -55,9 +52,9 @@ module _ (even : Bool) {p level : ℕ} {s : Fill} {nodes lookup : List ℕ} (A :
       chosen true = refl
       chosen false = at_0 H
 
-  pub ran_leaf : level ≡ 0 → (cache : List ℕ) → Ran 0 (of (part_of even p)) s nodes lookup cache (reached_as s.capacity s.count (cond even p 0)) nodes lookup cache
+  pub ran_leaf : level ≡ 0 → (cache : List ℕ) → Ran 0 (of (part_of even p)) s nodes lookup cache (reached s (Ok (cond even p 0))) nodes lookup cache
   ran_leaf none cache =
-      plain_ran 0 (of (part_of even p)) s nodes lookup cache (plain_coded 0 (of (part_of even p)) s nodes lookup A.roomy (cond even p 0) (leaf_held even) (leaf_means none))
+      plain_ran 0 (of (part_of even p)) s nodes lookup cache (plain_held 0 (of (part_of even p)) s nodes lookup A.roomy (cond even p 0) (leaf_held even) (leaf_means none))
 
 -- a top that is an item: what the step asks
 module _ {p level : ℕ} {s : Fill} {nodes lookup : List ℕ} (E : PartStepAsks p level s nodes lookup) where

@@ -2,7 +2,8 @@
 use Rattle.std.specs.Prelude.{ℕ, ◌+◌, ◌≤◌, ◌<◌, ◌≡◌, List}
 use Rattle.family.specs.Family.{largest_item}
 use Rattle.store.specs.Words.{top_at}
-use Rattle.store.specs.Inner.{Fill, Roomy}
+use Rattle.store.specs.declared.record.Fill.{Fill}
+use Rattle.store.specs.Inner.{Roomy}
 
 -- a handle held and its top, on words that fit
 pub record PartAsks (p level : ℕ) (s : Fill) (nodes lookup : List ℕ) : Type 0 where

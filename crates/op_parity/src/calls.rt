@@ -1,19 +1,12 @@
 // Even and Odd: what refuses them, the recursion, and the end of the call.
-ghost use Rattle.std.specs.Prelude.{◌≡◌, true, false, cond};
+ghost use Rattle.std.specs.Prelude.{true, false};
 ghost use Rattle.op_parity.specs.Promise.{ParityCall};
 
-use crate::recursion::{expand_even, expand_odd};
-use store::record::{Placed, Refusal, Store};
-use store::tests::{Test, tested};
+use crate::recursion::{expand, leaf_part};
+use store::record::{Answered, Fill, Placement, Refusal, Store};
+use store::tests::tested;
 use store_sides::top_of;
 use store_undo::finish;
-
-// The even part of {} or {{}}, which is the family itself, or else its odd part, which is {}.
-fn leaf_part(even: bool, p: u32) -> u32
-    ensures { result ≡ cond even p 0 }
-{
-    if even { p } else { 0 }
-}
 
 // The even part of p, or else its odd part.
 fn of_parity(
@@ -23,11 +16,10 @@ fn of_parity(
     lookup: &mut [u32],
     cache: &mut [u32],
     p: u32,
-) -> Placed
+) -> Answered<Placement>
     ensures { ParityCall even p store nodes.old lookup.old cache.old result nodes.new lookup.new cache.new }
 {
-    let found = tested(store, nodes.len(), lookup.len(), p, 0, Test::Clear, 0, 0);
-    if let Test::Refuses(refusal) = found {
+    if let Err(refusal) = tested(store, nodes.len(), lookup.len(), p, 0, Ok(()), 0, 0) {
         return store.refused(refusal);
     }
     let level = top_of(nodes, store.count, p);
@@ -37,13 +29,9 @@ fn of_parity(
     if level == 0 {
         return store.placed(leaf_part(even, p), 0);
     }
-    let mut held = store.count;
-    if even {
-        let coded = expand_even(p, level, store.capacity, &mut held, nodes, lookup, cache);
-        return finish(store, held, coded, nodes, lookup, cache);
-    }
-    let coded = expand_odd(p, level, store.capacity, &mut held, nodes, lookup, cache);
-    finish(store, held, coded, nodes, lookup, cache)
+    let mut fill = store.fill();
+    let answer = expand(even, p, level, &mut fill, nodes, lookup, cache);
+    finish(store, fill.count, answer, nodes, lookup, cache)
 }
 
 // The members of p with an even number of items.
@@ -53,14 +41,20 @@ pub fn even(
     lookup: &mut [u32],
     cache: &mut [u32],
     p: u32,
-) -> Placed
+) -> Answered<Placement>
     ensures { ParityCall true p store nodes.old lookup.old cache.old result nodes.new lookup.new cache.new }
 {
     of_parity(true, store, nodes, lookup, cache, p)
 }
 
 // The members of p with an odd number of items.
-pub fn odd(store: Store, nodes: &mut [u32], lookup: &mut [u32], cache: &mut [u32], p: u32) -> Placed
+pub fn odd(
+    store: Store,
+    nodes: &mut [u32],
+    lookup: &mut [u32],
+    cache: &mut [u32],
+    p: u32,
+) -> Answered<Placement>
     ensures { ParityCall false p store nodes.old lookup.old cache.old result nodes.new lookup.new cache.new }
 {
     of_parity(false, store, nodes, lookup, cache, p)

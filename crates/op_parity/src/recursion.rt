@@ -1,136 +1,80 @@
-// Even (7) and Odd (8): the recursion on the two sides. Each goes on with itself on the without-side and with the other
-// on the with-side; the top item falls at each call.
-ghost use Rattle.store.specs.Coded.{reached_as};
-ghost use Rattle.store.specs.Operations.{named};
-ghost use Rattle.store.specs.Inner.{fill_of, Ran};
+// Even and Odd: the recursion on the two sides. The part of one parity goes on with itself on the without-side and with
+// the other parity on the with-side; the top item falls at each call.
+ghost use Rattle.std.specs.Prelude.{◌≡◌, cond};
+ghost use Rattle.store.specs.Operations.{named, parity_number};
+ghost use Rattle.store.specs.Inner.{reached, Ran};
 ghost use Rattle.op_parity.specs.Inner.{PartAsks, PartStepAsks};
 
-use op_cache::{Call, Recalled, group_of, recall};
+use op_cache::{Call, group_of, recall};
 use op_step::keep;
-use store::coded::{DAMAGED, FULL};
+use store::record::{Fill, Refusal};
 use store_node::getnode::node_of;
-use store_sides::{Sides, sides_at};
+use store_sides::sides_at;
 
-// The even part of a family whose top is the level: {} and {{}} are their own, else by the two sides.
-#[cycle(even_part_expand_even_expand_odd_odd_part)]
-fn even_part(
+// The number of a parity, as the cache has it.
+fn number_of(even: bool) -> u32
+    ensures { result ≡ parity_number even }
+{
+    if even { 7 } else { 8 }
+}
+
+// The even part of {} or {{}}, which is the family itself, or else its odd part, which is {}.
+pub fn leaf_part(even: bool, p: u32) -> u32
+    ensures { result ≡ cond even p 0 }
+{
+    if even { p } else { 0 }
+}
+
+// The even part of a family whose top is the level, or else its odd part: of {} and {{}} at once, else by the two sides.
+#[cycle(expand_part)]
+fn part(
+    even: bool,
     p: u32,
     level: u32,
-    capacity: u32,
-    count: &mut u32,
+    fill: &mut Fill,
     nodes: &mut [u32],
     lookup: &mut [u32],
     cache: &mut [u32],
-) -> u32
-    requires { PartAsks p level (fill_of capacity count.old) nodes.old lookup.old }
-    ensures { Ran 0 (λ B. named 7 B p 0) (fill_of capacity count.old) nodes.old lookup.old cache.old (reached_as capacity count.new result) nodes.new lookup.new cache.new }
+) -> Result<u32, Refusal>
+    requires { PartAsks p level fill.old nodes.old lookup.old }
+    ensures { Ran 0 (λ B. named (parity_number even) B p 0) fill.old nodes.old lookup.old cache.old (reached fill.new result) nodes.new lookup.new cache.new }
 {
     if level == 0 {
-        return p;
+        return Ok(leaf_part(even, p));
     }
-    expand_even(p, level, capacity, count, nodes, lookup, cache)
+    expand(even, p, level, fill, nodes, lookup, cache)
 }
 
-// The same where the top is an item: the cache, else the even part of the without-side, the odd part of the
+// The same where the top is an item: the cache, else the same part of the without-side, the other part of the
 // with-side, and their node.
-#[cycle(even_part_expand_even_expand_odd_odd_part)]
-pub fn expand_even(
+#[cycle(expand_part)]
+pub fn expand(
+    even: bool,
     p: u32,
     level: u32,
-    capacity: u32,
-    count: &mut u32,
+    fill: &mut Fill,
     nodes: &mut [u32],
     lookup: &mut [u32],
     cache: &mut [u32],
-) -> u32
-    requires { PartStepAsks p level (fill_of capacity count.old) nodes.old lookup.old }
-    ensures { Ran 0 (λ B. named 7 B p 0) (fill_of capacity count.old) nodes.old lookup.old cache.old (reached_as capacity count.new result) nodes.new lookup.new cache.new }
+) -> Result<u32, Refusal>
+    requires { PartStepAsks p level fill.old nodes.old lookup.old }
+    ensures { Ran 0 (λ B. named (parity_number even) B p 0) fill.old nodes.old lookup.old cache.old (reached fill.new result) nodes.new lookup.new cache.new }
 {
-    let call = Call { op: 7, p: p, q: 0 };
-    let group = group_of(call, cache.len());
-    if let Recalled::Hit(handle) = recall(cache, group, *count, call) {
-        return handle;
-    }
-    let Sides::Two {
-        zero: p0,
-        one: p1,
-        ztop: top0,
-        otop: top1,
-    } = sides_at(nodes, *count, p, level)
-    else {
-        return DAMAGED;
+    let call = Call {
+        op: number_of(even),
+        p,
+        q: 0,
     };
-    let even0 = even_part(p0, top0, capacity, count, nodes, lookup, cache);
-    if FULL <= even0 {
-        return even0;
-    }
-    let odd1 = odd_part(p1, top1, capacity, count, nodes, lookup, cache);
-    if FULL <= odd1 {
-        return odd1;
-    }
-    let made = node_of(capacity, count, nodes, lookup, level, even0, odd1);
-    keep(cache, group, call, made);
-    made
-}
-
-// The odd part of a family whose top is the level: {} and {{}} have none, else by the two sides.
-#[cycle(even_part_expand_even_expand_odd_odd_part)]
-fn odd_part(
-    p: u32,
-    level: u32,
-    capacity: u32,
-    count: &mut u32,
-    nodes: &mut [u32],
-    lookup: &mut [u32],
-    cache: &mut [u32],
-) -> u32
-    requires { PartAsks p level (fill_of capacity count.old) nodes.old lookup.old }
-    ensures { Ran 0 (λ B. named 8 B p 0) (fill_of capacity count.old) nodes.old lookup.old cache.old (reached_as capacity count.new result) nodes.new lookup.new cache.new }
-{
-    if level == 0 {
-        return 0;
-    }
-    expand_odd(p, level, capacity, count, nodes, lookup, cache)
-}
-
-// The same where the top is an item: the cache, else the odd part of the without-side, the even part of the
-// with-side, and their node.
-#[cycle(even_part_expand_even_expand_odd_odd_part)]
-pub fn expand_odd(
-    p: u32,
-    level: u32,
-    capacity: u32,
-    count: &mut u32,
-    nodes: &mut [u32],
-    lookup: &mut [u32],
-    cache: &mut [u32],
-) -> u32
-    requires { PartStepAsks p level (fill_of capacity count.old) nodes.old lookup.old }
-    ensures { Ran 0 (λ B. named 8 B p 0) (fill_of capacity count.old) nodes.old lookup.old cache.old (reached_as capacity count.new result) nodes.new lookup.new cache.new }
-{
-    let call = Call { op: 8, p: p, q: 0 };
     let group = group_of(call, cache.len());
-    if let Recalled::Hit(handle) = recall(cache, group, *count, call) {
-        return handle;
+    if let Some(handle) = recall(cache, group, fill.count, call) {
+        return Ok(handle);
     }
-    let Sides::Two {
-        zero: p0,
-        one: p1,
-        ztop: top0,
-        otop: top1,
-    } = sides_at(nodes, *count, p, level)
-    else {
-        return DAMAGED;
+    let Some(sides) = sides_at(nodes, fill.count, p, level) else {
+        return Err(Refusal::Damaged);
     };
-    let odd0 = odd_part(p0, top0, capacity, count, nodes, lookup, cache);
-    if FULL <= odd0 {
-        return odd0;
-    }
-    let even1 = even_part(p1, top1, capacity, count, nodes, lookup, cache);
-    if FULL <= even1 {
-        return even1;
-    }
-    let made = node_of(capacity, count, nodes, lookup, level, odd0, even1);
+    let zero = part(even, sides.zero, sides.ztop, fill, nodes, lookup, cache)?;
+    let one = part(!even, sides.one, sides.otop, fill, nodes, lookup, cache)?;
+    let made = node_of(fill, nodes, lookup, level, zero, one);
     keep(cache, group, call, made);
     made
 }

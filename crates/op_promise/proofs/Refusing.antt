@@ -7,12 +7,15 @@ use mathlib.Core.List.{List}
 use lib.ListN.{length}
 use borrow.Author.Tests.{lt-ltb, le-ltb}
 use Rattle.store.specs.declared.record.Store.{Store}
-use Rattle.store.specs.declared.record.Placed.{Placed}
+use Rattle.store.specs.declared.record.Placement.{Placement}
+use Rattle.store.specs.declared.record.Answered.{Answered}
 use Rattle.store.specs.Capacity.{fitting}
 use Rattle.store.specs.Tests.{item_test, tests_of}
 use Rattle.store.specs.Operations.{named}
-use Rattle.store.specs.Coded.{reached_as}
-use Rattle.store.specs.Inner.{fill_in, Ran}
+use Rattle.std.proofs.Common.{Result}
+use Rattle.store.specs.declared.record.Refusal.{Refusal}
+use Rattle.store.specs.declared.record.Fill.{Fill}
+use Rattle.store.specs.Inner.{fill_in, reached, Ran}
 use Rattle.store_undo.specs.Inner.{Finished}
 use Rattle.store_undo.proofs.Done.{call_done}
 use Rattle.op_promise.specs.Promise.{operation_refusal, OperationCall}
@@ -28,6 +31,6 @@ module _ (op limit n p q : ℕ) where
 
 module _ (op p q : ℕ) (s : Store) (nodes lookup : List ℕ) (fits : fitting s (length nodes) (length lookup) ≡ true) (cache : List ℕ) where
   -- a call that ran to its end
-  pub done : operation_refusal op s.limit s.count p q ≡ 0 → {least : ℕ} → least ≤ s.limit → {held coded : ℕ} {nodes₁ lookup₁ cache₁ : List ℕ}
-      → Ran least (λ B. named op B p q) (fill_in s) nodes lookup cache (reached_as s.capacity held coded) nodes₁ lookup₁ cache₁ → {r : Placed} {nodes₂ lookup₂ cache₂ : List ℕ} → Finished s held coded nodes₁ lookup₁ cache₁ r nodes₂ lookup₂ cache₂ → OperationCall op p q s nodes lookup cache r nodes₂ lookup₂ cache₂
+  pub done : operation_refusal op s.limit s.count p q ≡ 0 → {least : ℕ} → least ≤ s.limit → {fill : Fill} {answer : Result ℕ Refusal} {nodes₁ lookup₁ cache₁ : List ℕ}
+      → Ran least (λ B. named op B p q) (fill_in s) nodes lookup cache (reached fill answer) nodes₁ lookup₁ cache₁ → {r : Answered Placement} {nodes₂ lookup₂ cache₂ : List ℕ} → Finished s fill.count answer nodes₁ lookup₁ cache₁ r nodes₂ lookup₂ cache₂ → OperationCall op p q s nodes lookup cache r nodes₂ lookup₂ cache₂
   done none low R E = rw none (call_done s nodes lookup cache (λ B. named op B p q) fits low R E)

@@ -3,7 +3,8 @@ use Rattle.std.specs.Prelude.{ℕ, min, cond, List, eqb}
 use Rattle.op_promise.specs.declared.Operation.{Operation}
 use Rattle.op_promise.specs.declared.Operation.TheVariants.{Subset1, Subset0, Change, Union, Intsec, Diff}
 use Rattle.store.specs.declared.record.Store.{Store}
-use Rattle.store.specs.declared.record.Placed.{Placed}
+use Rattle.store.specs.declared.record.Placement.{Placement}
+use Rattle.store.specs.declared.record.Answered.{Answered}
 use Rattle.store.specs.Words.{book_of}
 use Rattle.store.specs.Tests.{item_test, tests_of}
 use Rattle.store.specs.Operations.{takes_item, named}
@@ -28,6 +29,6 @@ unfoldable pub operation_refusal : ℕ → ℕ → ℕ → ℕ → ℕ → ℕ
 operation_refusal op limit count p q = cond (takes_item op) (tests_of count p 0 (item_test limit q) 0 0) (tests_of count p q 0 0 0)
 
 -- What operation number op on p and q promises: to place the family that it names in the book that the words hold.
-abbrev pub OperationCall : ℕ → ℕ → ℕ → Store → List ℕ → List ℕ → List ℕ → Placed → List ℕ → List ℕ → List ℕ → Type 0
+abbrev pub OperationCall : ℕ → ℕ → ℕ → Store → List ℕ → List ℕ → List ℕ → Answered Placement → List ℕ → List ℕ → List ℕ → Type 0
 OperationCall op p q s nodes lookup cache r nodes' lookup' cache' =
     PlaceCall (operation_refusal op s.limit s.count p q) (named op (book_of nodes s.count) p q) s nodes lookup cache r nodes' lookup' cache'

@@ -17,23 +17,34 @@ pub enum Operation {
 }
 
 // The operation of a number from 1 to 6; Diff for every other number.
-pub fn operation_of(number: u32) -> Operation
-    ensures { number_of result ≡ operation_number number }
-{
-    if number == 1 {
-        return Operation::Subset1;
+impl From<u32> for Operation {
+    ghost from_gives = { λ number op. number_of op ≡ operation_number number };
+
+    #[tactic(auto, using(crate::proofs::Numbering::number_own, crate::proofs::Numbering::number_else))]
+    fn from(number: u32) -> Operation {
+        match number {
+            1 => Operation::Subset1,
+            2 => Operation::Subset0,
+            3 => Operation::Change,
+            4 => Operation::Union,
+            5 => Operation::Intsec,
+            _ => Operation::Diff,
+        }
     }
-    if number == 2 {
-        return Operation::Subset0;
+}
+
+// The number of an operation.
+impl From<Operation> for u32 {
+    ghost from_gives = { λ op number. number ≡ number_of op };
+
+    fn from(op: Operation) -> u32 {
+        match op {
+            Operation::Subset1 => 1,
+            Operation::Subset0 => 2,
+            Operation::Change => 3,
+            Operation::Union => 4,
+            Operation::Intsec => 5,
+            Operation::Diff => 6,
+        }
     }
-    if number == 3 {
-        return Operation::Change;
-    }
-    if number == 4 {
-        return Operation::Union;
-    }
-    if number == 5 {
-        return Operation::Intsec;
-    }
-    Operation::Diff
 }

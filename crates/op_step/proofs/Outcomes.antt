@@ -8,14 +8,13 @@ use mathlib.Core.List.{List}
 use native.Mathlib.Omega.{arith}
 use Rattle.family.specs.Family.{Family}
 use Rattle.family.proofs.Placing.{place_grown}
-use Rattle.store.specs.Coded.{damaged_number, reached_as}
-use Rattle.store.specs.Inner.{Fill, Reached, Roomy, Holds, gave, Ran}
+use Rattle.std.proofs.Common.{Option, Some, Ok, Err}
+use Rattle.store.specs.declared.record.Refusal.TheVariants.{Damaged}
+use Rattle.store.specs.declared.record.Fill.{Fill}
+use Rattle.store.specs.Inner.{reached, Reached, Roomy, Holds, gave, Ran}
 use Rattle.store.proofs.Answers.{handle_is}
-use Rattle.store.proofs.Codes.{coded_held}
 use Rattle.store.proofs.Growing.{kept_self}
 use Rattle.op_cache.specs.declared.Call.{Call}
-use Rattle.op_cache.specs.declared.Recalled.{Recalled}
-use Rattle.op_cache.specs.declared.Recalled.TheVariants.{Hit}
 use Rattle.op_cache.specs.Inner.{RecallOf}
 use Rattle.store.proofs.Cached.{true_grown}
 use Rattle.op_cache.proofs.Remembering.{recalled_within, recalled_true}
@@ -37,19 +36,18 @@ module _ (least : ℕ) (s : Fill) (nodes lookup cache : List ℕ) where
       }
 
   module _ (roomy : Roomy s nodes lookup) (call : Call) where
-    pub ran_broken : ((limit : ℕ) (B : List Family) → Holds limit B s.count nodes lookup → ⊥) → Ran least (of call) s nodes lookup cache (reached_as s.capacity s.count damaged_number) nodes lookup cache
+    pub ran_broken : ((limit : ℕ) (B : List Family) → Holds limit B s.count nodes lookup → ⊥) → Ran least (of call) s nodes lookup cache (reached s (Err Damaged)) nodes lookup cache
     ran_broken f = plain_ran least (of call) s nodes lookup cache (plain_broken least (of call) s nodes lookup roomy f)
 
-    pub ran_recalled : (h : ℕ) {x : Recalled} → 1 ≤ call.op → x ≡ Hit h → RecallOf cache s.count call x → Ran least (of call) s nodes lookup cache (reached_as s.capacity s.count h) nodes lookup cache
+    pub ran_recalled : (h : ℕ) {x : Option ℕ} → 1 ≤ call.op → x ≡ Some h → RecallOf cache s.count call x → Ran least (of call) s nodes lookup cache (reached s (Ok h)) nodes lookup cache
     ran_recalled h l e C =
-        let ea = coded_held h roomy roomy.within (recalled_within e C) in
         record {
           kept = kept_self s nodes lookup roomy.within;
-          handle = λ k d. omega (arith, handle_is (sym ea ∙ d), recalled_within e C);
+          handle = λ k d. omega (arith, handle_is d, recalled_within e C);
           long_cache = refl;
           rest = λ k m. refl;
           sound = λ B m H t.
-              rw (ea, ← (recalled_true t l e C).means, place_at H h (omega (arith, recalled_within e C)))
+              rw (← (recalled_true t l e C).means, place_at H h (omega (arith, recalled_within e C)))
               (gave {h = h} (record { holds = H; within = omega (arith, recalled_within e C); means = refl }));
           cached = λ B m H t k d. true_grown (place_grown B (of call B)) t;
         }

@@ -7,6 +7,7 @@ use mathlib.Core.Path.{◌≡◌, refl, sym, ap, ◌∙◌}
 use mathlib.Core.List.{List}
 use native.Mathlib.Omega.{arith}
 use lib.ListN.{length, get_or}
+use Rattle.std.proofs.Common.{Result, Ok, Err}
 use Rattle.family.specs.Family.{Family, top, mk, largest_item}
 use Rattle.family.specs.Book.{at, place, made, Grown}
 use Rattle.family.proofs.Books.{grown_at, grown_length}
@@ -15,7 +16,8 @@ use Rattle.store.specs.declared.record.Refusal.{Refusal}
 use Rattle.store.specs.Operations.{named}
 use Rattle.store.specs.Cache.{Truth, True}
 use Rattle.store_node.specs.Inner.{NodeAsks, NodeIt}
-use Rattle.store.specs.Inner.{Reply, Handle, Refused, Fill, Reached, Holds, Handed, Outcome, Kept, Ran, Roomy}
+use Rattle.store.specs.declared.record.Fill.{Fill}
+use Rattle.store.specs.Inner.{Reached, Holds, Handed, Outcome, Kept, Ran, Roomy}
 use Rattle.store.proofs.Held.{inside}
 use Rattle.store.proofs.Growing.{kept_trans, kept_roomy}
 use Rattle.store.proofs.Answers.{not_both, handed_of, refused_on, by_answer}
@@ -64,7 +66,7 @@ truth_of {B = B} {h = h} call k t H G =
 module _ (call below above : Call) (level : ℕ) {least : ℕ} (s : Fill) (nodes lookup cache : List ℕ) (K : Split least call below above level s.count nodes lookup)
     {m₁ : Reached} {nodes₁ lookup₁ cache₁ : List ℕ} (R : Ran least (of below) s nodes lookup cache m₁ nodes₁ lookup₁ cache₁) where
   -- the first result refused
-  pub step_first : (x : Refusal) → m₁.answer ≡ Refused x → Ran least (of call) s nodes lookup cache m₁ nodes₁ lookup₁ cache₁
+  pub step_first : (x : Refusal) → m₁.answer ≡ Err x → Ran least (of call) s nodes lookup cache m₁ nodes₁ lookup₁ cache₁
   step_first x e =
       record {
         kept = R.kept;
@@ -75,7 +77,7 @@ module _ (call below above : Call) (level : ℕ) {least : ℕ} (s : Fill) (nodes
         cached = λ B l H t h d. not_both h x d e;
       }
 
-  module _ (z : ℕ) (ez : m₁.answer ≡ Handle z) {m₂ : Reached} {nodes₂ lookup₂ cache₂ : List ℕ} (S : Ran least (of above) m₁.store nodes₁ lookup₁ cache₁ m₂ nodes₂ lookup₂ cache₂) where
+  module _ (z : ℕ) (ez : m₁.answer ≡ Ok z) {m₂ : Reached} {nodes₂ lookup₂ cache₂ : List ℕ} (S : Ran least (of above) m₁.store nodes₁ lookup₁ cache₁ m₂ nodes₂ lookup₂ cache₂) where
     module _ {limit : ℕ} {B : List Family} (l : least ≤ limit) (H : Holds limit B s.count nodes lookup) (t : True limit B cache) where
       given : Handed limit (place B (of below B)) (of below B) z m₁.store.count nodes₁ lookup₁
       given = handed_of ez (R.sound B l H t)
@@ -86,7 +88,7 @@ module _ (call below above : Call) (level : ℕ) {least : ℕ} (s : Fill) (nodes
       second : Outcome limit (place (place B (of below B)) (of above B)) (of above B) s.capacity m₂.store.count nodes₂ lookup₂ m₂.answer
       second = rw (same, R.kept.same_capacity) at (S.sound (place B (of below B)) l given.holds (R.cached B l H t z ez))
 
-      second_cache : (o : ℕ) → m₂.answer ≡ Handle o → True limit (place (place B (of below B)) (of above B)) cache₂
+      second_cache : (o : ℕ) → m₂.answer ≡ Ok o → True limit (place (place B (of below B)) (of above B)) cache₂
       second_cache o e = rw same at (S.cached (place B (of below B)) l given.holds (R.cached B l H t z ez) o e)
 
       -- the zero side, in the book after both
@@ -103,7 +105,7 @@ module _ (call below above : Call) (level : ℕ) {least : ℕ} (s : Fill) (nodes
     chained = kept_trans R.kept S.kept
 
     -- the second result refused
-    pub step_second : (x : Refusal) → m₂.answer ≡ Refused x → Ran least (of call) s nodes lookup cache m₂ nodes₂ lookup₂ cache₂
+    pub step_second : (x : Refusal) → m₂.answer ≡ Err x → Ran least (of call) s nodes lookup cache m₂ nodes₂ lookup₂ cache₂
     step_second x e =
         record {
           kept = chained;
@@ -115,7 +117,7 @@ module _ (call below above : Call) (level : ℕ) {least : ℕ} (s : Fill) (nodes
         }
 
     -- both given: the node
-    module _ (o : ℕ) (eo : m₂.answer ≡ Handle o) {r : Reached} {nodes₃ lookup₃ cache₃ : List ℕ} (N : NodeIt m₂.store nodes₂ lookup₂ level z o r nodes₃ lookup₃)
+    module _ (o : ℕ) (eo : m₂.answer ≡ Ok o) {r : Reached} {nodes₃ lookup₃ cache₃ : List ℕ} (N : NodeIt m₂.store nodes₂ lookup₂ level z o r nodes₃ lookup₃)
         (M : RememberedAnswer cache₂ call r.answer cache₃) where
       third : {limit : ℕ} {B : List Family} → least ≤ limit → Holds limit B s.count nodes lookup → True limit B cache → Outcome limit (place B (of call B)) (of call B) s.capacity r.store.count nodes₃ lookup₃ r.answer
       third {B = B} l H t =
@@ -135,17 +137,17 @@ module _ (call below above : Call) (level : ℕ) {least : ℕ} (s : Fill) (nodes
             cached = λ B l H t h e. true_remembered (true_grown (whole_grown l H t) (second_cache l H t o eo)) (truth_of call l K.taken H (handed_of e (third l H t))) (M.gave h e);
           }
         where
-          lasts : (a : Reply) → RememberedAnswer cache₂ call a cache₃ → length cache₃ ≡ length cache₂
-          lasts (Handle h) M = (M.gave h refl).long
-          lasts (Refused x) M = ap length (M.refused x refl)
+          lasts : (a : Result ℕ Refusal) → RememberedAnswer cache₂ call a cache₃ → length cache₃ ≡ length cache₂
+          lasts (Ok h) M = (M.gave h refl).long
+          lasts (Err x) M = ap length (M.refused x refl)
 
           stays : (k : ℕ) → length cache₂ / 4 * 4 ≤ k → get_or cache₃ k 0 ≡ get_or cache₂ k 0
           stays k l = by_answer r.answer (λ h e. (M.gave h e).rest k l) (λ x e. ap (λ X. get_or X k 0) (M.refused x e))
 
 -- what Getnode asks, after two results: the zero side and the one side
 pub node_asks : {least : ℕ} {F G : List Family → Family} {s : Fill} {nodes lookup cache : List ℕ} {first second : Reached} {nodes₁ lookup₁ cache₁ nodes₂ lookup₂ cache₂ : List ℕ} {level z o : ℕ}
-    → Roomy s nodes lookup → Ran least F s nodes lookup cache first nodes₁ lookup₁ cache₁ → first.answer ≡ Handle z → Ran least G first.store nodes₁ lookup₁ cache₁ second nodes₂ lookup₂ cache₂
-    → second.answer ≡ Handle o → 1 ≤ level → level ≤ largest_item → NodeAsks second.store nodes₂ lookup₂ level z o
+    → Roomy s nodes lookup → Ran least F s nodes lookup cache first nodes₁ lookup₁ cache₁ → first.answer ≡ Ok z → Ran least G first.store nodes₁ lookup₁ cache₁ second nodes₂ lookup₂ cache₂
+    → second.answer ≡ Ok o → 1 ≤ level → level ≤ largest_item → NodeAsks second.store nodes₂ lookup₂ level z o
 node_asks R L e M d some low =
     record {
       roomy = kept_roomy (kept_trans L.kept M.kept) R;

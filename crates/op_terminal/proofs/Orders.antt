@@ -1,16 +1,40 @@
 -- The order of operands and the terminal cases: what `ordered` and `shortcut` answer names the same family.
 -- Each case is one law of the operations on families.
 use Prim.Native.Nat.{◌≤◌}
+use native.Mathlib.Omega.{arith}
 use mathlib.Core.Path.{◌≡◌, refl, sym, ap, ◌∙◌}
 use mathlib.Core.Logic.{inl, inr}
 use Rattle.family.specs.Operation.{combine}
 use Rattle.family.specs.Book.{at}
 use Rattle.store.specs.Operations.{rule}
 use Rattle.op_cache.specs.declared.Call.{Call}
-use Rattle.op_terminal.specs.Inner.{FamilyOperation, OrderedAs, Shortcut}
+use Rattle.op_terminal.specs.declared.families.SetOperation.{SetOperation}
+use Rattle.op_terminal.specs.declared.families.SetOperation.TheVariants.{Union, Intsec, Diff}
+use Rattle.op_terminal.specs.Inner.{OnFamilies, set_number, OrderedAs, Shortcut}
 use Rattle.store.proofs.Naming.{named_families, families_swap, both_same, both_none, first_union, first_none, second_none, second_same}
 
-module _ (call : Call) (O : FamilyOperation call.op) where
+pub on_families : (op : SetOperation) → OnFamilies (set_number op)
+on_families Union = record { some = omega arith; low = omega arith }
+on_families Intsec = record { some = omega arith; low = omega arith }
+on_families Diff = record { some = omega arith; low = omega arith }
+
+-- each number is one operation's
+pub four : (op : SetOperation) → set_number op ≡ 4 → op ≡ Union
+four Union e = refl
+four Intsec e = absurd (omega arith)
+four Diff e = absurd (omega arith)
+
+pub five : (op : SetOperation) → set_number op ≡ 5 → op ≡ Intsec
+five Union e = absurd (omega arith)
+five Intsec e = refl
+five Diff e = absurd (omega arith)
+
+pub six : (op : SetOperation) → set_number op ≡ 6 → op ≡ Diff
+six Union e = absurd (omega arith)
+six Intsec e = absurd (omega arith)
+six Diff e = refl
+
+module _ (call : Call) (O : OnFamilies call.op) where
   l : 4 ≤ call.op
   l = O.some
 

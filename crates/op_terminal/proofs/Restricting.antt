@@ -7,19 +7,27 @@ use mathlib.Core.List.{List}
 use native.Mathlib.Omega.{arith}
 use Rattle.family.specs.Family.{Family, top}
 use Rattle.family.specs.Book.{at}
-use Rattle.store.specs.Coded.{reached_as}
+use Rattle.std.proofs.Common.{Ok}
 use Rattle.store.specs.Words.{top_at}
 use Rattle.store.specs.Operations.{restrict, named}
 use Rattle.store_node.specs.Inner.{NodeIt}
-use Rattle.store.specs.Inner.{Fill, Reached, Holds, RanPlain}
+use Rattle.store.specs.declared.record.Fill.{Fill}
+use Rattle.store.specs.Inner.{reached, Reached, Holds, RanPlain}
 use Rattle.store_sides.specs.Inner.{Halves}
 use Rattle.store_sides.proofs.Splitting.{low_now, halves_below}
 use Rattle.store.proofs.Held.{top_at_lem}
 use Rattle.op_cache.specs.declared.Call.{Call}
-use Rattle.op_terminal.specs.Inner.{ItemCall}
+use Rattle.op_terminal.specs.declared.items.ItemOperation.{ItemOperation}
+use Rattle.op_terminal.specs.declared.items.ItemOperation.TheVariants.{Subset1, Subset0, Change}
+use Rattle.op_terminal.specs.Inner.{OnItem, item_number, ItemCall}
 use Rattle.store.proofs.Naming.{named_item, side_subset1, side_subset0, side_change}
 use Rattle.store_node.proofs.OneNode.{plain_node}
-use Rattle.store.proofs.Plain.{plain_coded}
+use Rattle.store.proofs.Plain.{plain_held}
+
+pub on_item : (op : ItemOperation) → OnItem (item_number op)
+on_item Subset1 = record { some = omega arith; low = omega arith }
+on_item Subset0 = record { some = omega arith; low = omega arith }
+on_item Change = record { some = omega arith; low = omega arith }
 
 module _ (call : Call) (s : Fill) (nodes lookup : List ℕ) (I : ItemCall call s nodes lookup) where
   abbrev F : List Family → Family
@@ -33,13 +41,13 @@ module _ (call : Call) (s : Fill) (nodes lookup : List ℕ) (I : ItemCall call s
     low : {limit : ℕ} {B : List Family} → Holds limit B s.count nodes lookup → top (at B call.p) ≤ call.q
     low H = omega (arith, top_at_lem H call.p (omega arith))
 
-    pub leaf_one : call.op ≡ 1 → RanPlain call.q (λ B. named call.op B call.p call.q) s nodes lookup (reached_as s.capacity s.count o) nodes lookup
+    pub leaf_one : call.op ≡ 1 → RanPlain call.q (λ B. named call.op B call.p call.q) s nodes lookup (reached s (Ok o)) nodes lookup
     leaf_one e =
-        plain_coded call.q F s nodes lookup I.roomy o T.one_within (λ l B H. T.holds B lookup H ∙ sym (item B ∙ side_subset1 call.op call.q (at B call.p) (low H) e))
+        plain_held call.q F s nodes lookup I.roomy o T.one_within (λ l B H. T.holds B lookup H ∙ sym (item B ∙ side_subset1 call.op call.q (at B call.p) (low H) e))
 
-    pub leaf_zero : call.op ≡ 2 → RanPlain call.q (λ B. named call.op B call.p call.q) s nodes lookup (reached_as s.capacity s.count z) nodes lookup
+    pub leaf_zero : call.op ≡ 2 → RanPlain call.q (λ B. named call.op B call.p call.q) s nodes lookup (reached s (Ok z)) nodes lookup
     leaf_zero e =
-        plain_coded call.q F s nodes lookup I.roomy z T.zero_within (λ l B H. T.lacks B lookup H ∙ sym (item B ∙ side_subset0 call.op call.q (at B call.p) (low H) e))
+        plain_held call.q F s nodes lookup I.roomy z T.zero_within (λ l B H. T.lacks B lookup H ∙ sym (item B ∙ side_subset0 call.op call.q (at B call.p) (low H) e))
 
     pub leaf_node : (r : Reached) {nodes' lookup' : List ℕ} → (call.op ≡ 1 → ⊥) → (call.op ≡ 2 → ⊥) → NodeIt s nodes lookup call.q o z r nodes' lookup'
         → RanPlain call.q (λ B. named call.op B call.p call.q) s nodes lookup r nodes' lookup'
@@ -56,8 +64,8 @@ module _ (call : Call) (s : Fill) (nodes lookup : List ℕ) (I : ItemCall call s
     sides : Halves nodes s.count call.p call.q call.p 0
     sides = halves_below nodes s.count call.p call.q I.held I.item_some above
 
-    pub above_none : call.op ≡ 1 → RanPlain call.q (λ B. named call.op B call.p call.q) s nodes lookup (reached_as s.capacity s.count 0) nodes lookup
+    pub above_none : call.op ≡ 1 → RanPlain call.q (λ B. named call.op B call.p call.q) s nodes lookup (reached s (Ok 0)) nodes lookup
     above_none e = leaf_one (omega arith) sides e
 
-    pub above_same : call.op ≡ 2 → RanPlain call.q (λ B. named call.op B call.p call.q) s nodes lookup (reached_as s.capacity s.count call.p) nodes lookup
+    pub above_same : call.op ≡ 2 → RanPlain call.q (λ B. named call.op B call.p call.q) s nodes lookup (reached s (Ok call.p)) nodes lookup
     above_same e = leaf_zero (omega arith) sides e

@@ -1,23 +1,37 @@
 -- What the terminal cases ask and promise. A reader of the promises can pass this page over.
-use Rattle.std.specs.Prelude.{ℕ, ◌+◌, ◌≤◌, ◌≡◌, ◌⊎◌, List}
+use Rattle.std.specs.Prelude.{ℕ, ◌+◌, ◌≤◌, ◌≡◌, ◌⊎◌, List, Option, Some, None}
 use Rattle.family.specs.Book.{at}
 use Rattle.family.specs.Family.{Family, empty, Ordered, largest_item}
 use Rattle.store.specs.Operations.{named}
 use Rattle.store.specs.Words.{top_at}
-use Rattle.store.specs.Inner.{Fill, Roomy}
+use Rattle.store.specs.declared.record.Fill.{Fill}
+use Rattle.store.specs.Inner.{Roomy}
 use Rattle.op_cache.specs.declared.Call.{Call}
-use Rattle.op_cache.specs.declared.Recalled.{Recalled}
-use Rattle.op_cache.specs.declared.Recalled.TheVariants.{Hit, Miss}
+use Rattle.op_terminal.specs.declared.items.ItemOperation.{ItemOperation}
+use Rattle.op_terminal.specs.declared.items.ItemOperation.TheVariants.{Subset1, Subset0, Change}
+use Rattle.op_terminal.specs.declared.families.SetOperation.{SetOperation}
+use Rattle.op_terminal.specs.declared.families.SetOperation.TheVariants.{Union, Intsec, Diff}
 
--- an operation on a family and an item
-pub record ItemOperation (op : ℕ) : Type 0 where
+-- the numbers of the operations
+abbrev pub item_number : ItemOperation → ℕ
+item_number Subset1 = 1
+item_number Subset0 = 2
+item_number Change = 3
+
+abbrev pub set_number : SetOperation → ℕ
+set_number Union = 4
+set_number Intsec = 5
+set_number Diff = 6
+
+-- the number of an operation on a family and an item
+pub record OnItem (op : ℕ) : Type 0 where
   pub some : 1 ≤ op
   pub low : op ≤ 3
 
 -- such a call on words that fit: a handle held, and an item
 pub record ItemCall (call : Call) (s : Fill) (nodes lookup : List ℕ) : Type 0 where
   pub roomy : Roomy s nodes lookup
-  pub operation : ItemOperation call.op
+  pub operation : OnItem call.op
   pub held : call.p ≤ s.count + 1
   pub item_some : 1 ≤ call.q
   pub item_low : call.q ≤ largest_item
@@ -28,8 +42,8 @@ pub record LeafAsks (call : Call) (level : ℕ) (s : Fill) (nodes lookup : List 
   pub level_is : level ≡ top_at nodes call.p
   pub not_below : level ≤ call.q
 
--- an operation on two families
-pub record FamilyOperation (op : ℕ) : Type 0 where
+-- the number of an operation on two families
+pub record OnFamilies (op : ℕ) : Type 0 where
   pub some : 4 ≤ op
   pub low : op ≤ 6
 
@@ -51,6 +65,6 @@ pub record Proper (call : Call) : Type 0 where
   pub second : call.q ≡ 0 → ⊥
 
 -- a terminal case with its result, or none
-pub data ShortcutOf (call : Call) : Recalled → Type 0 where
-  known : {h : ℕ} → Shortcut call h → ShortcutOf call (Hit h)
-  unknown : Proper call → ShortcutOf call Miss
+pub data ShortcutOf (call : Call) : Option ℕ → Type 0 where
+  known : {h : ℕ} → Shortcut call h → ShortcutOf call (Some h)
+  unknown : Proper call → ShortcutOf call None

@@ -1,48 +1,60 @@
-// Union (4), Intsec (5) and Diff (6): the order of the operands, and the cases that need no recursion.
-ghost use Rattle.op_terminal.specs.Inner.{FamilyOperation, OrderedAs, ShortcutOf};
+// Union, Intsec and Diff: the order of the operands, and the cases that need no recursion.
+ghost use Rattle.std.specs.Prelude.{◌≡◌};
+ghost use Rattle.op_cache.specs.Inner.{call_of};
+ghost use Rattle.op_terminal.specs.Inner.{set_number, OrderedAs, ShortcutOf};
 
-use op_cache::{Call, Recalled};
+// The operations on two families.
+#[derive(Clone, Copy)]
+pub enum SetOperation {
+    Union,
+    Intsec,
+    Diff,
+}
+
+impl SetOperation {
+    // Its number, as the cache has it.
+    pub fn number(self) -> u32
+        ensures { result ≡ set_number self }
+    {
+        match self {
+            SetOperation::Union => 4,
+            SetOperation::Intsec => 5,
+            SetOperation::Diff => 6,
+        }
+    }
+}
 
 // The operands of Union and Intsec in rising order: one group of the cache serves both orders.
-pub fn ordered(call: Call) -> Call
-    requires { FamilyOperation call.op }
-    ensures { OrderedAs call result }
+pub fn ordered(op: SetOperation, p: u32, q: u32) -> (u32, u32)
+    ensures { OrderedAs (call_of (set_number op) p q) (call_of (set_number op) result.0 result.1) }
 {
-    if call.op == 6 {
-        return call;
-    }
-    if call.p <= call.q {
-        return call;
-    }
-    Call {
-        op: call.op,
-        p: call.q,
-        q: call.p,
+    match op {
+        SetOperation::Diff => (p, q),
+        _ => if p <= q { (p, q) } else { (q, p) },
     }
 }
 
 // Document 001's terminal cases: the result where a family is {} or both are the same.
-pub fn shortcut(call: Call) -> Recalled
-    requires { FamilyOperation call.op }
-    ensures { ShortcutOf call result }
+pub fn shortcut(op: SetOperation, p: u32, q: u32) -> Option<u32>
+    ensures { ShortcutOf (call_of (set_number op) p q) result }
 {
-    if call.p == call.q {
-        if call.op == 6 {
-            return Recalled::Hit(0);
-        }
-        return Recalled::Hit(call.p);
+    if p == q {
+        return match op {
+            SetOperation::Diff => Some(0),
+            _ => Some(p),
+        };
     }
-    if call.p == 0 {
-        if call.op == 4 {
-            return Recalled::Hit(call.q);
-        }
-        return Recalled::Hit(0);
+    if p == 0 {
+        return match op {
+            SetOperation::Union => Some(q),
+            _ => Some(0),
+        };
     }
-    if call.q == 0 {
-        if call.op == 5 {
-            return Recalled::Hit(0);
-        }
-        return Recalled::Hit(call.p);
+    if q == 0 {
+        return match op {
+            SetOperation::Intsec => Some(0),
+            _ => Some(p),
+        };
     }
-    Recalled::Miss
+    None
 }

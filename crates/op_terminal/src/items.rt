@@ -1,37 +1,55 @@
-// Subset1 (1), Subset0 (2) and Change (3) by an item that is not below the top.
-ghost use Rattle.op_terminal.specs.Inner.{LeafAsks};
+// Subset1, Subset0 and Change by an item that is not below the top.
+ghost use Rattle.std.specs.Prelude.{◌≡◌};
+ghost use Rattle.op_terminal.specs.Inner.{item_number, LeafAsks};
 ghost use Rattle.op_cache.specs.Inner.{call_of};
-ghost use Rattle.store.specs.Coded.{reached_as};
 ghost use Rattle.store.specs.Operations.{named};
-ghost use Rattle.store.specs.Inner.{fill_of, RanPlain};
+ghost use Rattle.store.specs.Inner.{reached, RanPlain};
 
-use store::coded::DAMAGED;
+use store::record::{Fill, Refusal};
 use store_node::getnode::node_of;
 use store_sides::{Cofactors, cofactors_at};
+
+// The operations on a family and an item.
+#[derive(Clone, Copy)]
+pub enum ItemOperation {
+    Subset1,
+    Subset0,
+    Change,
+}
+
+impl ItemOperation {
+    // Its number, as the cache has it.
+    pub fn number(self) -> u32
+        ensures { result ≡ item_number self }
+    {
+        match self {
+            ItemOperation::Subset1 => 1,
+            ItemOperation::Subset0 => 2,
+            ItemOperation::Change => 3,
+        }
+    }
+}
 
 // A family whose top, the level, is not above the item: its two sides at the item are the results of Subset0 and
 // Subset1, and Change swaps them.
 pub fn leaf(
-    op: u32,
+    op: ItemOperation,
     p: u32,
     item: u32,
     level: u32,
-    capacity: u32,
-    count: &mut u32,
+    fill: &mut Fill,
     nodes: &mut [u32],
     lookup: &mut [u32],
-) -> u32
-    requires { LeafAsks (call_of op p item) level (fill_of capacity count.old) nodes.old lookup.old }
-    ensures { RanPlain item (λ B. named op B p item) (fill_of capacity count.old) nodes.old lookup.old (reached_as capacity count.new result) nodes.new lookup.new }
+) -> Result<u32, Refusal>
+    requires { LeafAsks (call_of (item_number op) p item) level fill.old nodes.old lookup.old }
+    ensures { RanPlain item (λ B. named (item_number op) B p item) fill.old nodes.old lookup.old (reached fill.new result) nodes.new lookup.new }
 {
-    let Cofactors::Two { zero, one } = cofactors_at(nodes, *count, p, level, item) else {
-        return DAMAGED;
+    let Some(Cofactors { zero, one }) = cofactors_at(nodes, fill.count, p, level, item) else {
+        return Err(Refusal::Damaged);
     };
-    if op == 1 {
-        return one;
+    match op {
+        ItemOperation::Subset1 => Ok(one),
+        ItemOperation::Subset0 => Ok(zero),
+        ItemOperation::Change => node_of(fill, nodes, lookup, item, one, zero),
     }
-    if op == 2 {
-        return zero;
-    }
-    node_of(capacity, count, nodes, lookup, item, one, zero)
 }

@@ -1,8 +1,9 @@
 -- Chains of places, and the search along the chain of a handle.
 -- A chain goes down from place to place, so that one step along it comes nearer and places above it do not matter.
-use Prim.Native.Nat.{ℕ, suc, ◌-◌, ◌%◌, ◌≤◌, ◌<◌}
+use Prim.Native.Nat.{ℕ, suc, ◌+◌, ◌-◌, ◌%◌, ◌≤◌, ◌<◌}
 use mathlib.Core.Path.{◌≡◌, refl, sym, ap, ◌∙◌}
 use mathlib.Core.List.{List}
+use Rattle.std.specs.Prelude.{None, Some}
 use native.Mathlib.Omega.{arith}
 use native.Mathlib.Nat.{mod-lt}
 use Rattle.query_parts.specs.Inner.{handle_at, next_at, head_at, Leads, here, on, Table, Found}
@@ -36,27 +37,32 @@ module _ (words : List ℕ) (places handle at : ℕ) where
         leads = λ n T k l d. rw e (rw d at (T.leads k l));
       }
 
-  pub sought_none : Sought words places handle at → at ≡ 0 → Found words places handle 0
-  sought_none S e =
-      record {
-        among = λ n T. record { none = λ z k l d. leads_none (S.leads n T k l d) e (omega arith); low = omega arith; is = λ l. absurd (omega arith) };
-      }
+  pub sought_none : Sought words places handle at → at ≡ 0 → Found words places handle None
+  sought_none S e = record { among = λ n T. record { none = λ z k l d. leads_none (S.leads n T k l d) e (omega arith); some = λ k q. cc } }
 
-  module _ (S : Sought words places handle at) (some : at ≡ 0 → ⊥) where
+  -- the place that the link leads to, and the handle h that stands there
+  module _ (S : Sought words places handle at) (place h : ℕ) (leads : at ≡ place + 1) (is : h ≡ handle_at words place) where
     -- the place before is lower
-    pub sought_falls : (n : ℕ) → Table places n words → next_at words (at - 1) < at
-    sought_falls n T = omega (arith, T.links (at - 1) (omega (arith, S.low n T)))
+    pub sought_falls : (n : ℕ) → Table places n words → next_at words place < at
+    sought_falls n T = omega (arith, T.links place (omega (arith, S.low n T)))
 
-    -- h is the handle that stands at the place
-    module _ (h : ℕ) (is : h ≡ handle_at words (at - 1)) where
-      pub sought_here : h ≡ handle → Found words places handle at
-      sought_here e = record { among = λ n T. record { none = λ z. absurd (some z); low = S.low n T; is = λ l. sym is ∙ e } }
+    pub sought_here : h ≡ handle → Found words places handle (Some place)
+    sought_here e =
+        record {
+          among = λ n T. record {
+            none = λ z. cc;
+            some = λ k q.
+                let same : k ≡ place = cc in
+                (omega (arith, S.low n T), ap (λ j. handle_at words j) same ∙ sym is ∙ e);
+          };
+        }
 
-      pub sought_on : (h ≡ handle → ⊥) → (at' : ℕ) → at' ≡ next_at words (at - 1) → Sought words places handle at'
-      sought_on d at' e =
-          record {
-            low = λ n T. omega (arith, S.low n T, sought_falls n T);
-            leads = λ n T k l same.
-                let apart : at ≡ suc k → ⊥ = λ q. d (is ∙ ap (λ j. handle_at words j) (omega arith) ∙ same) in
-                rw e (leads_on (S.leads n T k l same) (omega arith) apart);
-          }
+    pub sought_on : (h ≡ handle → ⊥) → (at' : ℕ) → at' ≡ next_at words place → Sought words places handle at'
+    sought_on d at' e =
+        record {
+          low = λ n T. omega (arith, S.low n T, sought_falls n T);
+          leads = λ n T k l same.
+              let apart : at ≡ suc k → ⊥ = λ q. d (is ∙ ap (λ j. handle_at words j) (omega arith) ∙ same) in
+              let before : at - 1 ≡ place = omega arith in
+              rw (e, ← before) (leads_on (S.leads n T k l same) (omega arith) apart);
+        }

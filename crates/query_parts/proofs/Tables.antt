@@ -1,4 +1,4 @@
--- Tables: an empty one, and one with a handle more, whose chains lead to every handle again.
+-- A table with a handle more, whose chains lead to every handle again.
 -- The new place is the head of its chain and leads on to the old head; no old chain goes through it.
 use Prim.Native.Nat.{ℕ, suc, ◌+◌, ◌%◌, ◌<◌}
 use mathlib.Core.Path.{◌≡◌, ap, ◌∙◌}
@@ -8,29 +8,9 @@ use native.Mathlib.Nat.{mod-lt}
 use native.Mathlib.Numerals.{add-one}
 use lib.ListN.{length, get_or, set, length-set}
 use lib.Seq.{get_or-set_same, get_or-set_other}
-use Rattle.words.specs.Words.{zeroed}
-use Rattle.words.proofs.Zeroed.{zeroed_length, zeroed_inside}
 use Rattle.words.proofs.Cases.{by_eq}
-use Rattle.query_parts.specs.Inner.{handle_in, next_in, head_in, handle_at, next_at, head_at, Linked, Headed, Leads, here, on, Table, ClearAsks, Cleared, EnterAsks, Entered}
+use Rattle.query_parts.specs.Inner.{handle_in, next_in, head_in, handle_at, next_at, head_at, Linked, Headed, Leads, here, on, Table, EnterAsks, Entered}
 use Rattle.query_parts.proofs.Chains.{leads_same}
-
--- a table whose tags are all 0
-pub cleared : (words : List ℕ) (places : ℕ) → ClearAsks words places → Cleared places words (zeroed 0 places words)
-cleared words places asks =
-    record {
-      long = same;
-      table = record {
-        long = omega (arith, same, asks.long);
-        few = omega arith;
-        small = asks.small;
-        heads = λ k l. rw (zeroed_inside 0 places words (omega arith) (omega (arith, asks.long)) k (omega arith) l) (omega arith);
-        links = λ e l. absurd (omega arith);
-        leads = λ e l. absurd (omega arith);
-      };
-    }
-  where
-    same : length (zeroed 0 places words) ≡ length words
-    same = zeroed_length 0 places words (omega arith) (omega (arith, asks.long))
 
 -- the tags of a table after its new place is linked and is the head of its chain
 record Chained (places n handle : ℕ) (words words' : List ℕ) : Type 0 where

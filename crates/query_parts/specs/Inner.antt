@@ -1,6 +1,6 @@
 -- The table of parts, and what its functions promise each other and their callers. A reader of the promise can pass this
 -- page over.
-use Rattle.std.specs.Prelude.{ℕ, suc, ◌+◌, ◌*◌, ◌-◌, ◌/◌, ◌%◌, ◌≤◌, ◌<◌, ◌≡◌, List, length, get_or}
+use Rattle.std.specs.Prelude.{ℕ, suc, ◌+◌, ◌*◌, ◌/◌, ◌%◌, ◌≤◌, ◌<◌, ◌≡◌, List, length, get_or, Option, None, Some}
 
 -- the three numbers of a tag: a handle, a place before it in its chain, and the head of a chain
 abbrev pub handle_in : ℕ → ℕ
@@ -11,6 +11,11 @@ next_in tag = tag / 1048576 % 1048576
 
 abbrev pub head_in : ℕ → ℕ
 head_in tag = tag / 1099511627776
+
+-- a link to a place, which counts from 1, or to none
+abbrev pub link_to : Option ℕ → ℕ
+link_to None = 0
+link_to (Some place) = place + 1
 
 -- numbers that fit a tag
 pub record LinkAsks (handle next : ℕ) : Type 0 where
@@ -74,13 +79,12 @@ pub record FindAsks (words : List ℕ) (places : ℕ) : Type 0 where
   pub table : Table places entered words
 
 -- where the handle stands in a table of n, if it does
-pub record FoundAmong (n : ℕ) (words : List ℕ) (handle r : ℕ) : Type 0 where
-  pub none : r ≡ 0 → (e : ℕ) → e < n → handle_at words e ≡ handle → ⊥
-  pub low : r ≤ n
-  pub is : 0 < r → handle_at words (r - 1) ≡ handle
+pub record FoundAmong (n : ℕ) (words : List ℕ) (handle : ℕ) (r : Option ℕ) : Type 0 where
+  pub none : r ≡ None → (e : ℕ) → e < n → handle_at words e ≡ handle → ⊥
+  pub some : (e : ℕ) → r ≡ Some e → (e < n) × (handle_at words e ≡ handle)
 
 -- the same, however many it has
-pub record Found (words : List ℕ) (places handle r : ℕ) : Type 0 where
+pub record Found (words : List ℕ) (places handle : ℕ) (r : Option ℕ) : Type 0 where
   pub among : (n : ℕ) → Table places n words → FoundAmong n words handle r
 
 -- a table with a place left, and a handle that fits a tag

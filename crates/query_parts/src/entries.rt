@@ -1,57 +1,65 @@
 // The table: as many places as there are tags, and as many sizes behind them. A chain starts at the handle modulo the
 // places: handles of one family mostly stand side by side.
-ghost use Rattle.std.specs.Prelude.{◌≡◌, ◌≤◌, length};
-ghost use Rattle.words.specs.Words.{zeroed};
+ghost use Rattle.std.specs.Prelude.{◌≡◌, ◌+◌, ◌/◌, min};
 ghost use Rattle.query_parts.specs.Inner.{ClearAsks, Cleared, FindAsks, Found, EnterAsks, Entered};
 
 use crate::tag::{handle_of, head_of, headed, linked, next_of};
 
-// Sets so many words to 0.
-pub fn blank(words: &mut [u64], number: u32)
-    requires { number ≤ length words.old }
-    ensures { words.new ≡ zeroed 0 number words.old }
+// How many places the table has in so many words. No family has more parts than there are nodes.
+pub fn places_in(words: usize, count: u32) -> u32
+    ensures { result ≡ min (words / 2) count }
 {
-    let mut k: u32 = 0;
-    while k < number {
-        words[k as usize] = 0;
-        k = k + 1;
-    }
+    (words / 2).min(count as usize) as u32
 }
 
-// Empties a table of so many places.
-pub fn clear(table: &mut [u64], places: u32)
-    requires { ClearAsks table.old places }
-    ensures { Cleared places table.old table.new }
-{
-    blank(table, places);
+// A table in lent words: how many places it has, and how many parts were entered.
+#[derive(Drop)]
+pub struct Parts<'a> {
+    pub words: &'a mut [u64],
+    pub places: u32,
+    pub entered: u32,
 }
 
-// The place of a handle, counted from 1; 0 where it was not entered.
-pub fn find(table: &[u64], places: u32, handle: u32) -> u32
-    requires { FindAsks table.now places }
-    ensures { Found table.now places handle result }
-{
-    let mut at = head_of(table[(handle % places) as usize]);
-    loop {
-        if at == 0 {
-            break 0;
+impl<'a> Parts<'a> {
+    // An empty table of so many places.
+    pub fn new(words: &'a mut [u64], places: u32) -> Parts<'a>
+        requires { ClearAsks words.old places }
+        ensures { Cleared places words.old result.words.now × (result.places ≡ places) × (result.entered ≡ 0) }
+    {
+        words[..places as usize].fill(0);
+        Parts {
+            words,
+            places,
+            entered: 0,
         }
-        let tag = table[(at - 1) as usize];
-        if handle_of(tag) == handle {
-            break at;
-        }
-        at = next_of(tag);
     }
-}
 
-// Enters a handle with its size behind so many others, as the head of its chain.
-pub fn enter(table: &mut [u64], places: u32, entered: u32, handle: u32, size: u64)
-    requires { EnterAsks table.old places entered handle }
-    ensures { Entered places entered handle size table.old table.new }
-{
-    let place = entered as usize;
-    let start = (handle % places) as usize;
-    table[place] = linked(table[place], handle, head_of(table[start]));
-    table[start] = headed(table[start], entered + 1);
-    table[places as usize + place] = size;
+    // The place of a handle, where it was entered.
+    pub fn find(&self, handle: u32) -> Option<u32>
+        requires { FindAsks self.now.words.now self.now.places }
+        ensures { Found self.now.words.now self.now.places handle result }
+    {
+        let mut chain = head_of(self.words[(handle % self.places) as usize]);
+        while let Some(place) = chain {
+            let tag = self.words[place as usize];
+            if handle_of(tag) == handle {
+                return Some(place);
+            }
+            chain = next_of(tag);
+        }
+        None
+    }
+
+    // Enters a handle with its size behind the others, as the head of its chain.
+    pub fn enter(&mut self, handle: u32, size: u64)
+        requires { EnterAsks self.old.words.now self.old.places self.old.entered handle }
+        ensures { Entered self.old.places self.old.entered handle size self.old.words.now self.new.words.now × (self.new.places ≡ self.old.places) × (self.new.entered ≡ self.old.entered + 1) }
+    {
+        let place = self.entered as usize;
+        let start = (handle % self.places) as usize;
+        self.words[place] = linked(self.words[place], handle, head_of(self.words[start]));
+        self.words[start] = headed(self.words[start], self.entered);
+        self.words[self.places as usize + place] = size;
+        self.entered += 1;
+    }
 }

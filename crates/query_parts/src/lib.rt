@@ -4,5 +4,4 @@
 #![tactic(auto)]
 
 pub mod entries;
-pub mod least;
 pub mod tag;

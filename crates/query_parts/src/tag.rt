@@ -1,7 +1,9 @@
-// A tag: the handle of the part at its place, the place before it in its chain, and the head of the chain that starts
-// there. Places count from 1 in chains; 0 ends one. Each of the three is below 2^20.
-ghost use Rattle.std.specs.Prelude.{◌≡◌, ◌<◌};
-ghost use Rattle.query_parts.specs.Inner.{handle_in, next_in, head_in, LinkAsks, Linked, Headed};
+// A tag: the handle of the part at its place, the link to the place before it in its chain, and the link to the head of
+// the chain that starts there. Each of the three numbers is below 2^20.
+// Kept: a link is a number in one lent word with two others (no heap, memory lent by the caller), so it counts places
+// from 1, and 0 ends a chain; the functions here give and take an Option.
+ghost use Rattle.std.specs.Prelude.{◌≡◌, ◌+◌, ◌<◌};
+ghost use Rattle.query_parts.specs.Inner.{handle_in, next_in, head_in, link_to, LinkAsks, Linked, Headed};
 
 // The handle.
 pub fn handle_of(tag: u64) -> u32
@@ -11,31 +13,35 @@ pub fn handle_of(tag: u64) -> u32
 }
 
 // The place before, in the same chain.
-pub fn next_of(tag: u64) -> u32
-    ensures { result ≡ next_in tag }
+pub fn next_of(tag: u64) -> Option<u32>
+    ensures { link_to result ≡ next_in tag }
 {
-    (tag / 1048576 % 1048576) as u32
+    ((tag / 1048576 % 1048576) as u32).checked_sub(1)
 }
 
 // The head of the chain that starts here.
-pub fn head_of(tag: u64) -> u32
-    ensures { result ≡ head_in tag }
+pub fn head_of(tag: u64) -> Option<u32>
+    ensures { link_to result ≡ head_in tag }
 {
-    (tag / 1099511627776) as u32
+    ((tag / 1099511627776) as u32).checked_sub(1)
 }
 
 // The tag with this handle and this place before it; the head stays.
-pub fn linked(tag: u64, handle: u32, next: u32) -> u64
-    requires { LinkAsks handle next }
-    ensures { Linked tag handle next result }
+pub fn linked(tag: u64, handle: u32, next: Option<u32>) -> u64
+    requires { LinkAsks handle (link_to next) }
+    ensures { Linked tag handle (link_to next) result }
 {
-    tag / 1099511627776 * 1099511627776 + next as u64 * 1048576 + handle as u64
+    let link = match next {
+        Some(place) => place + 1,
+        None => 0,
+    };
+    tag / 1099511627776 * 1099511627776 + link as u64 * 1048576 + handle as u64
 }
 
 // The tag with this head; the handle and the place before it stay.
 pub fn headed(tag: u64, head: u32) -> u64
-    requires { head < 1048576 }
-    ensures { Headed tag head result }
+    requires { head + 1 < 1048576 }
+    ensures { Headed tag (head + 1) result }
 {
-    tag % 1099511627776 + head as u64 * 1099511627776
+    tag % 1099511627776 + (head + 1) as u64 * 1099511627776
 }

@@ -11,8 +11,6 @@ use borrow.Author.Tests.{ne_eqb, le-ltb, ltb-false}
 use Rattle.family.specs.Family.{Family, size}
 use Rattle.family.specs.Book.{at}
 use Rattle.words.proofs.Cases.{clash}
-use Rattle.store.specs.declared.tests.Test.{Test}
-use Rattle.store.specs.declared.tests.Test.TheVariants.{Refuses}
 use Rattle.store.specs.declared.record.Refusal.{Refusal}
 use Rattle.store.specs.declared.record.Store.{Store}
 use Rattle.store.specs.declared.record.Refusal.TheVariants.{Large}
@@ -20,8 +18,9 @@ use Rattle.store.specs.Words.{book_of, word_of}
 use Rattle.store.specs.Sound.{Sound}
 use Rattle.store.proofs.Decoding.{sound_holds}
 use Rattle.store.proofs.Calls.{refusal_some, sound_fits}
-use Rattle.query_size.specs.declared.SizeAnswer.TheVariants.{Members, Refused}
-use Rattle.query_size.specs.declared.Measured.{Measured}
+use Rattle.store.specs.declared.record.Answered.{Answered}
+use Rattle.std.specs.Bool.{⊤}
+use Rattle.std.proofs.Common.{Result, Ok, Err}
 use Rattle.words.specs.Words.{most}
 use Rattle.query_size.specs.Promise.{by_node, size_given_by, size_tests, size_refusal, size_answer, size_scratch, SizeCall}
 use Rattle.query_sizes.specs.Inner.{Filled, Exceeding}
@@ -36,22 +35,26 @@ module _ (s : Store) (nodes lookup : List ℕ) (p : ℕ) where
   abbrev B : List Family
   B = book_of nodes s.count
 
-  module _ (scratch : List ℕ) (r : Measured) (es : r.store ≡ s) where
+  module _ (scratch : List ℕ) (answer : Result ℕ Refusal) where
+    -- what the call gives back, the record as it came
+    abbrev r : Answered ℕ
+    r = record { store = s; answer = answer }
+
     tests_are : Sound s nodes lookup [] → size_tests by_node B p (length scratch) ≡ tests_of s.count p 0 0 (length scratch) s.count
     unfolding size_tests
     tests_are S = ap (λ k. tests_of k p 0 0 (length scratch) k) (count_is B (sound_holds S).size)
 
-    pub size_refused : {a : Test} → Found s (length nodes) (length lookup) p 0 0 (length scratch) s.count a → {x : Refusal} → a ≡ Refuses x → r.answer ≡ Refused x
+    pub size_refused : {a : Result ⊤ Refusal} → Found s (length nodes) (length lookup) p 0 0 (length scratch) s.count a → {x : Refusal} → a ≡ Err x → answer ≡ Err x
         → SizeCall s nodes lookup p scratch r scratch
     unfolding size_answer size_refusal size_scratch
     size_refused F {x} e ea =
         tested_refuses nodes lookup F e
-        (λ t d. record { misfit = λ q. (ea ∙ ap Refused d, refl); answer_is = λ S. clash (sound_fits S) t; scratch_is = λ S. clash (sound_fits S) t; store_is = es; long = refl })
+        (λ t d. record { misfit = λ q. (ea ∙ ap Err d, refl); answer_is = λ S. clash (sound_fits S) t; scratch_is = λ S. clash (sound_fits S) t; store_is = refl; long = refl })
         (λ t d. record {
           misfit = λ q. clash t q;
           answer_is = λ S. let n = ne_eqb (refusal_number x) 0 (refusal_some x) in ap size_given_by ea ∙ rw (tests_are S, ← d, n, n);
           scratch_is = λ S. rw (tests_are S, ← d, ne_eqb (refusal_number x) 0 (refusal_some x));
-          store_is = es;
+          store_is = refl;
           long = refl;
         })
 
@@ -67,7 +70,7 @@ module _ (s : Store) (nodes lookup : List ℕ) (p : ℕ) where
       word_is S = size_known (sound_holds S) scratch' s.count (F.each B lookup (sound_holds S)) p (omega (arith, P.passed.first))
 
       -- the size is above the largest number
-      pub size_large : (m : ℕ) → m ≡ word_of scratch' p → m ≡ most → {x : Bool} → Exceeding nodes scratch' s.count p x → x ≡ true → r.answer ≡ Refused Large
+      pub size_large : (m : ℕ) → m ≡ word_of scratch' p → m ≡ most → {x : Bool} → Exceeding nodes scratch' s.count p x → x ≡ true → answer ≡ Err Large
           → SizeCall s nodes lookup p scratch r scratch'
       unfolding size_answer size_refusal
       size_large m em most-is X ex ea =
@@ -76,12 +79,12 @@ module _ (s : Store) (nodes lookup : List ℕ) (p : ℕ) where
             answer_is = λ S. ap size_given_by ea
                 ∙ rw (tests_none S, ← X.is B lookup (sound_holds S) (F.each B lookup (sound_holds S)) (omega (arith, word_is S)), ex);
             scratch_is = filled;
-            store_is = es;
+            store_is = refl;
             long = F.long;
           }
 
       -- it is not: the word has it
-      size_told : (m : ℕ) → m ≡ word_of scratch' p → (Sound s nodes lookup [] → size (at B p) ≤ most) → r.answer ≡ Members m → SizeCall s nodes lookup p scratch r scratch'
+      size_told : (m : ℕ) → m ≡ word_of scratch' p → (Sound s nodes lookup [] → size (at B p) ≤ most) → answer ≡ Ok m → SizeCall s nodes lookup p scratch r scratch'
       unfolding size_answer size_refusal
       size_told m em few ea =
           record {
@@ -90,15 +93,15 @@ module _ (s : Store) (nodes lookup : List ℕ) (p : ℕ) where
                 let is : m ≡ size (at B p) = em ∙ word_is S ∙ omega (arith, few S) in
                 ap size_given_by ea ∙ rw (tests_none S, le-ltb most (size (at B p)) (few S), is);
             scratch_is = filled;
-            store_is = es;
+            store_is = refl;
             long = F.long;
           }
 
-      pub size_brim : (m : ℕ) → m ≡ word_of scratch' p → m ≡ most → {x : Bool} → Exceeding nodes scratch' s.count p x → x ≡ false → r.answer ≡ Members m
+      pub size_brim : (m : ℕ) → m ≡ word_of scratch' p → m ≡ most → {x : Bool} → Exceeding nodes scratch' s.count p x → x ≡ false → answer ≡ Ok m
           → SizeCall s nodes lookup p scratch r scratch'
       size_brim m em most-is X ex ea =
           size_told m em
           (λ S. ltb-false most (size (at B p)) (sym (X.is B lookup (sound_holds S) (F.each B lookup (sound_holds S)) (omega (arith, word_is S))) ∙ ex)) ea
 
-      pub size_below : (m : ℕ) → m ≡ word_of scratch' p → (m ≡ most → ⊥) → r.answer ≡ Members m → SizeCall s nodes lookup p scratch r scratch'
+      pub size_below : (m : ℕ) → m ≡ word_of scratch' p → (m ≡ most → ⊥) → answer ≡ Ok m → SizeCall s nodes lookup p scratch r scratch'
       size_below m em n ea = size_told m em (λ S. omega (arith, word_is S)) ea

@@ -1,19 +1,18 @@
 -- The promise of Size: document 01, 'Calls' and 'Numbers and trade words'; and what its two entries answer, the second
 -- one being that of document 02, No. 2.
-use Rattle.std.specs.Prelude.{ℕ, ◌*◌, ◌-◌, ◌≡◌, false, cond, List, [], ◌++◌, eqb, ltb, length, drop}
+use Rattle.std.specs.Prelude.{ℕ, ◌*◌, ◌-◌, ◌≡◌, false, cond, List, [], ◌++◌, eqb, ltb, length, drop, Result, Ok, Err}
 use Rattle.family.specs.Family.{Family, size}
 use Rattle.family.specs.Book.{at}
 use Rattle.family.specs.Parts.{part_count}
 use Rattle.store.specs.declared.record.Store.{Store}
+use Rattle.store.specs.declared.record.Answered.{Answered}
+use Rattle.store.specs.declared.record.Refusal.{Refusal}
 use Rattle.store.specs.declared.record.Refusal.TheVariants.{Damaged}
 use Rattle.store.specs.Capacity.{fitting}
 use Rattle.store.specs.Refusals.{refusal_number}
 use Rattle.store.specs.Tests.{tests_of}
 use Rattle.store.specs.Words.{book_of}
 use Rattle.store.specs.Sound.{Sound}
-use Rattle.query_size.specs.declared.SizeAnswer.{SizeAnswer}
-use Rattle.query_size.specs.declared.SizeAnswer.TheVariants.{Members, Refused}
-use Rattle.query_size.specs.declared.Measured.{Measured}
 use Rattle.words.specs.Words.{most}
 use Rattle.query_sizes.specs.NodeSizes.{sizes_of}
 
@@ -22,9 +21,9 @@ pub record SizeGiven : Type 0 where
   pub refusal : ℕ
   pub size : ℕ
 
-abbrev pub size_given_by : SizeAnswer → SizeGiven
-size_given_by (Members n) = record { refusal = 0; size = n }
-size_given_by (Refused r) = record { refusal = refusal_number r; size = 0 }
+abbrev pub size_given_by : Result ℕ Refusal → SizeGiven
+size_given_by (Ok n) = record { refusal = 0; size = n }
+size_given_by (Err r) = record { refusal = refusal_number r; size = 0 }
 
 -- "Size gets a second entry"; "Both entries remain": the first needs scratch by the nodes held, the second by the parts of
 -- the asked family
@@ -55,9 +54,9 @@ unfoldable pub size_scratch : List Family → ℕ → List ℕ → List ℕ
 size_scratch B p scratch = cond (eqb (size_tests by_node B p (length scratch)) 0) (sizes_of B ++ drop (length B - 2) scratch) scratch
 
 -- The first entry's promise. It changes no word but its scratch, and hands the record back as it came.
-pub record SizeCall (s : Store) (nodes lookup : List ℕ) (p : ℕ) (scratch : List ℕ) (r : Measured) (scratch' : List ℕ) : Type 0 where
+pub record SizeCall (s : Store) (nodes lookup : List ℕ) (p : ℕ) (scratch : List ℕ) (r : Answered ℕ) (scratch' : List ℕ) : Type 0 where
   -- a certain 10
-  pub misfit : fitting s (length nodes) (length lookup) ≡ false → (r.answer ≡ Refused Damaged) × (scratch' ≡ scratch)
+  pub misfit : fitting s (length nodes) (length lookup) ≡ false → (r.answer ≡ Err Damaged) × (scratch' ≡ scratch)
   -- a sound store; no cache is lent
   pub answer_is : Sound s nodes lookup [] → size_given_by r.answer ≡ size_answer by_node (book_of nodes s.count) p (length scratch)
   pub scratch_is : Sound s nodes lookup [] → scratch' ≡ size_scratch (book_of nodes s.count) p scratch

@@ -5,14 +5,14 @@ use mathlib.Core.Path.{◌≡◌, sym, ap, ◌∙◌}
 use mathlib.Core.List.{List, []}
 use lib.ListN.{length}
 use Rattle.store.specs.declared.record.Store.{Store}
+use Rattle.store.specs.declared.record.Answered.{Answered}
 use Rattle.store.specs.Words.{book_of}
 use Rattle.store.specs.Sound.{Sound}
-use Rattle.query_size.specs.declared.Measured.{Measured}
 use Rattle.query_size.specs.Promise.{by_node, by_part, size_given_by, size_answer, SizeCall}
 use Rattle.query_size.proofs.Agreeing.{entries_agree}
 use Rattle.query_size_compact.specs.Promise.{CompactCall}
 
-pub calls_agree : {s : Store} {nodes lookup : List ℕ} {p : ℕ} → Sound s nodes lookup [] → {scratch scratch' more more' : List ℕ} {r q : Measured}
+pub calls_agree : {s : Store} {nodes lookup : List ℕ} {p : ℕ} → Sound s nodes lookup [] → {scratch scratch' more more' : List ℕ} {r q : Answered ℕ}
     → SizeCall s nodes lookup p scratch r scratch' → CompactCall s nodes lookup p more q more'
     → ((size_given_by r.answer).refusal ≡ 7 → ⊥) → ((size_given_by q.answer).refusal ≡ 7 → ⊥) → size_given_by r.answer ≡ size_given_by q.answer
 unfolding size_answer

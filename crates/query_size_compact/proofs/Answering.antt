@@ -5,16 +5,17 @@ use mathlib.Core.Path.{◌≡◌, refl, sym, ap, ◌∙◌}
 use mathlib.Core.List.{List, []}
 use native.Mathlib.Omega.{arith}
 use lib.ListN.{length}
+use Rattle.std.specs.Bool.{⊤}
+use Rattle.std.proofs.Common.{Result, Err}
 use borrow.Author.Tests.{ne_eqb}
 use Rattle.words.specs.Words.{most}
 use Rattle.words.proofs.Cases.{by_lt, clash}
 use Rattle.family.specs.Family.{Family, size}
 use Rattle.family.specs.Book.{at}
 use Rattle.family.specs.Parts.{part_count}
-use Rattle.store.specs.declared.tests.Test.{Test}
-use Rattle.store.specs.declared.tests.Test.TheVariants.{Refuses}
 use Rattle.store.specs.declared.record.Refusal.{Refusal}
 use Rattle.store.specs.declared.record.Store.{Store}
+use Rattle.store.specs.declared.record.Answered.{Answered}
 use Rattle.store.specs.Refusals.{refusal_number}
 use Rattle.store.specs.Words.{book_of}
 use Rattle.store.specs.Sound.{Sound}
@@ -23,14 +24,12 @@ use Rattle.store.proofs.Decoding.{sound_holds}
 use Rattle.store.proofs.Calls.{refusal_some, sound_fits}
 use Rattle.store.proofs.Tested.{count_is}
 use Rattle.store.proofs.Testing.{Tested, tested_refuses, tests_first, tests_short, tests_clear}
-use Rattle.query_size.specs.declared.SizeAnswer.TheVariants.{Refused}
-use Rattle.query_size.specs.declared.Measured.{Measured}
 use Rattle.query_size.specs.Promise.{by_part, size_given_by, size_tests, size_refusal, size_answer}
 use Rattle.query_size_compact.specs.Promise.{CompactCall}
 use Rattle.query_size_compact.specs.Inner.{counted_of, Counted}
 use Rattle.query_size_compact.proofs.Counting.{told_short, told_large, told_size}
 
-module _ (s : Store) (nodes lookup : List ℕ) (p : ℕ) (scratch : List ℕ) (r : Measured) (es : r.store ≡ s) where
+module _ (s : Store) (nodes lookup : List ℕ) (p : ℕ) (scratch : List ℕ) (r : Answered ℕ) (es : r.store ≡ s) where
   -- the book of a sound store
   abbrev B : List Family
   B = book_of nodes s.count
@@ -43,11 +42,11 @@ module _ (s : Store) (nodes lookup : List ℕ) (p : ℕ) (scratch : List ℕ) (r
   above : (x : Refusal) → refusal_number x ≡ tests_of s.count p 0 0 0 0 → s.count + 1 < p
   above x d = by_lt (s.count + 1) p (λ l t. l) (λ l t. absurd (refusal_some x (d ∙ tests_clear s.count p 0 0 0 0 l (omega arith) refl (omega arith))))
 
-  pub compact_refused : {a : Test} → Found s (length nodes) (length lookup) p 0 0 0 0 a → {x : Refusal} → a ≡ Refuses x → r.answer ≡ Refused x → CompactCall s nodes lookup p scratch r scratch
+  pub compact_refused : {a : Result ⊤ Refusal} → Found s (length nodes) (length lookup) p 0 0 0 0 a → {x : Refusal} → a ≡ Err x → r.answer ≡ Err x → CompactCall s nodes lookup p scratch r scratch
   unfolding size_answer size_refusal
   compact_refused F {x} e ea =
       tested_refuses nodes lookup F e
-      (λ t d. record { misfit = λ q. (ea ∙ ap Refused d, refl); answer_is = λ S. clash (sound_fits S) t; scratch_stays = λ q. refl; store_is = es; long = refl })
+      (λ t d. record { misfit = λ q. (ea ∙ ap Err d, refl); answer_is = λ S. clash (sound_fits S) t; scratch_stays = λ q. refl; store_is = es; long = refl })
       (λ t d. record {
         misfit = λ q. clash t q;
         answer_is = λ S.

@@ -7,26 +7,27 @@ use mathlib.Core.Logic.{⊎_elim}
 use mathlib.Core.List.{List}
 use native.Mathlib.Omega.{arith}
 use lib.ListN.{length}
+use Rattle.std.specs.Prelude.{Option, None, Some, Result, Ok, Err, ok_or}
 use borrow.Author.Tests.{lt-ltb, le-ltb}
 use Rattle.words.specs.Words.{most}
 use Rattle.words.proofs.Cases.{by_eq}
-use Rattle.family.specs.Family.{Family, empty, base, top, size}
+use Rattle.family.specs.Family.{Family, empty, base, size}
 use Rattle.family.specs.Book.{start, at, number, Held, place, Book}
 use Rattle.family.specs.Parts.{part_count}
 use Rattle.family.proofs.Books.{book_start, number_at, held_at, grown_held}
 use Rattle.family.proofs.Placing.{book_place, place_held, place_only, parts_held}
 use Rattle.family.proofs.Different.{no_longer}
 use Rattle.family.proofs.Bound.{own_length}
-use Rattle.family.proofs.Reading.{not_empty}
+use Rattle.store.specs.declared.record.Refusal.{Refusal}
 use Rattle.store.specs.declared.record.Refusal.TheVariants.{Large, Scratch}
 use Rattle.store.specs.Inner.{Holds}
 use Rattle.store.proofs.Held.{at_0, at_1, held, within}
-use Rattle.query_size.specs.declared.SizeAnswer.TheVariants.{Members, Refused}
-use Rattle.query_sizes.proofs.Brims.{some_size}
+use Rattle.query_parts.specs.declared.entries.Parts.{Parts}
 use Rattle.query_parts.specs.Inner.{Cleared}
-use Rattle.query_size_compact.specs.Inner.{as_word, size_of, none, Listed, Came, New, Walked, counted_of, Counted}
-use Rattle.query_size_compact.proofs.Sums.{word_none, word_some}
-use Rattle.query_size_compact.proofs.Listing.{has_item, past_two, list_start, number_word}
+use Rattle.query_walk.specs.Inner.{told, size_of, Listed, Came, New, Walked}
+use Rattle.query_walk.proofs.Sums.{told_none, told_some}
+use Rattle.query_walk.proofs.Listing.{has_item, past_two, list_start, number_told}
+use Rattle.query_size_compact.specs.Inner.{counted_of, Counted}
 
 none_empty : part_count empty ≡ 0
 unfolding part_count
@@ -76,7 +77,7 @@ module _ {limit : ℕ} {B : List Family} {count : ℕ} {nodes lookup : List ℕ}
       omega (arith, own_length (at B p), own_book.1, past_two own_book.0 (number C (at B p)) (at B p) (has_item H p h l) (number_at C (at B p) own_book.1))
 
 module _ (nodes : List ℕ) (count p : ℕ) (scratch : List ℕ) where
-  pub counted_leaf : p < 2 → Counted nodes count p scratch (Members p) scratch
+  pub counted_leaf : p < 2 → Counted nodes count p scratch (Ok p) scratch
   counted_leaf l =
       record {
         long = refl;
@@ -90,48 +91,41 @@ module _ (nodes : List ℕ) (count p : ℕ) (scratch : List ℕ) where
     short_of : {limit : ℕ} {B : List Family} {lookup : List ℕ} → Holds limit B count nodes lookup → places < part_count (at B p) → length scratch < 2 * part_count (at B p)
     short_of H m = omega (arith, parts_fit H p (omega arith))
 
-    pub counted_none : places ≡ 0 → Counted nodes count p scratch (Refused Scratch) scratch
+    pub counted_none : places ≡ 0 → Counted nodes count p scratch (Err Scratch) scratch
     counted_none z = record { long = refl; is = λ B lookup H. sym (told_short (at B p) (length scratch) (short_of H (omega (arith, one_part H p (omega arith) h)))) }
 
-    module _ {cleared words : List ℕ} (K : Cleared places scratch cleared) {n r : ℕ} (D : Walked New p 513 nodes count places cleared 0 words n r) where
-      long : length words ≡ length scratch
-      long = D.went.long ∙ K.long
+    module _ {t t' : Parts} (K : Cleared places scratch t.words.now) (same : t.places ≡ places) (none_yet : t.entered ≡ 0) {r : Option ℕ} (D : Walked New p 513 nodes count t t' r) where
+      as_many : t'.places ≡ places
+      as_many = D.went.same ∙ same
 
-      came : {limit : ℕ} {B : List Family} {lookup : List ℕ} → Holds limit B count nodes lookup → Came limit B (place start (at B p)) (at B p) places n words r
+      came : {limit : ℕ} {B : List Family} {lookup : List ℕ} → Holds limit B count nodes lookup → Came limit B (place start (at B p)) (at B p) t' r
       came {limit} {B} {lookup} H =
           D.sound B start lookup H (omega arith) (omega (arith, (within H p (omega arith)).low, H.limit_low))
-          (λ q. omega (arith, q, past_two (book_start limit) (number start (at B p)) (at B p) (has_item H p h (omega arith)) (number_at start (at B p) q))) (list_start B places cleared)
+          (λ q. omega (arith, q, past_two (book_start limit) (number start (at B p)) (at B p) (has_item H p h (omega arith)) (number_at start (at B p) q))) (list_start B t none_yet)
 
-      pub counted_short : r ≡ none → Counted nodes count p scratch (Refused Scratch) words
-      counted_short e =
-          record { long = long; is = λ B lookup H. sym (told_short (at B p) (length scratch) (short_of H (omega (arith, (came H).short e, own_length (at B p))))) }
+      pub counted_short : r ≡ None → {words : List ℕ} → length words ≡ length scratch → Counted nodes count p scratch (Err Scratch) words
+      counted_short e long =
+          record { long = long; is = λ B lookup H. sym (told_short (at B p) (length scratch) (short_of H (omega (arith, (came H).short e, as_many, own_length (at B p))))) }
 
-      module _ (some : r ≡ none → ⊥) where
+      module _ {number : ℕ} (some : r ≡ Some number) where
         module _ {limit : ℕ} {B : List Family} {lookup : List ℕ} (H : Holds limit B count nodes lookup) where
-          listed : Listed limit B (place start (at B p)) places n words × ((r < length (place start (at B p))) × (at (place start (at B p)) r ≡ at B p))
-          listed = (came H).listed some
+          listed : Listed limit B (place start (at B p)) t' × ((number < length (place start (at B p))) × (at (place start (at B p)) number ≡ at B p))
+          listed = (came H).listed number some
 
           enough : 2 * part_count (at B p) ≤ length scratch
-          enough = omega (arith, listed.0.long, own_length (at B p), D.went.table.few)
+          enough = omega (arith, listed.0.long, own_length (at B p), D.went.table.few, as_many)
 
-          word_is : size_of words places r ≡ as_word (size (at B p))
-          word_is = number_word listed.0 r listed.1.0 ∙ ap (λ F. as_word (size F)) listed.1.1
+          told_is : size_of t' number ≡ told (size (at B p))
+          told_is = number_told listed.0 number listed.1.0 ∙ ap (λ F. told (size F)) listed.1.1
 
-          some_members : 1 ≤ size (at B p)
-          some_members = some_size (at B p) (within H p (omega arith)).ordered (not_empty (at B p) (λ e. omega (arith, has_item H p h (omega arith), ap top e)))
-
-        pub counted_large : {m : ℕ} → m ≡ size_of words places r → m ≡ 0 → Counted nodes count p scratch (Refused Large) words
-        counted_large em z =
-            record {
-              long = long;
-              is = λ B lookup H. sym (told_large (at B p) (length scratch) (enough H) (word_none (size (at B p)) (some_members H) (sym (em ∙ word_is H) ∙ z)));
-            }
-
-        pub counted_done : {m : ℕ} → m ≡ size_of words places r → (m ≡ 0 → ⊥) → Counted nodes count p scratch (Members m) words
-        counted_done {m} em f =
+        pub counted_told : {result : Result ℕ Refusal} (members : Option ℕ) → members ≡ size_of t' number → result ≡ ok_or members Large → {words : List ℕ} → length words ≡ length scratch
+            → Counted nodes count p scratch result words
+        counted_told None e f long =
+            record { long = long; is = λ B lookup H. rw f (sym (told_large (at B p) (length scratch) (enough H) (told_none (size (at B p)) (e ∙ told_is H)))) }
+        counted_told (Some m) e f long =
             record {
               long = long;
               is = λ B lookup H.
-                  let q = word_some (size (at B p)) (λ e. f (em ∙ word_is H ∙ e)) in
-                  rw (em ∙ word_is H ∙ q.1) (sym (told_size (at B p) (length scratch) (enough H) q.0));
+                  let q = told_some (size (at B p)) m (e ∙ told_is H) in
+                  rw (f, q.1) (sym (told_size (at B p) (length scratch) (enough H) q.0));
             }

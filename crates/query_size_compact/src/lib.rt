@@ -2,5 +2,3 @@
 #![tactic(auto)]
 
 pub mod call;
-pub mod sizes;
-pub mod walk;

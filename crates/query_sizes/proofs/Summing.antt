@@ -1,10 +1,11 @@
 -- The sizes of the nodes held, filled in rising number: each is the sum of its children's, which stand before it.
 -- A sum capped at 2^64 - 1 of capped sums is the capped whole.
 use Prim.Native.Nat.{ℕ, zero, suc, ◌+◌, ◌*◌, ◌-◌, ◌≤◌, ◌<◌, min}
-use mathlib.Core.Path.{◌≡◌, refl, sym, ap, ◌∙◌, subst}
-use mathlib.Core.List.{List, [], ◌∷◌, ◌++◌, map}
+use mathlib.Core.Path.{◌≡◌, sym, ap, ◌∙◌}
+use mathlib.Core.List.{List, ◌++◌, map}
 use native.Mathlib.Omega.{arith}
 use lib.ListN.{length, get_or, set, drop, length-set, length-map, length-append, length-drop, get_or-append}
+use Rattle.std.proofs.lemmas.List.{get_or-map}
 use lib.Seq.{get_or-set_same, get_or-set_other, get_or-append-add, get_or-drop, ext_get_or}
 use Rattle.family.specs.Family.{Family, empty, size}
 use Rattle.family.specs.Book.{at}
@@ -33,9 +34,6 @@ pub size_node : {limit : ℕ} {B : List Family} {n : ℕ} {nodes lookup : List �
     → size (at B (k + 2)) ≡ size (at B (get_or nodes (3 * k + 1) 0)) + size (at B (get_or nodes (3 * k + 2) 0))
 size_node H k l = ap size (H.each k l).is
 
-pub filled_none : (nodes : List ℕ) (n : ℕ) (sizes : List ℕ) → Filled nodes n 0 sizes sizes
-filled_none nodes n sizes = record { long = refl; rest = λ k l. refl; each = λ B lookup H k l. absurd (omega arith) }
-
 pub filled_step : {nodes : List ℕ} {n j : ℕ} {sizes sizes₁ : List ℕ} (a b v : ℕ) → j < n → j < length sizes
     → a ≡ word_of sizes₁ (get_or nodes (3 * j + 1) 0) → b ≡ word_of sizes₁ (get_or nodes (3 * j + 2) 0) → v ≡ min (a + b) most → Filled nodes n j sizes sizes₁ → Filled nodes n (j + 1) sizes (set sizes₁ j v)
 filled_step {nodes} {n} {j} {sizes} {sizes₁} a b v l m ea eb e F =
@@ -54,15 +52,7 @@ filled_step {nodes} {n} {j} {sizes} {sizes₁} a b v l m ea eb e F =
         let o = size_known H sizes₁ j (F.each B lookup H) (get_or nodes (3 * j + 2) 0) E.one_before in
         e ∙ rw (ea, eb, z, o) (capped (size (at B (get_or nodes (3 * j + 1) 0))) (size (at B (get_or nodes (3 * j + 2) 0)))) ∙ ap (λ x. min x most) (sym (size_node H j l))
 
-pub filled_end : {nodes : List ℕ} {n j : ℕ} {sizes sizes' : List ℕ} → j ≤ n → n ≤ j → Filled nodes n j sizes sizes' → Filled nodes n n sizes sizes'
-filled_end {nodes} {n} {j} {sizes} {sizes'} l m F = let e : j ≡ n = omega arith in subst (λ k. Filled nodes n k sizes sizes') e F
-
 -- the filled scratch, as one equation
-get_d_map : (Fs : List Family) (k : ℕ) → k < length Fs → get_or (map (λ F. min (size F) most) Fs) k 0 ≡ min (size (get_or Fs k empty)) most
-get_d_map [] k l = absurd (omega arith)
-get_d_map (F ∷ Fs) zero l = refl
-get_d_map (F ∷ Fs) (suc k) l = get_d_map Fs k (omega arith)
-
 pub filled_is : {limit : ℕ} {B : List Family} {n : ℕ} {nodes lookup sizes sizes' : List ℕ} → Holds limit B n nodes lookup → n ≤ length sizes → Filled nodes n n sizes sizes' → sizes' ≡ sizes_of B ++ drop (length B - 2) sizes
 unfolding sizes_of
 filled_is {B} {n} {nodes} {lookup} {sizes} {sizes'} H l F =
@@ -79,7 +69,7 @@ filled_is {B} {n} {nodes} {lookup} {sizes} {sizes'} H l F =
     below : (k : ℕ) → k < n → get_or sizes' k 0 ≡ get_or (new ++ drop (length B - 2) sizes) k 0
     below k h =
         F.each B lookup H k h ∙ ap (λ x. min (size (at B x)) most) (omega arith) ∙ ap (λ x. min (size x) most) (sym (get_or-drop 2 B k empty))
-        ∙ sym (get_d_map (drop 2 B) k (omega (arith, length-drop 2 B, H.size))) ∙ sym (get_or-append new (drop (length B - 2) sizes) 0 k (omega (arith, is_long)))
+        ∙ sym (get_or-map (λ F. min (size F) most) (drop 2 B) k empty 0 (omega (arith, length-drop 2 B, H.size))) ∙ sym (get_or-append new (drop (length B - 2) sizes) 0 k (omega (arith, is_long)))
 
     above : (k : ℕ) → n ≤ k → get_or sizes' k 0 ≡ get_or (new ++ drop (length B - 2) sizes) k 0
     above k h =

@@ -6,6 +6,7 @@ use mathlib.Core.List.{List}
 use native.Mathlib.Omega.{arith}
 use lib.ListN.{get_or, drop, length-drop}
 use lib.Seq.{get_or-drop, ext_get_or}
+use Rattle.std.specs.Prelude.{Option}
 use Rattle.words.proofs.Cases.{by_eq}
 use Rattle.family.specs.Family.{Family, empty, base}
 use Rattle.family.specs.Book.{at}
@@ -67,7 +68,7 @@ module _ (nodes weights : List ℕ) (n : ℕ) where
   filled_end p j l F = record { long = F.long; rest = F.rest; each = λ B lookup H k m. F.each B lookup H k (omega arith) }
 
   -- the sum of p, read once the numbers up to p are put
-  pub filled_sum : {p : ℕ} {words words' : List ℕ} → p < n + 2 → Filled nodes weights n (p - 1) words words' → (r : Both) → BothKept words' n p r
+  pub filled_sum : {p : ℕ} {words words' : List ℕ} → p < n + 2 → Filled nodes weights n (p - 1) words words' → (r : Both (Option ℕ)) → BothKept words' n p r
       → {limit : ℕ} (B : List Family) (lookup : List ℕ) → Holds limit B n nodes lookup → Keeps (sum_by_nodes weights (at B p)) r.sum
   filled_sum {p} {words} {words'} l F r K B lookup H = K.sum_is l weights (at B p) (stands H weights words' (p - 1) (F.each B lookup H) p (omega arith))
 

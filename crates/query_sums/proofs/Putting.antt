@@ -2,20 +2,20 @@
 -- Words of small numbers are the numbers; kept sums and products tell which of them are above the largest word.
 use Prim.Native.Nat.{ℕ, ◌+◌, ◌*◌, ◌-◌, ◌≤◌, ◌<◌}
 use mathlib.Core.Path.{◌≡◌, refl, sym, ap, ◌∙◌}
-use mathlib.Core.Bool.{Bool, true, false}
+use mathlib.Core.Bool.{Bool, true, false, not}
 use mathlib.Core.List.{List}
 use native.Mathlib.Omega.{arith}
 use native.Mathlib.Nat.{mul-le-mul}
 use lib.ListN.{length, get_or, set, length-set}
 use lib.Seq.{get_or-set_same, get_or-set_other}
 use borrow.Author.Tests.{lt-ltb, le-ltb}
+use Rattle.std.specs.Prelude.{Option, is_some, is_none, unwrap_or}
 use Rattle.family.specs.Family.{Family, node, size}
 use Rattle.family.specs.Weights.{item_weight, sum_by_nodes}
-use Rattle.query_sums.specs.declared.kept.Kept.{Kept}
-use Rattle.query_sums.specs.declared.numbers.Pair.{Pair}
+use Rattle.words.specs.Words.{most}
 use Rattle.query_sums.specs.declared.numbers.Both.{Both}
 use Rattle.query_sums.specs.Inner.{Keeps, Added, Multiplied, size_word, sum_word, mark_word, mark_of, size_mark, sum_mark, Carries, Paired, Told, BothKept, Small, put_small, put_numbers, NodePut}
-use Rattle.query_sums.proofs.Keeping.{told_keeps}
+use Rattle.query_sums.proofs.Keeping.{kept_low, kept_mark, told_keeps}
 
 module _ (words : List ℕ) (n p : ℕ) where
   pub size_leaf : p < 2 → size_word words p ≡ p
@@ -43,25 +43,25 @@ module _ (words : List ℕ) (n p : ℕ) where
   mark_node l = rw (le-ltb p 2 l)
 
   -- the ways out of `pair_at`
-  pub paired_leaf : p < 2 → (r : Pair) → r.size ≡ p → r.sum ≡ 0 → Paired words n p r
+  pub paired_leaf : p < 2 → (r : Both ℕ) → r.size ≡ p → r.sum ≡ 0 → Paired words n p r
   paired_leaf l r e d = record { size_is = λ m. e ∙ sym (size_leaf l); sum_is = λ m. d ∙ sym (sum_leaf l) }
 
-  pub paired_outside : 2 ≤ p → n ≤ p - 2 → (r : Pair) → Paired words n p r
+  pub paired_outside : 2 ≤ p → n ≤ p - 2 → (r : Both ℕ) → Paired words n p r
   paired_outside h o r = record { size_is = λ m. absurd (omega arith); sum_is = λ m. absurd (omega arith) }
 
-  pub paired_node : 2 ≤ p → (r : Pair) → r.size ≡ get_or words (2 * (p - 2)) 0 → r.sum ≡ get_or words (2 * (p - 2) + 1) 0 → Paired words n p r
+  pub paired_node : 2 ≤ p → (r : Both ℕ) → r.size ≡ get_or words (2 * (p - 2)) 0 → r.sum ≡ get_or words (2 * (p - 2) + 1) 0 → Paired words n p r
   paired_node h r e d = record { size_is = λ m. e ∙ sym (size_node h); sum_is = λ m. d ∙ sym (sum_node h) }
 
   -- the numbers of a handle, from its words and its mark
-  pub both_kept : (pair : Pair) → Paired words n p pair → (mark : ℕ) → (p < n + 2 → mark ≡ mark_word words n p) → (r : Both)
+  pub both_kept : (pair : Both ℕ) → Paired words n p pair → (mark : ℕ) → (p < n + 2 → mark ≡ mark_word words n p) → (r : Both (Option ℕ))
       → Told pair.size (size_mark mark) r.size → Told pair.sum (sum_mark mark) r.sum → BothKept words n p r
   both_kept pair P mark em r S T =
       record {
         size_is = λ l weights F C.
-            told_keeps pair.size (size_mark mark) r.size (size F) (P.size_is l ∙ C.size_low)
+            told_keeps _ _ r.size (size F) (P.size_is l ∙ C.size_low)
             (λ e. ap size_mark (em l) ∙ C.size_mark_is (sym (P.size_is l) ∙ e)) S;
         sum_is = λ l weights F C.
-            told_keeps pair.sum (sum_mark mark) r.sum (sum_by_nodes weights F) (P.sum_is l ∙ C.sum_low)
+            told_keeps _ _ r.sum (sum_by_nodes weights F) (P.sum_is l ∙ C.sum_low)
             (λ e. ap sum_mark (em l) ∙ C.sum_mark_is (sym (P.sum_is l) ∙ e)) T;
       }
 
@@ -78,14 +78,28 @@ sum_of_mark true false = refl
 sum_of_mark false true = refl
 sum_of_mark false false = refl
 
+-- the words of two kept numbers and their mark are put
+pub put_is : (words : List ℕ) (n j : ℕ) (s t : Option ℕ) (size_put sum_put mark : ℕ) (size_none sum_none : Bool) → size_put ≡ unwrap_or s most → sum_put ≡ unwrap_or t most
+    → is_some s ≡ not size_none → is_some t ≡ not sum_none → mark ≡ mark_of size_none sum_none
+    → set (set (set words (2 * j) size_put) (2 * j + 1) sum_put) (2 * n + j) mark ≡ put_numbers words n j (unwrap_or s most) (unwrap_or t most) (mark_of (is_none s) (is_none t))
+put_is words n j s t size_put sum_put mark size_none sum_none a b d e m =
+    let x = none_is s size_none d in
+    let y = none_is t sum_none e in
+    rw (a, b, m, x, y)
+  where
+    none_is : (k : Option ℕ) (r : Bool) → is_some k ≡ not r → r ≡ is_none k
+    none_is k true e = sym (ap not e)
+    none_is k false e = sym (ap not e)
+
 -- kept numbers carry a family
-kept_carries : (weights : List ℕ) (F : Family) (s t : Kept) → Keeps (size F) s → Keeps (sum_by_nodes weights F) t → Carries weights F s.low t.low (mark_of s.above t.above)
+kept_carries : (weights : List ℕ) (F : Family) (s t : Option ℕ) → Keeps (size F) s → Keeps (sum_by_nodes weights F) t
+    → Carries weights F (unwrap_or s most) (unwrap_or t most) (mark_of (is_none s) (is_none t))
 kept_carries weights F s t K L =
     record {
-      size_low = K.low;
-      sum_low = L.low;
-      size_mark_is = λ e. size_of_mark s.above t.above ∙ K.above;
-      sum_mark_is = λ e. sum_of_mark s.above t.above ∙ L.above;
+      size_low = kept_low _ s K;
+      sum_low = kept_low _ t L;
+      size_mark_is = λ e. size_of_mark (is_none s) (is_none t) ∙ kept_mark _ s K;
+      sum_mark_is = λ e. sum_of_mark (is_none s) (is_none t) ∙ kept_mark _ t L;
     }
 
 -- a small number times a weight of 32 bits
@@ -109,7 +123,7 @@ small_carries weights i a b za zb zm oa ob om C D la lb ma mb k lk ek m =
 
 module _ (words : List ℕ) (n j : ℕ) (long : 3 * n ≤ length words) (l : j < n) (k zero one : ℕ) where
   -- the plain way: the words of two small handles
-  pub put_small_lem : k ≤ 4294967295 → (z o : Pair) → Paired words n zero z → Paired words n one o → Small z
+  pub put_small_lem : k ≤ 4294967295 → (z o : Both ℕ) → Paired words n zero z → Paired words n one o → Small z
       → Small o → (words' : List ℕ) → words' ≡ put_small words j k z o
       → NodePut n j k zero one words words'
   put_small_lem lk z o P Q sz so words' e =
@@ -139,14 +153,14 @@ module _ (words : List ℕ) (n j : ℕ) (long : 3 * n ≤ length words) (l : j <
       sum_read = get_or-set_same first (2 * j + 1) sum_is 0 (omega (arith, length-set words (2 * j) size_is))
 
   -- the kept way
-  pub put_kept : (z o : Both) → BothKept words n zero z → BothKept words n one o → (sides product size_is sum_is : Kept) → Added z.sum o.sum sides → Multiplied k o.size product
-      → Added z.size o.size size_is → Added sides product sum_is → (words' : List ℕ) → words' ≡ put_numbers words n j size_is.low sum_is.low (mark_of size_is.above sum_is.above)
+  pub put_kept : (z o : Both (Option ℕ)) → BothKept words n zero z → BothKept words n one o → (sides product size_is sum_is : Option ℕ) → Added z.sum o.sum sides → Multiplied k o.size product
+      → Added z.size o.size size_is → Added sides product sum_is → (words' : List ℕ) → words' ≡ put_numbers words n j (unwrap_or size_is most) (unwrap_or sum_is most) (mark_of (is_none size_is) (is_none sum_is))
       → NodePut n j k zero one words words'
   put_kept z o P Q sides product size_is sum_is A M S T words' e =
       rw e
       (record {
-        long = length-set second (2 * n + j) mark ∙ length-set first (2 * j + 1) sum_is.low ∙ length-set words (2 * j) size_is.low;
-        others = λ h a b c. get_or-set_other second (2 * n + j) h mark 0 c ∙ get_or-set_other first (2 * j + 1) h sum_is.low 0 b ∙ get_or-set_other words (2 * j) h size_is.low 0 a;
+        long = length-set second (2 * n + j) mark ∙ length-set first (2 * j + 1) sum_put ∙ length-set words (2 * j) size_put;
+        others = λ h a b c. get_or-set_other second (2 * n + j) h mark 0 c ∙ get_or-set_other first (2 * j + 1) h sum_put 0 b ∙ get_or-set_other words (2 * j) h size_put 0 a;
         is = λ lz lo weights i a b ek C D.
             let kz = P.size_is lz weights a C in
             let ko = Q.size_is lo weights b D in
@@ -154,24 +168,30 @@ module _ (words : List ℕ) (n j : ℕ) (long : 3 * n ≤ length words) (l : j <
             rw (size_read, sum_read, mark_read) (kept_carries weights (node i a b) size_is sum_is (S.is (size a) (size b) kz ko) (rw ek at sum));
       })
     where
+      size_put : ℕ
+      size_put = unwrap_or size_is most
+
+      sum_put : ℕ
+      sum_put = unwrap_or sum_is most
+
       mark : ℕ
-      mark = mark_of size_is.above sum_is.above
+      mark = mark_of (is_none size_is) (is_none sum_is)
 
       first : List ℕ
-      first = set words (2 * j) size_is.low
+      first = set words (2 * j) size_put
 
       second : List ℕ
-      second = set first (2 * j + 1) sum_is.low
+      second = set first (2 * j + 1) sum_put
 
-      size_read : get_or (set second (2 * n + j) mark) (2 * j) 0 ≡ size_is.low
+      size_read : get_or (set second (2 * n + j) mark) (2 * j) 0 ≡ size_put
       size_read =
-          get_or-set_other second (2 * n + j) (2 * j) mark 0 (λ q. omega arith) ∙ get_or-set_other first (2 * j + 1) (2 * j) sum_is.low 0 (λ q. omega arith)
-          ∙ get_or-set_same words (2 * j) size_is.low 0 (omega arith)
+          get_or-set_other second (2 * n + j) (2 * j) mark 0 (λ q. omega arith) ∙ get_or-set_other first (2 * j + 1) (2 * j) sum_put 0 (λ q. omega arith)
+          ∙ get_or-set_same words (2 * j) size_put 0 (omega arith)
 
-      sum_read : get_or (set second (2 * n + j) mark) (2 * j + 1) 0 ≡ sum_is.low
+      sum_read : get_or (set second (2 * n + j) mark) (2 * j + 1) 0 ≡ sum_put
       sum_read =
           get_or-set_other second (2 * n + j) (2 * j + 1) mark 0 (λ q. omega arith)
-          ∙ get_or-set_same first (2 * j + 1) sum_is.low 0 (omega (arith, length-set words (2 * j) size_is.low))
+          ∙ get_or-set_same first (2 * j + 1) sum_put 0 (omega (arith, length-set words (2 * j) size_put))
 
       mark_read : get_or (set second (2 * n + j) mark) (2 * n + j) 0 ≡ mark
-      mark_read = get_or-set_same second (2 * n + j) mark 0 (omega (arith, length-set first (2 * j + 1) sum_is.low, length-set words (2 * j) size_is.low))
+      mark_read = get_or-set_same second (2 * n + j) mark 0 (omega (arith, length-set first (2 * j + 1) sum_put, length-set words (2 * j) size_put))

@@ -1,23 +1,21 @@
 // The sizes and the sums of weights of the nodes, from the smallest number up.
-ghost use Rattle.std.specs.Prelude.{◌≡◌, true, ◌-◌};
-ghost use Rattle.query_sums.specs.Inner.{Small, SmallAsks, put_small, PutAsks, NodeAsks, NodePut, FillAsks, Filled};
+ghost use Rattle.std.specs.Prelude.{◌≡◌, true, ◌-◌, ◌≤◌, ◌<◌};
+ghost use Rattle.store.specs.Inner.{HandleAsks};
+ghost use Rattle.query_sums.specs.Inner.{Small, SmallAsks, put_small, WordsAsk, NodePut, Filled};
 
 use crate::kept::{kept_product, kept_sum};
-use crate::numbers::{Both, Pair, both_at, pair_at, put_both};
+use crate::numbers::{Both, both_at, pair_at, put_both};
 use crate::weights::weight_at;
 
 // Whether both words are so small that the sum of a node over two such handles fits a word, whatever its weight.
-fn is_small(pair: Pair) -> bool
+fn is_small(pair: Both<u64>) -> bool
     ensures { result ≡ true → Small pair }
 {
-    if 2147483647 < pair.size {
-        return false;
-    }
-    pair.sum <= 4611686018427387903
+    pair.size <= 2147483647 && pair.sum <= 4611686018427387903
 }
 
 // Puts the numbers of node j + 2, of this weight, over two handles whose words are small.
-fn put_small(words: &mut [u64], j: u32, weight: u64, without: Pair, with: Pair)
+fn put_small(words: &mut [u64], j: u32, weight: u64, without: Both<u64>, with: Both<u64>)
     requires { SmallAsks words.old j weight without with }
     ensures { words.new ≡ put_small words.old j weight without with }
 {
@@ -28,7 +26,8 @@ fn put_small(words: &mut [u64], j: u32, weight: u64, without: Pair, with: Pair)
 
 // Puts the numbers of node j + 2, of these children and this weight, where its numbers may be large.
 fn weigh_large(words: &mut [u64], count: u32, j: u32, weight: u64, zero: u32, one: u32)
-    requires { PutAsks words.old count j }
+    requires words { WordsAsk words.old count }
+    requires inside { j < count }
     ensures { NodePut count j weight zero one words.old words.new }
 {
     let without = both_at(words, count, zero);
@@ -43,30 +42,29 @@ fn weigh_large(words: &mut [u64], count: u32, j: u32, weight: u64, zero: u32, on
 
 // Puts the numbers of node j + 2, of these children and this weight.
 fn weigh_node(words: &mut [u64], count: u32, j: u32, weight: u64, zero: u32, one: u32)
-    requires { NodeAsks words.old count j weight }
+    requires words { WordsAsk words.old count }
+    requires inside { j < count }
+    requires light { weight ≤ 4294967295 }
     ensures { NodePut count j weight zero one words.old words.new }
 {
     let without = pair_at(words, count, zero);
     let with = pair_at(words, count, one);
-    if is_small(without) {
-        if is_small(with) {
-            put_small(words, j, weight, without, with);
-            return;
-        }
+    if is_small(without) && is_small(with) {
+        put_small(words, j, weight, without, with);
+        return;
     }
     weigh_large(words, count, j, weight, zero, one);
 }
 
 // Puts the numbers of every node up to p.
 pub fn weigh_nodes(nodes: &[u32], weights: &[u32], words: &mut [u64], count: u32, p: u32)
-    requires { FillAsks nodes.now words.old count p }
+    requires nodes { HandleAsks nodes.now count p }
+    requires words { WordsAsk words.old count }
     ensures { Filled nodes.now weights.now count (p - 1) words.old words.new }
 {
-    let mut j: u32 = 0;
-    while j + 1 < p {
+    for j in 0..p.saturating_sub(1) {
         let base = 3 * j as usize;
         let weight = weight_at(weights, nodes[base]);
         weigh_node(words, count, j, weight, nodes[base + 1], nodes[base + 2]);
-        j = j + 1;
     }
 }

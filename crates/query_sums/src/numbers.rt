@@ -1,40 +1,32 @@
 // The numbers of the nodes in the scratch. Words 2k and 2k + 1 are the size and the sum of node k + 2, each at most
 // 2^64 - 1; where one of them is that, word 2n + k, n being the count, is the node's mark and tells whether it is above.
-ghost use Rattle.std.specs.Prelude.{◌≡◌, ◌+◌, ◌<◌};
-ghost use Rattle.query_sums.specs.Inner.{mark_word, mark_of, WordsAsk, Paired, Told, BothKept, put_numbers, PutAsks};
+ghost use Rattle.std.specs.Prelude.{◌≡◌, ◌+◌, ◌<◌, is_none, unwrap_or};
+ghost use Rattle.words.specs.Words.{most};
+ghost use Rattle.query_sums.specs.Inner.{mark_word, mark_of, WordsAsk, Paired, Told, BothKept, put_numbers};
 
-use crate::kept::Kept;
-
-// The size and the sum of a handle as its words have them.
+// The size and the sum of a handle: as its words have them, or kept as numbers of any size.
 #[derive(Clone, Copy)]
-pub struct Pair {
-    pub size: u64,
-    pub sum: u64,
-}
-
-// The size and the sum of a handle.
-#[derive(Clone, Copy)]
-pub struct Both {
-    pub size: Kept,
-    pub sum: Kept,
+pub struct Both<T> {
+    pub size: T,
+    pub sum: T,
 }
 
 // The words of a handle; {} and {{}} have none, and their sums are 0.
-pub fn pair_at(words: &[u64], count: u32, p: u32) -> Pair
+pub fn pair_at(words: &[u64], count: u32, p: u32) -> Both<u64>
     requires { WordsAsk words.now count }
     ensures { Paired words.now count p result }
 {
     if p < 2 {
-        return Pair {
-            size: p as u64,
+        return Both {
+            size: u64::from(p),
             sum: 0,
         };
     }
     if count <= p - 2 {
-        return Pair { size: 0, sum: 0 };
+        return Both { size: 0, sum: 0 };
     }
     let k = 2 * (p - 2) as usize;
-    Pair {
+    Both {
         size: words[k],
         sum: words[k + 1],
     }
@@ -58,31 +50,21 @@ fn mark_at(words: &[u64], count: u32, p: u32) -> u64
 fn mark_of(size: bool, sum: bool) -> u64
     ensures { result ≡ mark_of size sum }
 {
-    if size {
-        if sum { 3 } else { 1 }
-    } else {
-        if sum { 2 } else { 0 }
-    }
+    u64::from(size) + 2 * u64::from(sum)
 }
 
 // The number of a word: only one of 2^64 - 1 can be above that.
-fn kept_of(word: u64, above: bool) -> Kept
+fn kept_of(word: u64, above: bool) -> Option<u64>
     ensures { Told word above result }
 {
-    if word < 18446744073709551615 {
-        return Kept {
-            low: word,
-            above: false,
-        };
+    if above && word == u64::MAX {
+        return None;
     }
-    Kept {
-        low: word,
-        above: above,
-    }
+    Some(word)
 }
 
 // The size and the sum of a handle.
-pub fn both_at(words: &[u64], count: u32, p: u32) -> Both
+pub fn both_at(words: &[u64], count: u32, p: u32) -> Both<Option<u64>>
     requires { WordsAsk words.now count }
     ensures { BothKept words.now count p result }
 {
@@ -95,14 +77,14 @@ pub fn both_at(words: &[u64], count: u32, p: u32) -> Both
 }
 
 // Puts the size and the sum of node j + 2 into its words.
-pub fn put_both(words: &mut [u64], count: u32, j: u32, both: Both)
-    requires { PutAsks words.old count j }
-    ensures { words.new ≡ put_numbers words.old count j both.size.low both.sum.low (mark_of both.size.above both.sum.above) }
+pub fn put_both(words: &mut [u64], count: u32, j: u32, both: Both<Option<u64>>)
+    requires words { WordsAsk words.old count }
+    requires inside { j < count }
+    ensures { words.new ≡ put_numbers words.old count j (unwrap_or both.size most) (unwrap_or both.sum most) (mark_of (is_none both.size) (is_none both.sum)) }
 {
-    let size = both.size;
-    let sum = both.sum;
+    let Both { size, sum } = both;
     let k = 2 * j as usize;
-    words[k] = size.low;
-    words[k + 1] = sum.low;
-    words[2 * count as usize + j as usize] = mark_of(size.above, sum.above);
+    words[k] = size.unwrap_or(u64::MAX);
+    words[k + 1] = sum.unwrap_or(u64::MAX);
+    words[2 * count as usize + j as usize] = mark_of(size.is_none(), sum.is_none());
 }

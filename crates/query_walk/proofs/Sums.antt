@@ -1,65 +1,51 @@
--- Sizes in one word: how the word of a number is read, and the word of a sum of two sizes.
+-- Sizes in one word: how the size of a number is read, and the sum of two sizes.
 -- A size of at least 1 is its word, or is above the largest and has the word 0; a sum is above it where a side is.
 use Prim.Native.Nat.{ℕ, ◌+◌, ◌-◌, ◌≤◌, ◌<◌}
-use mathlib.Core.Path.{◌≡◌, sym, ap, ◌∙◌}
-use mathlib.Core.List.{List}
+use mathlib.Core.Path.{◌≡◌, ◌∙◌}
 use native.Mathlib.Omega.{arith}
 use lib.ListN.{get_or}
-use borrow.Author.Tests.{lt-ltb, le-ltb}
+use borrow.Author.Tests.{lt-ltb, le-ltb, eq-eqb, ne_eqb}
+use Rattle.std.specs.Prelude.{None, Some, unwrap_or}
 use Rattle.words.specs.Words.{most}
+use Rattle.query_parts.specs.declared.entries.Parts.{Parts}
 use Rattle.words.proofs.Cases.{by_lt}
-use Rattle.query_walk.specs.Inner.{as_word, size_of, Summed}
+use Rattle.query_walk.specs.Inner.{as_word, told, word_told, size_of}
 
-module _ (words : List ℕ) (places number : ℕ) where
-  pub size_leaf : number < 2 → number ≡ size_of words places number
+module _ (t : Parts) (number : ℕ) where
+  pub size_leaf : number < 2 → Some number ≡ size_of t number
   unfolding size_of
   size_leaf l = rw (lt-ltb number 2 l)
 
-  pub size_part : 2 ≤ number → get_or words (places + (number - 2)) 0 ≡ size_of words places number
+  pub size_read : 2 ≤ number → size_of t number ≡ word_told (get_or t.words.now (t.places + (number - 2)) 0)
   unfolding size_of
-  size_part l = rw (le-ltb number 2 l)
+  size_read l = rw (le-ltb number 2 l)
+
+  module _ (w : ℕ) (l : 2 ≤ number) (is : w ≡ get_or t.words.now (t.places + (number - 2)) 0) where
+    pub size_none : w ≡ 0 → None ≡ size_of t number
+    unfolding size_of
+    size_none e = rw (le-ltb number 2 l, ← is, eq-eqb w 0 e)
+
+    pub size_some : (w ≡ 0 → ⊥) → Some w ≡ size_of t number
+    unfolding size_of
+    size_some n = rw (le-ltb number 2 l, ← is, ne_eqb w 0 n)
 
 module _ (x : ℕ) where
-  pub word_low : x ≤ most → as_word x ≡ x
-  word_low l = rw (le-ltb most x l)
+  pub told_low : x ≤ most → told x ≡ Some x
+  told_low l = rw (le-ltb most x l)
 
-  pub word_high : most < x → as_word x ≡ 0
-  word_high l = rw (lt-ltb most x l)
+  pub told_high : most < x → told x ≡ None
+  told_high l = rw (lt-ltb most x l)
 
-  -- what a word says of a size that is not 0
-  pub word_none : 0 < x → as_word x ≡ 0 → most < x
-  word_none s e = by_lt most x (λ l d. l) (λ l d. absurd (omega (arith, word_low l)))
+  -- what is told of a size
+  pub told_none : None ≡ told x → most < x
+  told_none e = by_lt most x (λ l d. l) (λ l d. let z = e ∙ told_low l in cc)
 
-  pub word_some : (as_word x ≡ 0 → ⊥) → (x ≤ most) × (as_word x ≡ x)
-  word_some n = by_lt most x (λ l d. absurd (n (word_high l))) (λ l d. (l, word_low l))
+  pub told_some : (k : ℕ) → Some k ≡ told x → (x ≤ most) × (k ≡ x)
+  told_some k e = by_lt most x (λ l d. let z = e ∙ told_high l in cc) (λ l d. let z = e ∙ told_low l in (l, cc))
 
--- the ways out of `sum_of`
-module _ (zero without with : ℕ) where
-  pub sum_alone : zero ≡ 0 → Summed zero without with with
-  sum_alone z = record { is = λ x y e s t a b. let same : y ≡ x + y = omega (arith, e z) in b ∙ ap (λ k. as_word k) same }
+  -- the word that a size is put in, and what it tells of one that is not 0
+  pub word_put : unwrap_or (told x) 0 ≡ as_word x
+  word_put = by_lt most x (λ l d. rw (lt-ltb most x l)) (λ l d. rw (le-ltb most x l))
 
-  module _ (z : zero ≡ 0 → ⊥) where
-    pub sum_first_above : without ≡ 0 → Summed zero without with 0
-    sum_first_above w = record { is = λ x y e s t a b. sym (word_high (x + y) (omega (arith, word_none x (s z) (sym a ∙ w)))) }
-
-    pub sum_second_above : with ≡ 0 → Summed zero without with 0
-    sum_second_above w = record { is = λ x y e s t a b. sym (word_high (x + y) (omega (arith, word_none y t (sym b ∙ w)))) }
-
-    module _ (m : without ≡ 0 → ⊥) (n : with ≡ 0 → ⊥) where
-      pub sum_above : most - with < without → Summed zero without with 0
-      sum_above l =
-          record {
-            is = λ x y e s t a b.
-                let p = word_some x (λ d. m (a ∙ d)) in
-                let q = word_some y (λ d. n (b ∙ d)) in
-                sym (word_high (x + y) (omega (arith, p.1, q.1)));
-          }
-
-      pub sum_fits : without ≤ most - with → Summed zero without with (without + with)
-      sum_fits l =
-          record {
-            is = λ x y e s t a b.
-                let p = word_some x (λ d. m (a ∙ d)) in
-                let q = word_some y (λ d. n (b ∙ d)) in
-                omega (arith, p.1, q.1, word_low (x + y) (omega (arith, p.0, p.1, q.0, q.1)));
-          }
+  pub word_read : 0 < x → word_told (as_word x) ≡ told x
+  word_read s = by_lt most x (λ l d. rw (lt-ltb most x l)) (λ l d. rw (le-ltb most x l, ne_eqb x 0 (λ e. omega arith)))

@@ -1,33 +1,28 @@
-// Sizes in one word each. No part is without members, so the word 0 is free to tell a size above 2^64 - 1.
+// Sizes as they stand in the table, a word each.
 ghost use Rattle.std.specs.Prelude.{◌≡◌};
 ghost use Rattle.query_walk.specs.Inner.{size_of, SizeAsks, Summed};
 
-// The size of a number: {} is 0, {{}} is 1, and the parts entered follow.
-pub fn size_of(table: &[u64], places: u32, number: u32) -> u64
-    requires { SizeAsks table.now places number }
-    ensures { result ≡ size_of table.now places number }
+use query_parts::entries::Parts;
+
+// The size of a number, where it is at most 2^64 - 1: {} is 0, {{}} is 1, and the parts entered follow.
+// Kept: a size is one lent word (no heap, memory lent by the caller). No part is without members, so the word 0 is free
+// to tell a size above 2^64 - 1.
+pub fn size_of(parts: &Parts<'_>, number: u32) -> Option<u64>
+    requires { SizeAsks parts.now number }
+    ensures { result ≡ size_of parts.now number }
 {
     if number < 2 {
-        return number as u64;
+        return Some(u64::from(number));
     }
-    table[places as usize + (number - 2) as usize]
+    match parts.words[parts.places as usize + (number - 2) as usize] {
+        0 => None,
+        size => Some(size),
+    }
 }
 
-// The size of a node by those of its sides; `zero` is 0 where the without-side is {}.
-pub fn sum_of(zero: u32, without: u64, with: u64) -> u64
-    ensures { Summed zero without with result }
+// The size of a node by those of its sides.
+pub fn sum_of(without: Option<u64>, with: Option<u64>) -> Option<u64>
+    ensures { Summed without with result }
 {
-    if zero == 0 {
-        return with;
-    }
-    if without == 0 {
-        return 0;
-    }
-    if with == 0 {
-        return 0;
-    }
-    if 18446744073709551615 - with < without {
-        return 0;
-    }
-    without + with
+    without?.checked_add(with?)
 }

@@ -1,7 +1,4 @@
 -- The laws of `query_ways`.
-pub mod Behind
-pub mod Products
 pub mod Worth
 pub mod Handing
 pub mod Going
-pub mod Opening

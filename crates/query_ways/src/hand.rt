@@ -1,155 +1,76 @@
-// Ways handed on from a part to its sides. The ways to the handles from `low` on stand in a window, a word for each, of
-// which the first `left` are still to be gone through; a side below the window is counted by the table behind it. Each
-// function tells whether it could: a number above 2^64 - 1, a table that is full, or words of no sound store end it.
-ghost use Rattle.std.specs.Prelude.{◌<◌};
-ghost use Rattle.query_ways.specs.Inner.{Fits, Raised, HandAsks, Handed, FrontAsks, HandedDown, BothAsks, HandedBoth};
+// Ways handed on from a part to its sides. Each function gives None where it could not: a number above 2^64 - 1, a table
+// that is full, or words of no sound store end it.
+ghost use Rattle.std.specs.Prelude.{◌≤◌, length, is_some};
+ghost use Rattle.query_ways.specs.Inner.{HandAsks, Handed, HandedDown, BothAsks, HandedBoth};
 
+use query_parts::entries::Parts;
 use query_walk::sizes::size_of;
-use query_walk::walk::{NONE, reach};
+use query_walk::walk::reach;
 
-// How the words are laid out: the handle of the first, the words of the window, the places of the table behind it.
-#[derive(Clone, Copy)]
-pub struct Layout {
+// The ways to the handles from `low` on stand in a window, a word for each, of which the first `left` are still to be gone
+// through; a side below the window is counted by the table of the parts there, and the total has its members, once for
+// each way.
+#[derive(Drop)]
+pub struct Passage<'a> {
+    pub window: &'a mut [u64],
     pub low: u32,
-    pub width: u32,
-    pub places: u32,
-}
-
-// Whether the product fits 64 bits.
-fn fits(ways: u64, size: u64) -> bool
-    requires { 0 < size }
-    ensures { Fits ways size result }
-{
-    if ways < 4294967296 {
-        if size < 4294967296 {
-            return true;
-        }
-    }
-    ways <= 18446744073709551615 / size
-}
-
-// The total with as many members more as so many ways have that come to a family of this size; 0 where that is
-// too large. A size of 0 tells one above 2^64 - 1.
-fn raised(total: u64, ways: u64, size: u64) -> u64
-    ensures { Raised total ways size result }
-{
-    if size == 0 {
-        return 0;
-    }
-    if !fits(ways, size) {
-        return 0;
-    }
-    let more = ways * size;
-    if 18446744073709551615 - more < total {
-        return 0;
-    }
-    total + more
+    pub left: u32,
+    pub parts: Parts<'a>,
+    pub total: u64,
 }
 
 // To a handle in the window, that of word `at`.
-fn hand_down(words: &mut [u64], left: u32, at: u32, ways: u64) -> bool
-    requires { FrontAsks words.old left }
-    ensures { HandedDown left at ways words.old words.new result }
+fn hand_down(window: &mut [u64], left: u32, at: u32, ways: u64) -> Option<()>
+    requires { left ≤ length window.old }
+    ensures { HandedDown left at ways window.old window.new (is_some result) }
 {
     if left <= at {
-        return false;
+        return None;
     }
-    let before = words[at as usize];
-    if 18446744073709551615 - ways < before {
-        return false;
-    }
-    words[at as usize] = before + ways;
-    true
+    let before = window[at as usize];
+    window[at as usize] = before.checked_add(ways)?;
+    Some(())
 }
 
-// To a handle below the window: the total rises by its size for each way.
-fn hand_below(
-    child: u32,
-    ways: u64,
-    left: u32,
-    at: Layout,
-    nodes: &[u32],
-    count: u32,
-    words: &mut [u64],
-    entered: &mut u32,
-    total: &mut u64,
-) -> bool
-    requires { HandAsks nodes.now count words.old left at.width at.places entered.old }
-    ensures { Handed child ways left at.low nodes.now count at.width at.places words.old entered.old total.old words.new entered.new total.new result }
-{
-    let places = at.places;
-    let width = at.width as usize;
-    let number = reach(
-        child,
-        513,
-        nodes,
-        count,
-        &mut words[width..],
-        places,
-        entered,
-    );
-    if number == NONE {
-        return false;
+impl<'a> Passage<'a> {
+    // To a handle below the window.
+    fn hand_below(&mut self, child: u32, ways: u64, nodes: &[u32], count: u32) -> Option<()>
+        requires { HandAsks nodes.now count self.old }
+        ensures { Handed child ways nodes.now count self.old self.new (is_some result) }
+    {
+        let number = reach(child, 513, nodes, count, &mut self.parts)?;
+        let size = size_of(&self.parts, number)?;
+        self.total = self.total.checked_add(ways.checked_mul(size)?)?;
+        Some(())
     }
-    let size = size_of(&words[width..], places, number);
-    let sum = raised(*total, ways, size);
-    if sum == 0 {
-        return false;
-    }
-    *total = sum;
-    true
-}
 
-// To a handle that is not {}.
-fn hand_on(
-    child: u32,
-    ways: u64,
-    left: u32,
-    at: Layout,
-    nodes: &[u32],
-    count: u32,
-    words: &mut [u64],
-    entered: &mut u32,
-    total: &mut u64,
-) -> bool
-    requires { HandAsks nodes.now count words.old left at.width at.places entered.old }
-    ensures { Handed child ways left at.low nodes.now count at.width at.places words.old entered.old total.old words.new entered.new total.new result }
-{
-    if at.low <= child {
-        return hand_down(words, left, child - at.low, ways);
-    }
-    hand_below(child, ways, left, at, nodes, count, words, entered, total)
-}
-
-// To both sides of a node. The without-side has no call of `hand_on`, so that the compiler makes the loop of one piece.
-pub fn hand_both(
-    p: u32,
-    ways: u64,
-    left: u32,
-    at: Layout,
-    nodes: &[u32],
-    count: u32,
-    words: &mut [u64],
-    entered: &mut u32,
-    total: &mut u64,
-) -> bool
-    requires { BothAsks p nodes.now count words.old left at.width at.places entered.old }
-    ensures { HandedBoth p ways left at.low nodes.now count at.width at.places words.old entered.old total.old words.new entered.new total.new result }
-{
-    let base = 3 * (p - 2) as usize;
-    let zero = nodes[base + 1];
-    let one = nodes[base + 2];
-    if zero == 0 {
-        return hand_on(one, ways, left, at, nodes, count, words, entered, total);
-    }
-    if at.low <= zero {
-        if !hand_down(words, left, zero - at.low, ways) {
-            return false;
+    // To a handle that is not {}.
+    fn hand_on(&mut self, child: u32, ways: u64, nodes: &[u32], count: u32) -> Option<()>
+        requires { HandAsks nodes.now count self.old }
+        ensures { Handed child ways nodes.now count self.old self.new (is_some result) }
+    {
+        if self.low <= child {
+            return hand_down(self.window, self.left, child - self.low, ways);
         }
-        return hand_on(one, ways, left, at, nodes, count, words, entered, total);
+        self.hand_below(child, ways, nodes, count)
     }
-    if !hand_below(zero, ways, left, at, nodes, count, words, entered, total) {
-        return false;
+
+    // To both sides of a node. The without-side has no call of `hand_on`, so that the compiler makes the loop of one piece.
+    pub fn hand_both(&mut self, p: u32, ways: u64, nodes: &[u32], count: u32) -> Option<()>
+        requires { BothAsks p nodes.now count self.old }
+        ensures { HandedBoth p ways nodes.now count self.old self.new (is_some result) }
+    {
+        let base = 3 * (p - 2) as usize;
+        let zero = nodes[base + 1];
+        let one = nodes[base + 2];
+        if zero == 0 {
+            return self.hand_on(one, ways, nodes, count);
+        }
+        if self.low <= zero {
+            hand_down(self.window, self.left, zero - self.low, ways)?;
+            return self.hand_on(one, ways, nodes, count);
+        }
+        self.hand_below(zero, ways, nodes, count)?;
+        self.hand_on(one, ways, nodes, count)
     }
-    hand_on(one, ways, left, at, nodes, count, words, entered, total)
 }

@@ -1,4 +1,3 @@
 -- What the contracts of `report_line` cite.
 pub mod Line
 pub mod Promise
-pub mod Inner

@@ -67,13 +67,13 @@ unfoldable pub line_of : List ℕ → Progress
 line_of bytes = (foldl next_byte begin bytes).progress
 
 -- the state that a reading stands for
-abbrev pub progress_of : Stage → Side → List ℕ → ℕ → Progress
-progress_of Blank s c n = blank
-progress_of Letter s c n = letter s c
-progress_of Space s c n = space s c
-progress_of Number s c n = numeral s c n
-progress_of Whole s c n = whole s c
-progress_of Malformed s c n = malformed
+abbrev pub progress_of : Stage → Progress
+progress_of Blank = blank
+progress_of (Letter panel) = letter panel.side (items_of panel.items.words)
+progress_of (Space panel) = space panel.side (items_of panel.items.words)
+progress_of (Number panel item) = numeral panel.side (items_of panel.items.words) item
+progress_of (Whole panel) = whole panel.side (items_of panel.items.words)
+progress_of Malformed = malformed
 
 abbrev pub state_of : Reading → LineState
-state_of r = record { progress = progress_of r.stage r.side (items_of r.items.words) r.item; left = r.left }
+state_of r = record { progress = progress_of r.stage; left = r.left }

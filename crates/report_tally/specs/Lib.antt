@@ -1,4 +1,3 @@
 -- What the contracts of `report_tally` cite.
 pub mod Log
 pub mod Promise
-pub mod Inner

@@ -1,5 +1,5 @@
 -- What the program prints: document 01, 'Report program', as bytes.
-use Rattle.std.specs.Prelude.{ℕ, zero, suc, ◌+◌, ◌/◌, ◌%◌, cond, List, [], ◌∷◌, ◌++◌, ltb}
+use Rattle.std.specs.Prelude.{ℕ, zero, suc, ◌+◌, ◌/◌, ◌%◌, cond, List, [], ◌∷◌, ◌++◌, ltb, codes}
 
 -- The digits of a number with no leading zeros: its last digit behind those of its tenth.
 -- The first number says how often to divide at most.
@@ -10,37 +10,30 @@ digits_from (suc k) n = cond (ltb n 10) ((48 + n) ∷ []) (digits_from k (n / 10
 unfoldable pub decimal_of : ℕ → List ℕ
 decimal_of n = digits_from (suc n) n
 
--- `line `
+-- the words that are printed
 abbrev pub line_word : List ℕ
-line_word = 108 ∷ 105 ∷ 110 ∷ 101 ∷ 32 ∷ []
+line_word = codes "line "
 
--- ` refused` and a newline
 abbrev pub refused_word : List ℕ
-refused_word = 32 ∷ 114 ∷ 101 ∷ 102 ∷ 117 ∷ 115 ∷ 101 ∷ 100 ∷ 10 ∷ []
+refused_word = codes " refused\n"
 
--- ` full` and a newline
 abbrev pub full_word : List ℕ
-full_word = 32 ∷ 102 ∷ 117 ∷ 108 ∷ 108 ∷ 10 ∷ []
+full_word = codes " full\n"
 
--- `report full` and a newline
 abbrev pub report_full : List ℕ
-report_full = 114 ∷ 101 ∷ 112 ∷ 111 ∷ 114 ∷ 116 ∷ 32 ∷ 102 ∷ 117 ∷ 108 ∷ 108 ∷ 10 ∷ []
+report_full = codes "report full\n"
 
--- `passed `
 abbrev pub passed_word : List ℕ
-passed_word = 112 ∷ 97 ∷ 115 ∷ 115 ∷ 101 ∷ 100 ∷ 32 ∷ []
+passed_word = codes "passed "
 
--- `returned `
 abbrev pub returned_word : List ℕ
-returned_word = 114 ∷ 101 ∷ 116 ∷ 117 ∷ 114 ∷ 110 ∷ 101 ∷ 100 ∷ 32 ∷ []
+returned_word = codes "returned "
 
--- `both `
 abbrev pub both_word : List ℕ
-both_word = 98 ∷ 111 ∷ 116 ∷ 104 ∷ 32 ∷ []
+both_word = codes "both "
 
--- `only-returned `
 abbrev pub only_word : List ℕ
-only_word = 111 ∷ 110 ∷ 108 ∷ 121 ∷ 45 ∷ 114 ∷ 101 ∷ 116 ∷ 117 ∷ 114 ∷ 110 ∷ 101 ∷ 100 ∷ 32 ∷ []
+only_word = codes "only-returned "
 
 -- "prints only `line 3 refused`, with its number counted from 1, and a full store `line 3 full`": the last word is
 -- either

@@ -1,72 +1,66 @@
-// Words and numbers as bytes, written one behind the other to an output.
+// The texts that the report program prints.
 #![tactic(auto)]
 
-ghost use Rattle.std.specs.Prelude.{◌+◌, ◌≤◌, ◌<◌, [], ◌∷◌, length};
-ghost use Rattle.report_text.specs.Text.{decimal_of, line_text, sum_text, sums_text};
-ghost use Rattle.report_text.specs.Promise.{Wrote};
-ghost use Rattle.report_text.specs.Inner.{LineFits};
+ghost use Rattle.std.specs.Prelude.{◌≡◌, ◌+◌, ◌≤◌, ◌++◌, length};
+ghost use Rattle.arrayvec.specs.ArrayString.{array_string_len};
+ghost use Rattle.report_text.specs.Text.{decimal_of, line_text, report_full, sum_text, sums_text};
 
-// Writes one byte at a place, and gives the next one.
-fn put_byte(out: &mut [u8], at: usize, b: u8) -> usize
-    requires { at < length out.old }
-    ensures { Wrote out.old at (b ∷ []) result out.new }
+use arrayvec::ArrayString;
+use itoa::Buffer;
+
+// A text of at most 128 bytes: the longest, of four sizes of 20 digits each, has 119.
+pub type Text = ArrayString<128>;
+
+// Appends a number in decimal digits.
+#[tactic(auto, using(crate::proofs::Writings::decimal_same))]
+fn put_number(text: &mut Text, n: u64)
+    requires { array_string_len text.old + 20 ≤ 128 }
+    ensures bytes { text.new.bytes ≡ text.old.bytes ++ decimal_of n }
+    ensures short { array_string_len text.new ≤ array_string_len text.old + 20 }
 {
-    out[at] = b;
-    at + 1
+    text.push_str(Buffer::new().format(n));
 }
 
-// Writes a word from a place on.
-pub fn put_word(out: &mut [u8], at: usize, word: &[u8]) -> usize
-    requires { at + length word.now ≤ length out.old }
-    ensures { Wrote out.old at word.now result out.new }
+// Appends a word, a number and a newline.
+fn put_sum(text: &mut Text, word: &str, n: u64)
+    requires { array_string_len text.old + (length word.now + 21) ≤ 128 }
+    ensures bytes { text.new.bytes ≡ text.old.bytes ++ sum_text word.now n }
+    ensures short { array_string_len text.new ≤ array_string_len text.old + (length word.now + 21) }
 {
-    let mut i: usize = 0;
-    while i < word.len() {
-        out[at + i] = word[i];
-        i = i + 1;
-    }
-    at + i
+    text.push_str(word);
+    put_number(text, n);
+    text.push('\n');
 }
 
-// Writes the decimal digits of a number from a place on.
-fn spell(out: &mut [u8], at: usize, n: u64) -> usize
-    requires { at + length (decimal_of n) ≤ length out.old }
-    ensures { Wrote out.old at (decimal_of n) result out.new }
+// The four lines of the report.
+pub fn sums(passed: u64, returned: u64, both: u64, only: u64) -> Text
+    ensures { result.bytes ≡ sums_text passed returned both only }
 {
-    if n < 10 {
-        return put_byte(out, at, b'0' + n as u8);
-    }
-    let next = spell(out, at, n / 10);
-    put_byte(out, next, b'0' + (n % 10) as u8)
+    let mut text = Text::new();
+    put_sum(&mut text, "passed ", passed);
+    put_sum(&mut text, "returned ", returned);
+    put_sum(&mut text, "both ", both);
+    put_sum(&mut text, "only-returned ", only);
+    text
 }
 
-// Writes a word, a number and a newline from a place on.
-fn put_sum(out: &mut [u8], at: usize, word: &[u8], n: u64) -> usize
-    requires { at + (length word.now + 21) ≤ length out.old }
-    ensures { Wrote out.old at (sum_text word.now n) result out.new }
+// The number of a line and a word behind it.
+pub fn line(n: u64, word: &str) -> Text
+    requires { length word.now ≤ 20 }
+    ensures { result.bytes ≡ line_text n word.now }
 {
-    let first = put_word(out, at, word);
-    let second = spell(out, first, n);
-    put_byte(out, second, b'\n')
+    let mut text = Text::new();
+    text.push_str("line ");
+    put_number(&mut text, n);
+    text.push_str(word);
+    text
 }
 
-// Writes the four lines of the report.
-pub fn put_sums(out: &mut [u8], passed: u64, returned: u64, both: u64, only: u64) -> usize
-    requires { 128 ≤ length out.old }
-    ensures { Wrote out.old 0 (sums_text passed returned both only) result out.new }
+// The store was full in the closing sums.
+pub fn full() -> Text
+    ensures { result.bytes ≡ report_full }
 {
-    let first = put_sum(out, 0, b"passed ", passed);
-    let second = put_sum(out, first, b"returned ", returned);
-    let third = put_sum(out, second, b"both ", both);
-    put_sum(out, third, b"only-returned ", only)
-}
-
-// Writes the number of a line and a word behind it.
-pub fn put_line(out: &mut [u8], n: u64, word: &[u8]) -> usize
-    requires { LineFits out.old word.now }
-    ensures { Wrote out.old 0 (line_text n word.now) result out.new }
-{
-    let first = put_word(out, 0, b"line ");
-    let second = spell(out, first, n);
-    put_word(out, second, word)
+    let mut text = Text::new();
+    text.push_str("report full\n");
+    text
 }

@@ -14,9 +14,9 @@ use Rattle.words.proofs.Cases.{clash}
 use Rattle.store.specs.declared.record.Store.{Store}
 use Rattle.store.specs.declared.record.Refusal.{Refusal}
 use Rattle.store.specs.declared.record.Refusal.TheVariants.{Damaged}
-use Rattle.store.specs.declared.record.PlaceAnswer.{PlaceAnswer}
-use Rattle.store.specs.declared.record.PlaceAnswer.TheVariants.{Refused}
-use Rattle.store.specs.declared.record.Placed.{Placed}
+use Rattle.std.proofs.Common.{Result, Ok, Err}
+use Rattle.store.specs.declared.record.Placement.{Placement}
+use Rattle.store.specs.declared.record.Answered.{Answered}
 use Rattle.store.specs.Capacity.{fitting}
 use Rattle.store.specs.Refusals.{refusal_number, Given, given_by}
 use Rattle.store.specs.Words.{top_at}
@@ -28,7 +28,7 @@ use Rattle.store.proofs.Fitting.{fits_true, true_fits}
 use Rattle.store.proofs.Held.{top_at_lem, within}
 use Rattle.store.proofs.Decoding.{sound_holds}
 
-pub placed_is : {r : Placed} {s : Store} {a : PlaceAnswer} → r.store ≡ s → r.answer ≡ a → r ≡ record { store = s; answer = a }
+pub placed_is : {r : Answered Placement} {s : Store} {a : Result Placement Refusal} → r.store ≡ s → r.answer ≡ a → r ≡ record { store = s; answer = a }
 placed_is p q = λ i. record { store = p i; answer = q i }
 
 pub left_is : {g g' : Given} {s s' : Store} {n n' l l' : List ℕ} → g ≡ g' → s ≡ s' → n ≡ n' → l ≡ l'
@@ -76,11 +76,11 @@ module _ (capacity : ℕ) (B : List Family) (F : Family) (n : ℕ) (size : lengt
   not_large l = le-ltb (capacity - (length B - 2)) (cost_of B F) (omega (arith, cost_length B F))
 
 -- a refusal counts no node
-refused_counted : {s : Store} (r : Placed) (x : Refusal) → r.store ≡ s → r.answer ≡ Refused x → r.store.count ≡ s.count + (given_by r.answer).added
+refused_counted : {s : Store} (r : Answered Placement) (x : Refusal) → r.store ≡ s → r.answer ≡ Err x → r.store.count ≡ s.count + (given_by r.answer).added
 refused_counted r x es ea = omega (arith, ap (λ s. s.count) es, ap (λ a. (given_by a).added) ea)
 
 module _ (s : Store) (nodes lookup cache : List ℕ) where
-  pub call_misfit : (refusal : ℕ) (F : Family) (r : Placed) → fitting s (length nodes) (length lookup) ≡ false → r.store ≡ s → r.answer ≡ Refused Damaged
+  pub call_misfit : (refusal : ℕ) (F : Family) (r : Answered Placement) → fitting s (length nodes) (length lookup) ≡ false → r.store ≡ s → r.answer ≡ Err Damaged
       → PlaceCall refusal F s nodes lookup cache r nodes lookup cache
   call_misfit refusal F r e es ea =
       record {
@@ -94,7 +94,7 @@ module _ (s : Store) (nodes lookup cache : List ℕ) where
       }
 
   -- refused as damaged where the store is not sound, all words as they came
-  pub call_unsound : (refusal : ℕ) (F : Family) (r : Placed) → fitting s (length nodes) (length lookup) ≡ true → (Sound s nodes lookup cache → ⊥) → (x : Refusal) → r.store ≡ s → r.answer ≡ Refused x
+  pub call_unsound : (refusal : ℕ) (F : Family) (r : Answered Placement) → fitting s (length nodes) (length lookup) ≡ true → (Sound s nodes lookup cache → ⊥) → (x : Refusal) → r.store ≡ s → r.answer ≡ Err x
       → PlaceCall refusal F s nodes lookup cache r nodes lookup cache
   call_unsound refusal F r e f x es ea =
       record {
@@ -108,14 +108,14 @@ module _ (s : Store) (nodes lookup cache : List ℕ) where
       }
 
   -- a top above the limit is in no sound store
-  pub call_high : (refusal : ℕ) (F : Family) (r : Placed) → fitting s (length nodes) (length lookup) ≡ true → (p : ℕ) → p ≤ s.count + 1 → s.limit < top_at nodes p → (x : Refusal) → r.store ≡ s → r.answer ≡ Refused x
+  pub call_high : (refusal : ℕ) (F : Family) (r : Answered Placement) → fitting s (length nodes) (length lookup) ≡ true → (p : ℕ) → p ≤ s.count + 1 → s.limit < top_at nodes p → (x : Refusal) → r.store ≡ s → r.answer ≡ Err x
       → PlaceCall refusal F s nodes lookup cache r nodes lookup cache
   call_high refusal F r e p held high x es ea =
       call_unsound refusal F r e (λ S. let H = sound_holds S in omega (arith, top_at_lem H p (omega arith), (within H p (omega arith)).low)) x es ea
 
   -- refused before anything is placed
-  pub call_refused : (n : ℕ) (F : Family) (r : Placed) (x : Refusal) → fitting s (length nodes) (length lookup) ≡ true → refusal_number x ≡ n → (n ≡ 5 → ⊥)
-      → r.store ≡ s → r.answer ≡ Refused x → PlaceCall n F s nodes lookup cache r nodes lookup cache
+  pub call_refused : (n : ℕ) (F : Family) (r : Answered Placement) (x : Refusal) → fitting s (length nodes) (length lookup) ≡ true → refusal_number x ≡ n → (n ≡ 5 → ⊥)
+      → r.store ≡ s → r.answer ≡ Err x → PlaceCall n F s nodes lookup cache r nodes lookup cache
   unfolding placing place_answer cache_refused
   call_refused n F r x e en five es ea =
       let some : n ≡ 0 → ⊥ = λ d. refusal_some x (en ∙ d) in

@@ -7,7 +7,8 @@ use mathlib.Core.List.{List}
 use native.Mathlib.Omega.{arith}
 use Rattle.words.proofs.Cases.{by_lt}
 use Rattle.store.specs.Words.{top_at}
-use Rattle.store.specs.Inner.{Fill, Roomy, Kept, Added}
+use Rattle.store.specs.declared.record.Fill.{Fill}
+use Rattle.store.specs.Inner.{Roomy, Kept, Added}
 use Rattle.store.proofs.Held.{top_leaf, top_node}
 
 pub kept_self : (s : Fill) (nodes lookup : List ℕ) → s.count ≤ s.capacity → Kept s nodes lookup s nodes lookup

@@ -8,11 +8,12 @@ use native.Mathlib.Omega.{arith}
 use Rattle.family.specs.Family.{Family}
 use Rattle.family.specs.Book.{at, place}
 use Rattle.family.proofs.Placing.{place_grown, place_held}
-use Rattle.store.specs.Coded.{damaged_number, reached_as}
-use Rattle.store.specs.Inner.{Fill, Reached, Roomy, Holds, gave, Ran, RanPlain}
+use Rattle.std.proofs.Common.{Ok, Err}
+use Rattle.store.specs.declared.record.Refusal.TheVariants.{Damaged}
+use Rattle.store.specs.declared.record.Fill.{Fill}
+use Rattle.store.specs.Inner.{reached, Reached, Roomy, Holds, gave, Ran, RanPlain}
 use Rattle.store.proofs.Held.{held}
 use Rattle.store.proofs.Answers.{handle_is, damaged_not}
-use Rattle.store.proofs.Codes.{coded_held, coded_damaged}
 use Rattle.store.proofs.Growing.{kept_self}
 use Rattle.store.proofs.Cached.{true_grown}
 
@@ -22,22 +23,21 @@ place_at {B} H h l = place_held B (at B h) H.book (held H h l)
 
 module _ (least : ℕ) (F : List Family → Family) (s : Fill) (nodes lookup : List ℕ) where
   -- a handle in the book already
-  pub plain_coded : Roomy s nodes lookup → (h : ℕ) → h ≤ s.count + 1 → ((limit : ℕ) (B : List Family) → Holds limit B s.count nodes lookup → at B h ≡ F B)
-      → RanPlain least F s nodes lookup (reached_as s.capacity s.count h) nodes lookup
-  plain_coded R h l means =
-      let held = coded_held h R R.within l in
+  pub plain_held : Roomy s nodes lookup → (h : ℕ) → h ≤ s.count + 1 → ((limit : ℕ) (B : List Family) → Holds limit B s.count nodes lookup → at B h ≡ F B)
+      → RanPlain least F s nodes lookup (reached s (Ok h)) nodes lookup
+  plain_held R h l means =
       record {
         kept = kept_self s nodes lookup R.within;
-        handle = λ k e. omega (arith, handle_is (sym held ∙ e));
-        sound = λ B m H. rw (held, ← means _ B H, place_at H h (omega arith)) (gave {h = h} (record { holds = H; within = omega arith; means = refl }));
+        handle = λ k e. omega (arith, handle_is e);
+        sound = λ B m H. rw (← means _ B H, place_at H h (omega arith)) (gave {h = h} (record { holds = H; within = omega arith; means = refl }));
       }
 
   -- words that hold no book
-  pub plain_broken : Roomy s nodes lookup → ((limit : ℕ) (B : List Family) → Holds limit B s.count nodes lookup → ⊥) → RanPlain least F s nodes lookup (reached_as s.capacity s.count damaged_number) nodes lookup
+  pub plain_broken : Roomy s nodes lookup → ((limit : ℕ) (B : List Family) → Holds limit B s.count nodes lookup → ⊥) → RanPlain least F s nodes lookup (reached s (Err Damaged)) nodes lookup
   plain_broken R f =
       record {
         kept = kept_self s nodes lookup R.within;
-        handle = λ h e. damaged_not h (coded_damaged damaged_number (omega arith) (omega arith)) e;
+        handle = λ h e. damaged_not h refl e;
         sound = λ B m H. absurd (f _ B H);
       }
 

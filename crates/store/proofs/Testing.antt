@@ -12,15 +12,15 @@ use Rattle.words.proofs.Cases.{by_test, by_lt, by_eq}
 use Rattle.store.specs.declared.record.Store.{Store}
 use Rattle.store.specs.declared.record.Refusal.{Refusal}
 use Rattle.store.specs.declared.record.Refusal.TheVariants.{Damaged}
-use Rattle.store.specs.declared.tests.Test.{Test}
-use Rattle.store.specs.declared.tests.Test.TheVariants.{Clear, Refuses}
+use Rattle.std.specs.Bool.{⊤}
+use Rattle.std.proofs.Common.{Result, Ok, Err}
 use Rattle.store.specs.Capacity.{fitting}
 use Rattle.store.specs.Refusals.{refusal_number}
 use Rattle.store.specs.Tests.{test_number, is_item, item_test, tests_of, Found}
 use Rattle.store.specs.Inner.{fill_in, Roomy}
 use Rattle.family.specs.Family.{Family}
-use Rattle.store.specs.declared.record.PlaceAnswer.TheVariants.{Refused}
-use Rattle.store.specs.declared.record.Placed.{Placed}
+use Rattle.store.specs.declared.record.Placement.{Placement}
+use Rattle.store.specs.declared.record.Answered.{Answered}
 use Rattle.store.specs.Promise.{PlaceCall}
 use Rattle.store.proofs.Calls.{refusal_some, fits_roomy, call_misfit, call_refused}
 
@@ -77,13 +77,13 @@ module _ (n p q own scratch need : ℕ) where
 
 -- the ways out of `tested`: 10 where the words do not fit the record, else the number of the tests
 module _ (s : Store) (nodes lookup p q own scratch need : ℕ) where
-  pub found_misfit : fitting s nodes lookup ≡ false → Found s nodes lookup p q own scratch need (Refuses Damaged)
+  pub found_misfit : fitting s nodes lookup ≡ false → Found s nodes lookup p q own scratch need (Err Damaged)
   found_misfit e = record { number_is = rw e }
 
-  pub found_number : (a : Test) → fitting s nodes lookup ≡ true → tests_of s.count p q own scratch need ≡ test_number a → Found s nodes lookup p q own scratch need a
+  pub found_number : (a : Result ⊤ Refusal) → fitting s nodes lookup ≡ true → tests_of s.count p q own scratch need ≡ test_number a → Found s nodes lookup p q own scratch need a
   found_number a e d = record { number_is = rw (e, d) }
 
-pub refuses_some : {a : Test} (x : Refusal) → a ≡ Refuses x → test_number a ≡ 0 → ⊥
+pub refuses_some : {a : Result ⊤ Refusal} (x : Refusal) → a ≡ Err x → test_number a ≡ 0 → ⊥
 refuses_some x e d = refusal_some x (sym (ap test_number e) ∙ d)
 
 only_damaged : (x : Refusal) → refusal_number x ≡ 10 → x ≡ Damaged
@@ -131,8 +131,8 @@ pub record Tested (s : Store) (nodes lookup : List ℕ) (p q own scratch need : 
   pub number_is : tests_of s.count p q own scratch need ≡ 0
   pub passed : Passes s.count p q own scratch need
 
-module _ (nodes lookup : List ℕ) {s : Store} {p q own scratch need : ℕ} {a : Test} (T : Found s (length nodes) (length lookup) p q own scratch need a) where
-  pub tested_clear : a ≡ Clear → Tested s nodes lookup p q own scratch need
+module _ (nodes lookup : List ℕ) {s : Store} {p q own scratch need : ℕ} {a : Result ⊤ Refusal} (T : Found s (length nodes) (length lookup) p q own scratch need a) where
+  pub tested_clear : {u : ⊤} → a ≡ Ok u → Tested s nodes lookup p q own scratch need
   tested_clear e =
       by_test (fitting s (length nodes) (length lookup))
       (λ t. let z : tests_of s.count p q own scratch need ≡ 0 = sym (sym (ap test_number e) ∙ T.number_is ∙ rw t) in
@@ -140,7 +140,7 @@ module _ (nodes lookup : List ℕ) {s : Store} {p q own scratch need : ℕ} {a :
       (λ t. absurd (let z : 0 ≡ 10 = sym (ap test_number e) ∙ T.number_is ∙ rw t in omega arith))
 
   -- a refusal is a certain 10, or has the number of the tests
-  pub tested_refuses {ℓ} : {A : Type ℓ} {x : Refusal} → a ≡ Refuses x → (fitting s (length nodes) (length lookup) ≡ false → x ≡ Damaged → A)
+  pub tested_refuses {ℓ} : {A : Type ℓ} {x : Refusal} → a ≡ Err x → (fitting s (length nodes) (length lookup) ≡ false → x ≡ Damaged → A)
       → (fitting s (length nodes) (length lookup) ≡ true → refusal_number x ≡ tests_of s.count p q own scratch need → A) → A
   tested_refuses {x = x} e misfit refused =
       by_test (fitting s (length nodes) (length lookup))
@@ -148,8 +148,8 @@ module _ (nodes lookup : List ℕ) {s : Store} {p q own scratch need : ℕ} {a :
       (λ t. misfit t (only_damaged x (sym (ap test_number e) ∙ T.number_is ∙ rw t)))
 
   -- a placing call that tests refuse, where their number is the promise's own
-  pub placing_refused : {x : Refusal} → a ≡ Refuses x → (own ≡ 5 → ⊥) → {number : ℕ} → (refusal_number x ≡ tests_of s.count p q own scratch need → refusal_number x ≡ number)
-      → (F : Family) (cache : List ℕ) (r : Placed) → r.store ≡ s → r.answer ≡ Refused x → PlaceCall number F s nodes lookup cache r nodes lookup cache
+  pub placing_refused : {x : Refusal} → a ≡ Err x → (own ≡ 5 → ⊥) → {number : ℕ} → (refusal_number x ≡ tests_of s.count p q own scratch need → refusal_number x ≡ number)
+      → (F : Family) (cache : List ℕ) (r : Answered Placement) → r.store ≡ s → r.answer ≡ Err x → PlaceCall number F s nodes lookup cache r nodes lookup cache
   placing_refused {x} e five {number} is F cache r es ea =
-      tested_refuses e (λ t d. call_misfit s nodes lookup cache number F r t es (ea ∙ ap Refused d))
+      tested_refuses e (λ t d. call_misfit s nodes lookup cache number F r t es (ea ∙ ap Err d))
       (λ t d. call_refused s nodes lookup cache number F r x t (is d) (λ z. tests_not_five s.count p q own scratch need five (sym d ∙ is d ∙ z)) es ea)

@@ -1,36 +1,27 @@
 -- What the functions below the public calls promise each other: on any words that fit, and where the words hold a
 -- book, whatever the store's limit. A reader of the promises can pass this page over.
-use Rattle.std.specs.Prelude.{ℕ, ◌+◌, ◌*◌, ◌/◌, ◌≤◌, ◌<◌, ◌≡◌, List, length, get_or, set}
+use Rattle.std.specs.Prelude.{ℕ, ◌+◌, ◌*◌, ◌/◌, ◌≤◌, ◌<◌, ◌≡◌, List, length, get_or, set, Result, Ok, Err}
 use Rattle.family.specs.Family.{Family, node, largest_item}
 use Rattle.family.specs.Book.{at, place, Book}
 use Rattle.table.specs.Entered.{entered, start_at}
 use Rattle.store.specs.declared.record.Store.{Store}
 use Rattle.store.specs.declared.record.Refusal.{Refusal}
+use Rattle.store.specs.declared.record.Fill.{Fill}
 use Rattle.store.specs.declared.record.Refusal.TheVariants.{Full}
 use Rattle.store.specs.Cache.{True}
 
--- How far a store is filled: room for so many nodes, and so many held. It is all that the inner functions are told of
--- the record, so what they promise holds for every limit.
-pub record Fill : Type 0 where
-  pub capacity : ℕ
-  pub count : ℕ
-
-abbrev pub fill_of : ℕ → ℕ → Fill
-fill_of capacity n = record { capacity = capacity; count = n }
-
--- the same of a record
+-- how far a store is filled, by its record
 abbrev pub fill_in : Store → Fill
-fill_in s = fill_of s.capacity s.count
+fill_in s = record { capacity = s.capacity; count = s.count }
 
--- what an inner call answers: what it added is the difference of two counts, told where the public call ends
-pub data Reply : Type 0 where
-  Handle : ℕ → Reply
-  Refused : Refusal → Reply
-
--- what an inner call that places comes to
+-- What an inner call that places comes to: how far the store is filled, and a handle or a refusal. What it added is the
+-- difference of two counts, told where the public call ends.
 pub record Reached : Type 0 where
   pub store : Fill
-  pub answer : Reply
+  pub answer : Result ℕ Refusal
+
+abbrev pub reached : Fill → Result ℕ Refusal → Reached
+reached s answer = record { store = s; answer = answer }
 
 -- words that fit
 pub record Roomy (s : Fill) (nodes lookup : List ℕ) : Type 0 where
@@ -60,9 +51,9 @@ pub record Handed (limit : ℕ) (B : List Family) (F : Family) (h n : ℕ) (node
   pub means : at B h ≡ F
 
 -- the answer where the book becomes C, which has F: a handle, or full where C has no room; never damaged
-pub data Outcome (limit : ℕ) (C : List Family) (F : Family) (capacity n : ℕ) (nodes lookup : List ℕ) : Reply → Type 0 where
-  gave : {h : ℕ} → Handed limit C F h n nodes lookup → Outcome limit C F capacity n nodes lookup (Handle h)
-  full : (D : List Family) → Holds limit D n nodes lookup → capacity + 2 < length C → Outcome limit C F capacity n nodes lookup (Refused Full)
+pub data Outcome (limit : ℕ) (C : List Family) (F : Family) (capacity n : ℕ) (nodes lookup : List ℕ) : Result ℕ Refusal → Type 0 where
+  gave : {h : ℕ} → Handed limit C F h n nodes lookup → Outcome limit C F capacity n nodes lookup (Ok h)
+  full : (D : List Family) → Holds limit D n nodes lookup → capacity + 2 < length C → Outcome limit C F capacity n nodes lookup (Err Full)
 
 -- what any words keep: the capacity, the words of the nodes held before, and all words past those of the nodes held
 -- after
@@ -94,17 +85,17 @@ put_node nodes count item z o = set (set (set nodes (3 * count) item) (3 * count
 -- store whose limit is at least `least`. On any words it keeps what must be kept.
 pub record Ran (least : ℕ) (F : List Family → Family) (s : Fill) (nodes lookup cache : List ℕ) (r : Reached) (nodes' lookup' cache' : List ℕ) : Type 0 where
   pub kept : Kept s nodes lookup r.store nodes' lookup'
-  pub handle : (h : ℕ) → r.answer ≡ Handle h → h ≤ r.store.count + 1
+  pub handle : (h : ℕ) → r.answer ≡ Ok h → h ≤ r.store.count + 1
   pub long_cache : length cache' ≡ length cache
   pub rest : (k : ℕ) → length cache / 4 * 4 ≤ k → get_or cache' k 0 ≡ get_or cache k 0
   pub sound : {limit : ℕ} (B : List Family) → least ≤ limit → Holds limit B s.count nodes lookup → True limit B cache
       → Outcome limit (place B (F B)) (F B) s.capacity r.store.count nodes' lookup' r.answer
   pub cached : {limit : ℕ} (B : List Family) → least ≤ limit → Holds limit B s.count nodes lookup → True limit B cache
-      → (h : ℕ) → r.answer ≡ Handle h → True limit (place B (F B)) cache'
+      → (h : ℕ) → r.answer ≡ Ok h → True limit (place B (F B)) cache'
 
 -- a call that places the family F B with no use of the cache
 pub record RanPlain (least : ℕ) (F : List Family → Family) (s : Fill) (nodes lookup : List ℕ) (r : Reached) (nodes' lookup' : List ℕ) : Type 0 where
   pub kept : Kept s nodes lookup r.store nodes' lookup'
-  pub handle : (h : ℕ) → r.answer ≡ Handle h → h ≤ r.store.count + 1
+  pub handle : (h : ℕ) → r.answer ≡ Ok h → h ≤ r.store.count + 1
   pub sound : {limit : ℕ} (B : List Family) → least ≤ limit → Holds limit B s.count nodes lookup
       → Outcome limit (place B (F B)) (F B) s.capacity r.store.count nodes' lookup' r.answer

@@ -9,4 +9,3 @@ pub mod Placing
 pub mod Scratch
 pub mod Promise
 pub mod Inner
-pub mod Coded

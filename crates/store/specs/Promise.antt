@@ -1,11 +1,11 @@
 -- The promise of a public call that places a family: what it leaves, on every store.
-use Rattle.std.specs.Prelude.{ℕ, ◌+◌, ◌-◌, ◌*◌, ◌/◌, ◌≡◌, false, cond, List, eqb, length, drop}
+use Rattle.std.specs.Prelude.{ℕ, ◌+◌, ◌-◌, ◌*◌, ◌/◌, ◌≡◌, false, cond, List, eqb, length, drop, Err}
 use Rattle.family.specs.Family.{Family}
 use Rattle.words.specs.Words.{zeroed}
 use Rattle.store.specs.declared.record.Store.{Store}
 use Rattle.store.specs.declared.record.Refusal.TheVariants.{Damaged}
-use Rattle.store.specs.declared.record.PlaceAnswer.TheVariants.{Refused}
-use Rattle.store.specs.declared.record.Placed.{Placed}
+use Rattle.store.specs.declared.record.Placement.{Placement}
+use Rattle.store.specs.declared.record.Answered.{Answered}
 use Rattle.store.specs.Capacity.{fitting, counting}
 use Rattle.store.specs.Refusals.{Given, given_by}
 use Rattle.store.specs.Words.{book_of, nodes_with, lookup_of}
@@ -19,7 +19,7 @@ pub record Left : Type 0 where
   pub nodes : List ℕ
   pub lookup : List ℕ
 
-abbrev pub leaves : Placed → List ℕ → List ℕ → Left
+abbrev pub leaves : Answered Placement → List ℕ → List ℕ → Left
 leaves r nodes lookup = record { given = given_by r.answer; store = r.store; nodes = nodes; lookup = lookup }
 
 -- what a placing call leaves on a sound store: the answer by the book that the words hold; where refused every word
@@ -44,7 +44,7 @@ cache_refused refusal cache = cond (eqb refusal 5) (zeroed 0 (length cache / 4 *
 
 -- What a placing call promises of a sound store. "Which groups are filled after a success is free": of the cache it
 -- says that the store is sound with it, and that words past the whole groups stay.
-pub record PlacedSound (refusal : ℕ) (F : Family) (s : Store) (nodes lookup cache : List ℕ) (r : Placed) (nodes' lookup' cache' : List ℕ) : Type 0 where
+pub record PlacedSound (refusal : ℕ) (F : Family) (s : Store) (nodes lookup cache : List ℕ) (r : Answered Placement) (nodes' lookup' cache' : List ℕ) : Type 0 where
   pub leaves_is : leaves r nodes' lookup' ≡ placing refusal F s nodes lookup
   pub refused_cache : (n : ℕ) → (given_by r.answer).refusal ≡ n → (n ≡ 0 → ⊥) → cache' ≡ cache_refused n cache
   pub sound : Sound r.store nodes' lookup' cache'
@@ -52,10 +52,10 @@ pub record PlacedSound (refusal : ℕ) (F : Family) (s : Store) (nodes lookup ca
 
 -- The promise. `refusal` and `F` say, for the book that the words hold, which number refuses the call before it
 -- places, and the family that it takes.
-pub record PlaceCall (refusal : ℕ) (F : Family) (s : Store) (nodes lookup cache : List ℕ) (r : Placed) (nodes' lookup' cache' : List ℕ) : Type 0 where
+pub record PlaceCall (refusal : ℕ) (F : Family) (s : Store) (nodes lookup cache : List ℕ) (r : Answered Placement) (nodes' lookup' cache' : List ℕ) : Type 0 where
   -- a certain 10: every word and the record stay
   pub misfit : fitting s (length nodes) (length lookup) ≡ false
-      → (r ≡ record { store = s; answer = Refused Damaged }) × (nodes' ≡ nodes) × (lookup' ≡ lookup) × (cache' ≡ cache)
+      → (r ≡ record { store = s; answer = Err Damaged }) × (nodes' ≡ nodes) × (lookup' ≡ lookup) × (cache' ≡ cache)
   pub on_sound : Sound s nodes lookup cache → PlacedSound refusal F s nodes lookup cache r nodes' lookup' cache'
   -- on any store: lengths, capacity and limit stay, and a refusal hands the record back as it came
   pub lengths : (length nodes' ≡ length nodes) × (length lookup' ≡ length lookup) × (length cache' ≡ length cache)

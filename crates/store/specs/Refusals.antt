@@ -1,10 +1,9 @@
 -- The refusals by document 01's numbers, and the values of an answer: document 01, 'Numbers and trade words'; 11, 13
 -- and the number added are document 02's.
-use Rattle.std.specs.Prelude.{ℕ}
+use Rattle.std.specs.Prelude.{ℕ, Result, Ok, Err}
 use Rattle.store.specs.declared.record.Refusal.{Refusal}
 use Rattle.store.specs.declared.record.Refusal.TheVariants.{Tiny, ShortLookup, Item, Handle as NoHandle, Full, Large, Scratch, Output, NoFile, Damaged, Weights, AboveLimit}
-use Rattle.store.specs.declared.record.PlaceAnswer.{PlaceAnswer}
-use Rattle.store.specs.declared.record.PlaceAnswer.TheVariants.{Handle, Refused}
+use Rattle.store.specs.declared.record.Placement.{Placement}
 
 -- the numbers of the table
 abbrev pub refusal_number : Refusal → ℕ
@@ -32,6 +31,6 @@ pub record Given : Type 0 where
 abbrev pub refused_by : ℕ → Given
 refused_by n = record { refusal = n; handle = 0; added = 0 }
 
-abbrev pub given_by : PlaceAnswer → Given
-given_by (Handle h n) = record { refusal = 0; handle = h; added = n }
-given_by (Refused r) = refused_by (refusal_number r)
+abbrev pub given_by : Result Placement Refusal → Given
+given_by (Ok p) = record { refusal = 0; handle = p.handle; added = p.added }
+given_by (Err r) = refused_by (refusal_number r)

@@ -1,16 +1,15 @@
 -- The tests before a call, in the order of document 01, 'Numbers and trade words': 10, 4, 3, 7; 11 of document 02 is
 -- "directly after 4".
-use Rattle.std.specs.Prelude.{ℕ, ◌+◌, ◌≡◌, Bool, cond, ◌&&◌, eqb, ltb, leb}
-use Rattle.store.specs.declared.tests.Test.{Test}
-use Rattle.store.specs.declared.tests.Test.TheVariants.{Clear, Refuses}
+use Rattle.std.specs.Prelude.{ℕ, ◌+◌, ◌≡◌, ⊤, Bool, cond, ◌&&◌, eqb, ltb, leb, Result, Ok, Err}
+use Rattle.store.specs.declared.record.Refusal.{Refusal}
 use Rattle.store.specs.declared.record.Store.{Store}
 use Rattle.store.specs.Capacity.{fitting}
 use Rattle.store.specs.Refusals.{refusal_number}
 
 -- the number of what tests find, 0 where nothing refuses the call
-abbrev pub test_number : Test → ℕ
-test_number Clear = 0
-test_number (Refuses r) = refusal_number r
+abbrev pub test_number : Result ⊤ Refusal → ℕ
+test_number (Ok _) = 0
+test_number (Err r) = refusal_number r
 
 -- whether a number is an item of a store: 3 is "item 0 or above 512", and "Item checks use the store's own limit"
 unfoldable pub is_item : ℕ → ℕ → Bool
@@ -28,5 +27,5 @@ tests_of count p q own scratch need =
 
 -- What the tests of a call find over words of these lengths: 10 where the record does not fit them, else the number
 -- of the tests.
-pub record Found (s : Store) (nodes lookup p q own scratch need : ℕ) (r : Test) : Type 0 where
+pub record Found (s : Store) (nodes lookup p q own scratch need : ℕ) (r : Result ⊤ Refusal) : Type 0 where
   pub number_is : test_number r ≡ cond (fitting s nodes lookup) (tests_of s.count p q own scratch need) 10

@@ -1,6 +1,5 @@
-// The store's record, the tests of every call, and answers as one number.
+// The store's record and answers, and the tests of every call.
 #![tactic(auto)]
 
-pub mod coded;
 pub mod record;
 pub mod tests;

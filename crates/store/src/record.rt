@@ -1,6 +1,8 @@
-// The store record, the refusals and the answers of a call that places.
-ghost use Rattle.std.specs.Prelude.{◌≡◌, true, false, ◌+◌, leb};
+// The store record, the refusals and the answers of a call.
+ghost use Rattle.std.specs.Prelude.{◌≡◌, ◌+◌, leb, Ok, Err};
 ghost use Rattle.store.specs.Capacity.{capacity_of, is_limit, fitting, counting};
+ghost use Rattle.store.specs.Inner.{fill_in};
+ghost use Rattle.store.specs.Refusals.{refusal_number};
 
 // The refusals, numbered 1 to 11 in this order, and 13.
 #[derive(Clone, Copy)]
@@ -19,6 +21,28 @@ pub enum Refusal {
     AboveLimit,
 }
 
+// The number of a refusal.
+impl From<Refusal> for u32 {
+    ghost from_gives = { λ refusal number. number ≡ refusal_number refusal };
+
+    fn from(refusal: Refusal) -> u32 {
+        match refusal {
+            Refusal::Tiny => 1,
+            Refusal::ShortLookup => 2,
+            Refusal::Item => 3,
+            Refusal::Handle => 4,
+            Refusal::Full => 5,
+            Refusal::Large => 6,
+            Refusal::Scratch => 7,
+            Refusal::Output => 8,
+            Refusal::NoFile => 9,
+            Refusal::Damaged => 10,
+            Refusal::Weights => 11,
+            Refusal::AboveLimit => 13,
+        }
+    }
+}
+
 // The record, laid out as C has it: how many nodes there is room for, how many are held, and the largest item that
 // they may have.
 #[repr(C)]
@@ -29,29 +53,33 @@ pub struct Store {
     pub limit: u32,
 }
 
-// What a call that places a family answers: its handle and how many nodes were added, or a refusal.
+// How far a store is filled: room for so many nodes, and so many held. It is all that the inner functions are told of
+// the record, so what they promise holds for every limit.
 #[derive(Clone, Copy)]
-pub enum PlaceAnswer {
-    Handle(u32, u32),
-    Refused(Refusal),
+pub struct Fill {
+    pub capacity: u32,
+    pub count: u32,
 }
 
-// What a call that places a family gives back.
+// What a call that places a family answers: its handle and how many nodes were added.
 #[derive(Clone, Copy)]
-pub struct Placed {
+pub struct Placement {
+    pub handle: u32,
+    pub added: u32,
+}
+
+// What a call gives back: the record, and its answer or a refusal.
+#[derive(Clone, Copy)]
+pub struct Answered<T> {
     pub store: Store,
-    pub answer: PlaceAnswer,
+    pub answer: Result<T, Refusal>,
 }
 
 // The capacity that so many node words give.
 pub fn capacity_of(words: usize) -> u32
     ensures { result ≡ capacity_of words }
 {
-    let nodes = words / 3;
-    if nodes < 1000000 {
-        return nodes as u32;
-    }
-    1000000
+    (words / 3).min(1000000) as u32
 }
 
 // Whether a number is an item limit, 1 to 512.
@@ -71,9 +99,19 @@ impl Store {
         ensures { (result.capacity ≡ capacity) × (result.count ≡ 0) × (result.limit ≡ limit) }
     {
         Store {
-            capacity: capacity,
+            capacity,
             count: 0,
-            limit: limit,
+            limit,
+        }
+    }
+
+    // How far the store is filled.
+    pub fn fill(self) -> Fill
+        ensures { result ≡ fill_in self }
+    {
+        Fill {
+            capacity: self.capacity,
+            count: self.count,
         }
     }
 
@@ -111,23 +149,27 @@ impl Store {
         self.count <= self.capacity
     }
 
-    // A handle given, for which so many nodes were added, with the record as it is.
-    pub fn placed(self, handle: u32, added: u32) -> Placed
-        ensures { (result.store ≡ self) × (result.answer ≡ PlaceAnswer.Handle handle added) }
+    // An answer, with the record as it is.
+    pub fn answered<T>(self, answer: Result<T, Refusal>) -> Answered<T>
+        ensures { (result.store ≡ self) × (result.answer ≡ answer) }
     {
-        Placed {
+        Answered {
             store: self,
-            answer: PlaceAnswer::Handle(handle, added),
+            answer,
         }
     }
 
-    // A refusal, with the record as it is.
-    pub fn refused(self, refusal: Refusal) -> Placed
-        ensures { (result.store ≡ self) × (result.answer ≡ PlaceAnswer.Refused refusal) }
+    // A handle given, for which so many nodes were added, with the record as it is.
+    pub fn placed(self, handle: u32, added: u32) -> Answered<Placement>
+        ensures { (result.store ≡ self) × (result.answer ≡ Ok (record { handle = handle; added = added })) }
     {
-        Placed {
-            store: self,
-            answer: PlaceAnswer::Refused(refusal),
-        }
+        self.answered(Ok(Placement { handle, added }))
+    }
+
+    // A refusal, with the record as it is.
+    pub fn refused<T>(self, refusal: Refusal) -> Answered<T>
+        ensures { (result.store ≡ self) × (result.answer ≡ Err refusal) }
+    {
+        self.answered(Err(refusal))
     }
 }

@@ -4,24 +4,17 @@ ghost use Rattle.store.specs.Tests.{test_number, item_test, Found};
 
 use crate::record::{Refusal, Store};
 
-// What tests find: nothing, or what refuses the call.
-#[derive(Clone, Copy)]
-pub enum Test {
-    Clear,
-    Refuses(Refusal),
-}
-
 // The test of an item in a store of some limit.
-pub fn item_test(limit: u32, item: u32) -> Test
+pub fn item_test(limit: u32, item: u32) -> Result<(), Refusal>
     ensures { test_number result ≡ item_test limit item }
 {
     if item < 1 {
-        return Test::Refuses(Refusal::Item);
+        return Err(Refusal::Item);
     }
     if limit < item {
-        return Test::Refuses(Refusal::Item);
+        return Err(Refusal::Item);
     }
-    Test::Clear
+    Ok(())
 }
 
 // What refuses a call over words of these lengths: a record that does not fit, a handle that is not held, what the
@@ -33,26 +26,24 @@ pub fn tested(
     lookup: usize,
     p: u32,
     q: u32,
-    own: Test,
+    own: Result<(), Refusal>,
     scratch: usize,
     need: usize,
-) -> Test
+) -> Result<(), Refusal>
     ensures { Found store nodes lookup p q (test_number own) scratch need result }
 {
     if !store.fits(nodes, lookup) {
-        return Test::Refuses(Refusal::Damaged);
+        return Err(Refusal::Damaged);
     }
     if !store.holds(p) {
-        return Test::Refuses(Refusal::Handle);
+        return Err(Refusal::Handle);
     }
     if !store.holds(q) {
-        return Test::Refuses(Refusal::Handle);
+        return Err(Refusal::Handle);
     }
-    let Test::Clear = own else {
-        return own;
-    };
+    own?;
     if scratch < need {
-        return Test::Refuses(Refusal::Scratch);
+        return Err(Refusal::Scratch);
     }
-    Test::Clear
+    Ok(())
 }

@@ -1,29 +1,15 @@
 -- How many slots hold a number: slot by slot, and a lookup that is a part of another and holds as many numbers is
 -- that other.
 -- By induction on the slots: where a slot of the part is empty and that of the whole is not, the whole holds more.
-use Prim.Native.Nat.{ℕ, suc, ◌+◌, ◌≤◌, ◌<◌}
-use mathlib.Core.Path.{◌≡◌, refl, sym, ap, ◌∙◌}
-use mathlib.Core.List.{List, [], ◌∷◌}
-use native.Mathlib.Omega.{arith}
-use native.Mathlib.Numerals.{add-one}
-use lib.ListN.{length, get_or, drop, drop_of_length-le}
-use lib.Seq.{drop-cons}
-use borrow.Author.Tests.{eq-eqb, ne_eqb}
+use Rattle.std.proofs.Common.{◌≡◌, ℕ, suc, ◌≤◌, not, eqb, List, [], ◌∷◌, length, get_or, refl, sym, ◌∙◌, arith, count_by}
+use Rattle.std.proofs.lemmas.List.Recursion.{is_count_by}
 use Rattle.words.proofs.Cases.{by_eq}
 use Rattle.table.specs.Entered.{used}
 
--- one slot more, counted or not
-pub used_more : (l : List ℕ) (k : ℕ) → k < length l → (get_or l k 0 ≡ 0 → ⊥) → used (drop k l) ≡ used (drop (k + 1) l) + 1
+-- it is how many of its numbers are not 0
+pub used_count : (l : List ℕ) → used l ≡ count_by (λ x. not (eqb x 0)) l
 unfolding used
-used_more l k h d = ap used (drop-cons l k 0 h) ∙ rw (ne_eqb (get_or l k 0) 0 d, add-one k, add-one)
-
-pub used_same : (l : List ℕ) (k : ℕ) → k < length l → get_or l k 0 ≡ 0 → used (drop k l) ≡ used (drop (k + 1) l)
-unfolding used
-used_same l k h e = ap used (drop-cons l k 0 h) ∙ rw (eq-eqb (get_or l k 0) 0 e, add-one k)
-
-pub used_end : (l : List ℕ) (k : ℕ) → length l ≤ k → used (drop k l) ≡ 0
-unfolding used
-used_end l k h = rw (drop_of_length-le l h)
+used_count l = is_count_by used (λ x. not (eqb x 0)) refl (λ x xs. by_eq x 0 (λ p e. rw e) (λ p e. rw e (omega arith))) l
 
 -- each number of the one stands at its slot in the other
 pub record Part (l m : List ℕ) : Type 0 where

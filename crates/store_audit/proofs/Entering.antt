@@ -6,7 +6,7 @@ use Prim.Native.Nat.{ℕ, zero, suc, ◌+◌, ◌*◌, ◌≤◌, ◌<◌}
 use mathlib.Core.Path.{◌≡◌, refl, sym, ap, ◌∙◌, subst}
 use mathlib.Core.Bool.{Bool, true}
 use mathlib.Core.List.{List}
-use mathlib.Core.Logic.{⊎_elim}
+use mathlib.Core.Logic.{inl, inr, ⊎_elim}
 use native.Mathlib.Omega.{arith}
 use lib.Dec.{eqb}
 use lib.ListN.{length, get_or, get_or-eq_default}
@@ -19,7 +19,7 @@ use Rattle.table.proofs.Scan.{scan_refine}
 use Rattle.table.proofs.Stops.{Has, stop_low, stop_high}
 use Rattle.table.proofs.Filled.{slot_at, holds, filled}
 use Rattle.table.proofs.Found.{starts_in, found}
-use Rattle.table.proofs.OwnSlots.{own_none, own_above, own_search, own_entered, Distinct, Items}
+use Rattle.table.proofs.OwnSlots.{own_none, own_search, own_entered, Distinct, Items}
 use Rattle.store_audit.specs.Inner.{OwnAt}
 use Rattle.store_audit.proofs.Rows.{rows, rows_length, row_free, row_all, row_past}
 
@@ -29,10 +29,10 @@ module _ (nodes l : List ℕ) (k : ℕ) (own : OwnAt nodes l k) where
   not_past e = omega (arith, own, ap (λ x. get_or l x 0) e, get_or-eq_default l 0 {n = length l} (omega arith))
 
   own_low : 1 ≤ get_or nodes (3 * k) 0
-  own_low = by_lt (get_or nodes (3 * k) 0) 1 (λ h e. absurd (not_past (own_none nodes l k h))) (λ h e. h)
+  own_low = by_lt (get_or nodes (3 * k) 0) 1 (λ h e. absurd (not_past (own_none nodes l k (inl h)))) (λ h e. h)
 
   own_high : get_or nodes (3 * k) 0 ≤ 512
-  own_high = by_lt 512 (get_or nodes (3 * k) 0) (λ h e. absurd (not_past (own_above nodes l k own_low h))) (λ h e. h)
+  own_high = by_lt 512 (get_or nodes (3 * k) 0) (λ h e. absurd (not_past (own_none nodes l k (inr (own_low, h))))) (λ h e. h)
 
 module _ (nodes l : List ℕ) (n : ℕ) (fits : n < length l) (own : (k : ℕ) → k < n → OwnAt nodes l k) (many : used l ≡ n) where
   abbrev len : ℕ

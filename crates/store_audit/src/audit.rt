@@ -8,7 +8,7 @@ use crate::slots::used_slots;
 use store::record::Store;
 use words::zero_groups;
 
-// What Audit gives back: the record as it came, and whether the store is sound.
+// What Audit gives back, which refuses nothing: the record as it came, and whether the store is sound.
 #[derive(Clone, Copy)]
 pub struct Audited {
     pub store: Store,
@@ -19,14 +19,10 @@ pub struct Audited {
 fn is_sound(store: Store, nodes: &[u32], lookup: &[u32]) -> bool
     ensures { TellsSound store nodes.now lookup.now result }
 {
-    if !store.fits(nodes.len(), lookup.len()) {
-        return false;
-    }
-    let count = store.count;
-    if used_slots(lookup) != count as usize {
-        return false;
-    }
-    if !are_zero(nodes, 3 * count as usize, 3 * store.capacity as usize) {
+    if !store.fits(nodes.len(), lookup.len())
+        || used_slots(lookup) != store.count as usize
+        || !are_zero(nodes, 3 * store.count as usize, 3 * store.capacity as usize)
+    {
         return false;
     }
     all_obey(store, nodes, lookup)
@@ -38,8 +34,5 @@ pub fn audit(store: Store, nodes: &[u32], lookup: &[u32], cache: &mut [u32]) -> 
 {
     zero_groups(cache);
     let sound = is_sound(store, nodes, lookup);
-    Audited {
-        store: store,
-        sound: sound,
-    }
+    Audited { store, sound }
 }

@@ -7,12 +7,5 @@ pub fn are_zero(words: &[u32], from: usize, to: usize) -> bool
     requires { Stretch words.now from to }
     ensures { Decides (Blank words.now from to) result }
 {
-    let mut k = from;
-    while k < to {
-        if words[k] != 0 {
-            return false;
-        }
-        k += 1;
-    }
-    true
+    words[from..to].iter().all(|word| *word == 0)
 }

@@ -11,10 +11,9 @@ pub fn is_entered(nodes: &[u32], lookup: &[u32], k: u32) -> bool
     requires { OwnAsks nodes.now lookup.now k }
     ensures { Decides (OwnAt nodes.now lookup.now k) result }
 {
-    let slot = own_slot(nodes, lookup, k);
-    if lookup.len() <= slot {
+    let Some(slot) = own_slot(nodes, lookup, k) else {
         return false;
-    }
+    };
     lookup[slot] == k + 2
 }
 
@@ -22,13 +21,5 @@ pub fn is_entered(nodes: &[u32], lookup: &[u32], k: u32) -> bool
 pub fn used_slots(lookup: &[u32]) -> usize
     ensures { result ≡ used lookup.now }
 {
-    let mut filled: usize = 0;
-    let mut slot: usize = 0;
-    while slot < lookup.len() {
-        if lookup[slot] != 0 {
-            filled += 1;
-        }
-        slot += 1;
-    }
-    filled
+    lookup.iter().filter(|number| **number != 0).count()
 }

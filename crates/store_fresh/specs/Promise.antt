@@ -1,17 +1,16 @@
 -- The promise of Fresh: document 01, 'Calls' and 'Numbers and trade words', and document 02, No. 6.
-use Rattle.std.specs.Prelude.{ℕ, ◌*◌, ◌/◌, ◌≡◌, cond, List, ltb, leb, length}
+use Rattle.std.specs.Prelude.{ℕ, ◌*◌, ◌/◌, ◌≡◌, cond, List, ltb, leb, length, ⊤, Result, Ok, Err}
 use Rattle.words.specs.Words.{zeroed}
 use Rattle.store.specs.declared.record.Store.{Store}
-use Rattle.store_fresh.specs.declared.FreshAnswer.{FreshAnswer}
-use Rattle.store_fresh.specs.declared.FreshAnswer.TheVariants.{Done, Refused}
-use Rattle.store_fresh.specs.declared.Freshened.{Freshened}
+use Rattle.store.specs.declared.record.Refusal.{Refusal}
+use Rattle.store.specs.declared.record.Answered.{Answered}
 use Rattle.store.specs.Capacity.{capacity_of, is_limit}
 use Rattle.store.specs.Refusals.{refusal_number}
 
 -- the number of Fresh's answer, 0 where it is not refused
-abbrev pub fresh_number : FreshAnswer → ℕ
-fresh_number Done = 0
-fresh_number (Refused r) = refusal_number r
+abbrev pub fresh_number : Result ⊤ Refusal → ℕ
+fresh_number (Ok _) = 0
+fresh_number (Err r) = refusal_number r
 
 -- all that Fresh leaves: the refusal's number, the record, and every lent word
 pub record FreshLeft : Type 0 where
@@ -21,7 +20,7 @@ pub record FreshLeft : Type 0 where
   pub lookup : List ℕ
   pub cache : List ℕ
 
-abbrev pub fresh_leaves : Freshened → List ℕ → List ℕ → List ℕ → FreshLeft
+abbrev pub fresh_leaves : Answered ⊤ → List ℕ → List ℕ → List ℕ → FreshLeft
 fresh_leaves r nodes lookup cache = record { refusal = fresh_number r.answer; store = r.store; nodes = nodes; lookup = lookup; cache = cache }
 
 -- "a refused Fresh gives capacity 0 and count 0", "a refused Fresh gives limit 0"
@@ -55,5 +54,5 @@ fresh_of limit nodes lookup cache =
     (cond (is_limit limit) (fresh_done limit nodes lookup cache) (fresh_refused 3 nodes lookup cache)))
 
 -- Fresh's promise: one equation for every input.
-pub record FreshCall (limit : ℕ) (nodes lookup cache : List ℕ) (r : Freshened) (nodes' lookup' cache' : List ℕ) : Type 0 where
+pub record FreshCall (limit : ℕ) (nodes lookup cache : List ℕ) (r : Answered ⊤) (nodes' lookup' cache' : List ℕ) : Type 0 where
   pub leaves_is : fresh_leaves r nodes' lookup' cache' ≡ fresh_of limit nodes lookup cache

@@ -1,25 +1,11 @@
 // Fresh, Empty and Base.
 #![tactic(auto)]
 
-ghost use Rattle.std.specs.Prelude.{◌≡◌};
+ghost use Rattle.std.specs.Prelude.{◌≡◌, Err};
 ghost use Rattle.store_fresh.specs.Promise.{no_store, FreshCall};
 
-use store::record::{Refusal, Store, capacity_of, is_limit};
+use store::record::{Answered, Refusal, Store, capacity_of, is_limit};
 use words::{zero, zero_groups};
-
-// What Fresh answers.
-#[derive(Clone, Copy)]
-pub enum FreshAnswer {
-    Done,
-    Refused(Refusal),
-}
-
-// What Fresh gives back.
-#[derive(Clone, Copy)]
-pub struct Freshened {
-    pub store: Store,
-    pub answer: FreshAnswer,
-}
 
 // The handle of {}.
 pub fn empty() -> u32
@@ -36,18 +22,15 @@ pub fn base() -> u32
 }
 
 // A refused Fresh: no store.
-fn refuse(refusal: Refusal) -> Freshened
-    ensures { (result.store ≡ no_store) × (result.answer ≡ FreshAnswer.Refused refusal) }
+fn refuse(refusal: Refusal) -> Answered<()>
+    ensures { (result.store ≡ no_store) × (result.answer ≡ Err refusal) }
 {
-    Freshened {
-        store: Store::new(0, 0),
-        answer: FreshAnswer::Refused(refusal),
-    }
+    Store::new(0, 0).refused(refusal)
 }
 
 // Makes an empty store of the lent words for the items up to the limit: zeroes the node words of the capacity, the
 // lookup and the whole cache groups.
-pub fn fresh(nodes: &mut [u32], lookup: &mut [u32], cache: &mut [u32], limit: u32) -> Freshened
+pub fn fresh(nodes: &mut [u32], lookup: &mut [u32], cache: &mut [u32], limit: u32) -> Answered<()>
     ensures { FreshCall limit nodes.old lookup.old cache.old result nodes.new lookup.new cache.new }
 {
     if nodes.len() < 3 {
@@ -64,8 +47,5 @@ pub fn fresh(nodes: &mut [u32], lookup: &mut [u32], cache: &mut [u32], limit: u3
     let slots = lookup.len();
     zero(lookup, 0, slots);
     zero_groups(cache);
-    Freshened {
-        store: Store::new(capacity, limit),
-        answer: FreshAnswer::Done,
-    }
+    Store::new(capacity, limit).answered(Ok(()))
 }

@@ -9,10 +9,16 @@ use native.Mathlib.Omega.{arith}
 use lib.ListN.{length, get_or, set, length-set}
 use Rattle.family.specs.Family.{Family, node, Within}
 use Rattle.family.specs.Book.{at}
-use Rattle.table.specs.Probe.{probe_of}
+use Rattle.table.specs.Probe.{probe_of, SlotOf}
 use Rattle.table.specs.Entered.{entered, start_at}
-use Rattle.store_node.specs.declared.unique.Made.TheVariants.{Found, New, Full, Damaged}
-use Rattle.store.specs.Inner.{Fill, Roomy, Holds, Handed, Kept, put_node}
+use Rattle.store_node.specs.declared.unique.Made.TheVariants.{Found, New}
+use Rattle.store.specs.declared.record.Refusal.TheVariants.{Full, Damaged}
+use Rattle.std.proofs.Common.{Option, Some, None, Result, Ok, Err}
+use Rattle.std.specs.Option.{ok_or}
+use Rattle.store.specs.declared.record.Refusal.{Refusal}
+use Rattle.store_node.specs.declared.unique.Made.{Made}
+use Rattle.store.specs.declared.record.Fill.{Fill}
+use Rattle.store.specs.Inner.{Roomy, Holds, Handed, Kept, put_node}
 use Rattle.store_node.specs.Inner.{found, new, full, MadeIt}
 use Rattle.store.proofs.Extending.{holds_kept, next_is, extended}
 use Rattle.store.proofs.Put.{put_length, put_below, put_above, put_has, put_entered}
@@ -41,6 +47,15 @@ module _ {limit : ℕ} {B : List Family} {n : ℕ} {nodes lookup : List ℕ} (H 
         means = next_is kept_book i z o words lz lo w A.lacks;
       }
 
+-- a search that gives no slot, or one, where an answer is made of it
+pub slot_none : (slots : ℕ) {stop : ℕ} {e x : Refusal} (o : Option ℕ) → SlotOf slots stop o → ◌≡◌ {A = Result ℕ Refusal} (Err x) (ok_or o e) → (stop ≡ slots) × (x ≡ e)
+slot_none slots None S q = (S, cc)
+slot_none slots (Some k) S q = absurd (let z : ◌≡◌ {A = ℕ} 0 1 = cc in omega arith)
+
+pub slot_some : (slots : ℕ) (e : Refusal) {stop slot : ℕ} (o : Option ℕ) → SlotOf slots stop o → ◌≡◌ {A = Result ℕ Refusal} (Ok slot) (ok_or o e) → slot ≡ stop
+slot_some slots e None S q = absurd (let z : ◌≡◌ {A = ℕ} 0 1 = cc in omega arith)
+slot_some slots e (Some k) S q = let same : k ≡ _ = cc in sym same ∙ S.is
+
 -- the ways out
 module _ (s : Fill) (nodes lookup : List ℕ) (i z o slot : ℕ) (R : Roomy s nodes lookup) (lz : z ≤ s.count + 1) (lo : o ≤ s.count + 1) (is : slot ≡ probe_of nodes lookup s.count i z o) where
   -- what the probe found, where the words hold a book
@@ -52,7 +67,7 @@ module _ (s : Fill) (nodes lookup : List ℕ) (i z o slot : ℕ) (R : Roomy s no
   same : Kept s nodes lookup s nodes lookup
   same = kept_self s nodes lookup R.within
 
-  pub made_damaged : ((limit : ℕ) (B : List Family) → Holds limit B s.count nodes lookup → ⊥) → MadeIt s nodes lookup i z o Damaged nodes lookup
+  pub made_damaged : ((limit : ℕ) (B : List Family) → Holds limit B s.count nodes lookup → ⊥) → MadeIt s nodes lookup i z o (Err Damaged) nodes lookup
   made_damaged f =
       record {
         kept = same;
@@ -70,7 +85,7 @@ module _ (s : Fill) (nodes lookup : List ℕ) (i z o slot : ℕ) (R : Roomy s no
   pub not_above : (get_or lookup slot 0 ≡ 0 → ⊥) → s.count + 1 < get_or lookup slot 0 → (limit : ℕ) (B : List Family) → Holds limit B s.count nodes lookup → ⊥
   not_above d l limit B H = cases B H (λ p. omega (arith, p.holds_it, p.below)) (λ a. d a.free)
 
-  pub made_full : get_or lookup slot 0 ≡ 0 → s.capacity ≤ s.count → MadeIt s nodes lookup i z o Full nodes lookup
+  pub made_full : get_or lookup slot 0 ≡ 0 → s.capacity ≤ s.count → MadeIt s nodes lookup i z o (Err Full) nodes lookup
   made_full e l =
       record {
         kept = same;
@@ -79,13 +94,13 @@ module _ (s : Fill) (nodes lookup : List ℕ) (i z o slot : ℕ) (R : Roomy s no
         sound = λ B H w. cases B H (λ p. absurd (omega (arith, p.holds_it))) (λ a. full a.lacks (omega (arith, H.size)) H);
       }
 
-  same_found : {g h : ℕ} → Found g ≡ Found h → g ≡ h
+  same_found : {g h : ℕ} → ◌≡◌ {A = Result Made Refusal} (Ok (Found g)) (Ok (Found h)) → g ≡ h
   same_found e = cc
 
-  same_new : {g h : ℕ} → New g ≡ New h → g ≡ h
+  same_new : {g h : ℕ} → ◌≡◌ {A = Result Made Refusal} (Ok (New g)) (Ok (New h)) → g ≡ h
   same_new e = cc
 
-  pub made_found : (get_or lookup slot 0 ≡ 0 → ⊥) → get_or lookup slot 0 ≤ s.count + 1 → MadeIt s nodes lookup i z o (Found (get_or lookup slot 0)) nodes lookup
+  pub made_found : (get_or lookup slot 0 ≡ 0 → ⊥) → get_or lookup slot 0 ≤ s.count + 1 → MadeIt s nodes lookup i z o (Ok (Found (get_or lookup slot 0))) nodes lookup
   made_found d l =
       record {
         kept = same;
@@ -96,7 +111,7 @@ module _ (s : Fill) (nodes lookup : List ℕ) (i z o slot : ℕ) (R : Roomy s no
 
   pub made_new : (nodes' lookup' : List ℕ) → nodes' ≡ put_node nodes s.count i z o
       → lookup' ≡ set lookup slot (s.count + 2) → get_or lookup slot 0 ≡ 0 → s.count < s.capacity
-      → MadeIt s nodes lookup i z o (New (s.count + 2)) nodes' lookup'
+      → MadeIt s nodes lookup i z o (Ok (New (s.count + 2))) nodes' lookup'
   made_new nodes' lookup' put entered e l =
       rw (put, entered) record {
         kept = record {

@@ -8,7 +8,8 @@ use Rattle.family.specs.Family.{Family, top, mk}
 use Rattle.family.specs.Book.{at, place, made}
 use Rattle.family.proofs.Placing.{place_mk}
 use Rattle.store_node.specs.Inner.{NodeIt}
-use Rattle.store.specs.Inner.{Fill, Reached, Holds, RanPlain}
+use Rattle.store.specs.declared.record.Fill.{Fill}
+use Rattle.store.specs.Inner.{Reached, Holds, RanPlain}
 use Rattle.store.proofs.Plain.{place_at}
 
 -- placing the node of two held sides

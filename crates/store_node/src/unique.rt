@@ -1,17 +1,15 @@
 // A node found in the unique table, or added to it.
 ghost use Rattle.std.specs.Prelude.{◌+◌, ◌*◌, ◌<◌};
-ghost use Rattle.store.specs.Inner.{fill_of};
 ghost use Rattle.store_node.specs.Inner.{SlotAsks, EnteredIt, NodeAsks, MadeIt};
 
+use store::record::{Fill, Refusal};
 use table::probe::probe;
 
-// What making a node comes to: found among the nodes, a new node, no room, or words that no sound store has.
+// How a node was made, by its handle: found among the nodes, or new.
 #[derive(Clone, Copy)]
 pub enum Made {
     Found(u32),
     New(u32),
-    Full,
-    Damaged,
 }
 
 // Writes the words of the node after `count` others, and its number into its slot.
@@ -34,37 +32,31 @@ fn enter(
     lookup[slot] = count + 2;
 }
 
-// The node with these words: found, or new.
+// The node with these words: found, or new. Refused where there is no room, or on words that no sound store has.
 pub fn make(
-    capacity: u32,
-    count: u32,
+    fill: Fill,
     nodes: &mut [u32],
     lookup: &mut [u32],
     item: u32,
     zero: u32,
     one: u32,
-) -> Made
-    requires { NodeAsks (fill_of capacity count) nodes.old lookup.old item zero one }
-    ensures { MadeIt (fill_of capacity count) nodes.old lookup.old item zero one result nodes.new lookup.new }
+) -> Result<Made, Refusal>
+    requires { NodeAsks fill nodes.old lookup.old item zero one }
+    ensures { MadeIt fill nodes.old lookup.old item zero one result nodes.new lookup.new }
 {
-    let slot = probe(nodes, lookup, count, item, zero, one);
-    if lookup.len() <= slot {
-        return Made::Damaged;
-    }
+    let count = fill.count;
+    let slot = probe(nodes, lookup, count, item, zero, one).ok_or(Refusal::Damaged)?;
     let number = lookup[slot];
     if number == 0 {
-        if capacity <= count {
-            return Made::Full;
+        if fill.capacity <= count {
+            return Err(Refusal::Full);
         }
         enter(nodes, lookup, count, slot, item, zero, one);
         let handle = count + 2;
-        return Made::New(handle);
+        return Ok(Made::New(handle));
     }
-    if number < 2 {
-        return Made::Damaged;
+    if number < 2 || count + 1 < number {
+        return Err(Refusal::Damaged);
     }
-    if count + 1 < number {
-        return Made::Damaged;
-    }
-    Made::Found(number)
+    Ok(Made::Found(number))
 }

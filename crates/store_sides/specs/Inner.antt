@@ -1,14 +1,12 @@
 -- What reading a node asks and promises. A reader of the promises can pass this page over.
-use Rattle.std.specs.Prelude.{ℕ, ◌+◌, ◌*◌, ◌≤◌, ◌<◌, ◌≡◌, List, length}
+use Rattle.std.specs.Prelude.{ℕ, ◌+◌, ◌*◌, ◌≤◌, ◌<◌, ◌≡◌, List, length, Option, Some, None}
 use Rattle.family.specs.Family.{Family}
 use Rattle.family.specs.Operation.{lacking, holding}
 use Rattle.family.specs.Book.{at}
 use Rattle.store.specs.Words.{top_at}
 use Rattle.store.specs.Inner.{Holds, Added}
 use Rattle.store_sides.specs.declared.Cofactors.{Cofactors}
-use Rattle.store_sides.specs.declared.Cofactors.TheVariants.{Two as TwoCofactors, Broken as NoCofactors}
 use Rattle.store_sides.specs.declared.Sides.{Sides}
-use Rattle.store_sides.specs.declared.Sides.TheVariants.{Two, Broken}
 
 -- a handle of so many nodes, and their words
 pub record TopAsks (nodes : List ℕ) (n p : ℕ) : Type 0 where
@@ -38,9 +36,9 @@ pub record Halves (nodes : List ℕ) (n p level z o : ℕ) : Type 0 where
   pub holds : {limit : ℕ} (B : List Family) (lookup : List ℕ) → Holds limit B n nodes lookup → at B o ≡ holding level (at B p)
 
 -- the two sides, or words that no sound store has
-pub data CofactorsOf (nodes : List ℕ) (n p level : ℕ) : Cofactors → Type 0 where
-  split : {z o : ℕ} → Halves nodes n p level z o → CofactorsOf nodes n p level (TwoCofactors z o)
-  none : ((limit : ℕ) (B : List Family) (lookup : List ℕ) → Holds limit B n nodes lookup → ⊥) → CofactorsOf nodes n p level NoCofactors
+pub data CofactorsOf (nodes : List ℕ) (n p level : ℕ) : Option Cofactors → Type 0 where
+  split : {c : Cofactors} → Halves nodes n p level c.zero c.one → CofactorsOf nodes n p level (Some c)
+  none : ((limit : ℕ) (B : List Family) (lookup : List ℕ) → Holds limit B n nodes lookup → ⊥) → CofactorsOf nodes n p level None
 
 -- a handle, the words of the nodes, and a level that is not below the handle's top
 pub record SidesAsks (nodes : List ℕ) (n p level : ℕ) : Type 0 where
@@ -59,6 +57,6 @@ pub record TwoSides (nodes : List ℕ) (n p level z o zt ot : ℕ) : Type 0 wher
   pub one_below : ot < level
 
 -- the two sides, or words that no sound store has
-pub data SidesOf (nodes : List ℕ) (n p level : ℕ) : Sides → Type 0 where
-  two : {z o zt ot : ℕ} → TwoSides nodes n p level z o zt ot → SidesOf nodes n p level (Two z o zt ot)
-  broken : ((limit : ℕ) (B : List Family) (lookup : List ℕ) → Holds limit B n nodes lookup → ⊥) → SidesOf nodes n p level Broken
+pub data SidesOf (nodes : List ℕ) (n p level : ℕ) : Option Sides → Type 0 where
+  two : {s : Sides} → TwoSides nodes n p level s.zero s.one s.ztop s.otop → SidesOf nodes n p level (Some s)
+  broken : ((limit : ℕ) (B : List Family) (lookup : List ℕ) → Holds limit B n nodes lookup → ⊥) → SidesOf nodes n p level None

@@ -16,69 +16,62 @@ pub fn top_of(nodes: &[u32], count: u32, p: u32) -> u32
     nodes[3 * (p - 2) as usize]
 }
 
-// The two sides of a family at an item; or words that no sound store has.
+// The two sides of a family at an item.
 #[derive(Clone, Copy)]
-pub enum Cofactors {
-    Two { zero: u32, one: u32 },
-    Broken,
+pub struct Cofactors {
+    pub zero: u32,
+    pub one: u32,
 }
 
 // The sides of p at a level that is not below its top: its children where the level is its top, else p itself and {}.
-pub fn cofactors_at(nodes: &[u32], count: u32, p: u32, top: u32, level: u32) -> Cofactors
+// None on words that no sound store has.
+pub fn cofactors_at(nodes: &[u32], count: u32, p: u32, top: u32, level: u32) -> Option<Cofactors>
     requires { CofactorsAsks nodes.now count p top level }
     ensures { CofactorsOf nodes.now count p level result }
 {
     if top < level {
-        return Cofactors::Two { zero: p, one: 0 };
+        return Some(Cofactors { zero: p, one: 0 });
     }
     let base = 3 * (p - 2) as usize;
     let zero = nodes[base + 1];
     let one = nodes[base + 2];
     if count + 1 < zero {
-        return Cofactors::Broken;
+        return None;
     }
     if count + 1 < one {
-        return Cofactors::Broken;
+        return None;
     }
-    Cofactors::Two {
-        zero: zero,
-        one: one,
-    }
+    Some(Cofactors { zero, one })
 }
 
-// The two sides with their tops, which are below the item; or words that no sound store has.
+// The two sides with their tops, which are below the item.
 #[derive(Clone, Copy)]
-pub enum Sides {
-    Two {
-        zero: u32,
-        one: u32,
-        ztop: u32,
-        otop: u32,
-    },
-    Broken,
+pub struct Sides {
+    pub zero: u32,
+    pub one: u32,
+    pub ztop: u32,
+    pub otop: u32,
 }
 
-// The sides of p at a level that is not below its top, with their tops.
-pub fn sides_at(nodes: &[u32], count: u32, p: u32, level: u32) -> Sides
+// The sides of p at a level that is not below its top, with their tops. None on words that no sound store has.
+pub fn sides_at(nodes: &[u32], count: u32, p: u32, level: u32) -> Option<Sides>
     requires { SidesAsks nodes.now count p level }
     ensures { SidesOf nodes.now count p level result }
 {
     let top = top_of(nodes, count, p);
-    let Cofactors::Two { zero, one } = cofactors_at(nodes, count, p, top, level) else {
-        return Sides::Broken;
-    };
+    let Cofactors { zero, one } = cofactors_at(nodes, count, p, top, level)?;
     let ztop = top_of(nodes, count, zero);
     if level <= ztop {
-        return Sides::Broken;
+        return None;
     }
     let otop = top_of(nodes, count, one);
     if level <= otop {
-        return Sides::Broken;
+        return None;
     }
-    Sides::Two {
-        zero: zero,
-        one: one,
-        ztop: ztop,
-        otop: otop,
-    }
+    Some(Sides {
+        zero,
+        one,
+        ztop,
+        otop,
+    })
 }

@@ -17,8 +17,9 @@ use Rattle.table.proofs.OwnSlots.{cleared_length}
 use Rattle.store.specs.declared.record.Store.{Store}
 use Rattle.store.specs.declared.record.Refusal.{Refusal}
 use Rattle.store.specs.declared.record.Refusal.TheVariants.{Full}
-use Rattle.store.specs.declared.record.PlaceAnswer.TheVariants.{Handle as HandsOut, Refused as Denies}
-use Rattle.store.specs.declared.record.Placed.{Placed}
+use Rattle.store.specs.declared.record.Placement.{Placement}
+use Rattle.store.specs.declared.record.Answered.{Answered}
+use Rattle.std.proofs.Common.{Result, Ok, Err}
 use Rattle.store.specs.Capacity.{capacity_of, counting, fitting}
 use Rattle.store.specs.Refusals.{refusal_number, refused_by, given_by}
 use Rattle.store.specs.Words.{book_of, lookup_of}
@@ -26,8 +27,8 @@ use Rattle.store.specs.Sound.{Sound}
 use Rattle.store.specs.Placing.{cost_of, too_large, place_answer, place_book}
 use Rattle.store.specs.Promise.{leaves, placing, cache_refused, PlaceCall}
 use Rattle.store_undo.specs.Inner.{RolledBack, Finished}
-use Rattle.store.specs.Coded.{answer_of, reached_as}
-use Rattle.store.specs.Inner.{fill_of, fill_in, Reply, Handle, Refused, Roomy, Holds, Handed, Outcome, gave, full, Kept, Ran}
+use Rattle.store.specs.declared.record.Fill.{Fill}
+use Rattle.store.specs.Inner.{fill_in, reached, Roomy, Holds, Handed, Outcome, gave, full, Kept, Ran}
 use Rattle.store.proofs.Held.{handle_of}
 use Rattle.store.proofs.Decoding.{sound_holds}
 use Rattle.store.proofs.Encoding.{looked_up, laid_out}
@@ -37,10 +38,19 @@ use Rattle.store_undo.proofs.Undoing.{undone_nodes, undone_lookup}
 use Rattle.store.proofs.Calls.{placed_is, fits_roomy, cost_length, not_large, left_is, large}
 
 module _ (s : Store) (nodes lookup cache : List ℕ) where
-  module _ (F : List Family → Family) (e : fitting s (length nodes) (length lookup) ≡ true) {least : ℕ} (low : least ≤ s.limit) {held coded : ℕ} {nodes₁ lookup₁ cache₁ : List ℕ}
-      (R : Ran least F (fill_in s) nodes lookup cache (reached_as s.capacity held coded) nodes₁ lookup₁ cache₁) {r : Placed} {nodes₂ lookup₂ cache₂ : List ℕ} (E : Finished s held coded nodes₁ lookup₁ cache₁ r nodes₂ lookup₂ cache₂) where
-    K : Kept (fill_in s) nodes lookup (fill_of s.capacity held) nodes₁ lookup₁
-    K = R.kept
+  module _ (F : List Family → Family) (e : fitting s (length nodes) (length lookup) ≡ true) {least : ℕ} (low : least ≤ s.limit) {fill : Fill} {answer : Result ℕ Refusal} {nodes₁ lookup₁ cache₁ : List ℕ}
+      (R : Ran least F (fill_in s) nodes lookup cache (reached fill answer) nodes₁ lookup₁ cache₁) {r : Answered Placement} {nodes₂ lookup₂ cache₂ : List ℕ} (E : Finished s fill.count answer nodes₁ lookup₁ cache₁ r nodes₂ lookup₂ cache₂) where
+    K : Kept (fill_in s) nodes lookup (fill_in (counting s fill.count)) nodes₁ lookup₁
+    K =
+        record {
+          same_capacity = refl;
+          grows = R.kept.grows;
+          fits = R.kept.fits;
+          long = R.kept.long;
+          long_lookup = R.kept.long_lookup;
+          below = R.kept.below;
+          above = R.kept.above;
+        }
 
     roomy : Roomy (fill_in s) nodes lookup
     roomy = fits_roomy s nodes lookup e
@@ -49,9 +59,9 @@ module _ (s : Store) (nodes lookup cache : List ℕ) where
     rest_kept : drop (length cache / 4 * 4) cache₁ ≡ drop (length cache / 4 * 4) cache
     rest_kept = rest_drop (length cache / 4 * 4) cache cache₁ R.long_cache R.rest
 
-    module _ (h : ℕ) (eh : answer_of coded ≡ Handle h) where
+    module _ (h : ℕ) (eh : answer ≡ Ok h) where
       module _ (S : Sound s nodes lookup cache) where
-        given : Handed s.limit (place (book_of nodes s.count) (F (book_of nodes s.count))) (F (book_of nodes s.count)) h held nodes₁ lookup₁
+        given : Handed s.limit (place (book_of nodes s.count) (F (book_of nodes s.count))) (F (book_of nodes s.count)) h fill.count nodes₁ lookup₁
         given = handed_of eh (R.sound (book_of nodes s.count) low (sound_holds S) S.cached)
 
         fits : too_large s.capacity (book_of nodes s.count) (F (book_of nodes s.count)) ≡ false
@@ -60,17 +70,17 @@ module _ (s : Store) (nodes lookup cache : List ℕ) where
         past : drop (3 * s.capacity) nodes₁ ≡ drop (3 * s.capacity) nodes
         past = rest_drop (3 * s.capacity) nodes nodes₁ K.long (λ k l. K.above k (omega (arith, K.fits)))
 
-        blank : (k : ℕ) → 3 * held ≤ k → k < 3 * s.capacity → get_or nodes₁ k 0 ≡ 0
+        blank : (k : ℕ) → 3 * fill.count ≤ k → k < 3 * s.capacity → get_or nodes₁ k 0 ≡ 0
         blank k l g = K.above k l ∙ S.blank k (omega (arith, K.grows)) g
 
-        words : 3 * held ≤ length nodes₁
+        words : 3 * fill.count ≤ length nodes₁
         words = omega (arith, K.fits, K.long, roomy.words)
 
         -- the nodes added are the parts that were not held
-        added_is : held - s.count ≡ cost_of (book_of nodes s.count) (F (book_of nodes s.count))
+        added_is : fill.count - s.count ≡ cost_of (book_of nodes s.count) (F (book_of nodes s.count))
         added_is = omega (arith, given.holds.size, (sound_holds S).size, cost_length (book_of nodes s.count) (F (book_of nodes s.count)))
 
-        left : leaves (record { store = counting s held; answer = HandsOut h (held - s.count) }) nodes₁ lookup₁ ≡ placing 0 (F (book_of nodes s.count)) s nodes lookup
+        left : leaves (record { store = counting s fill.count; answer = Ok (record { handle = h; added = fill.count - s.count }) }) nodes₁ lookup₁ ≡ placing 0 (F (book_of nodes s.count)) s nodes lookup
         unfolding placing place_answer place_book
         left =
             rw fits (left_is
@@ -79,9 +89,9 @@ module _ (s : Store) (nodes lookup cache : List ℕ) where
             (sym (laid_out given.holds words s.capacity nodes K.fits (omega (arith, K.long, roomy.words)) blank past))
             (sym (ap (λ k. lookup_of k (place (book_of nodes s.count) (F (book_of nodes s.count)))) (sym K.long_lookup) ∙ looked_up given.holds words)))
 
-        sound : Sound (counting s held) nodes₁ lookup₁ cache₁
+        sound : Sound (counting s fill.count) nodes₁ lookup₁ cache₁
         sound =
-            holds_sound {B = place (book_of nodes s.count) (F (book_of nodes s.count))} (counting s held) S.limit_some given.holds (S.capacity_is ∙ ap capacity_of (sym K.long)) (omega (arith, K.long_lookup, S.longer)) K.fits
+            holds_sound {B = place (book_of nodes s.count) (F (book_of nodes s.count))} (counting s fill.count) S.limit_some given.holds (S.capacity_is ∙ ap capacity_of (sym K.long)) (omega (arith, K.long_lookup, S.longer)) K.fits
             blank (R.cached (book_of nodes s.count) low (sound_holds S) S.cached h eh)
 
       gave_call : PlaceCall 0 (F (book_of nodes s.count)) s nodes lookup cache r nodes₂ lookup₂ cache₂
@@ -102,14 +112,14 @@ module _ (s : Store) (nodes lookup cache : List ℕ) where
             counted = omega (arith, K.grows);
           }
 
-    module _ (x : Refusal) (ex : answer_of coded ≡ Refused x) where
+    module _ (x : Refusal) (ex : answer ≡ Err x) where
       as_came : r.store ≡ s
       as_came = (E.undone x ex).0
 
-      ea : r.answer ≡ Denies x
+      ea : r.answer ≡ Err x
       ea = (E.undone x ex).1
 
-      U : RolledBack (counting s held) nodes₁ lookup₁ s.count nodes₂ lookup₂
+      U : RolledBack (counting s fill.count) nodes₁ lookup₁ s.count nodes₂ lookup₂
       U = (E.undone x ex).2
 
       -- the cache: its whole groups are zero, and the rest is as it came
@@ -126,14 +136,14 @@ module _ (s : Store) (nodes lookup cache : List ℕ) where
         record Over : Type 0 where
           is : x ≡ Full
           D : List Family
-          holds : Holds s.limit D held nodes₁ lookup₁
+          holds : Holds s.limit D fill.count nodes₁ lookup₁
           big : s.capacity + 2 < length (place (book_of nodes s.count) (F (book_of nodes s.count)))
 
         over : Over
-        over = out (answer_of coded) ex (R.sound (book_of nodes s.count) low (sound_holds S) S.cached)
+        over = out answer ex (R.sound (book_of nodes s.count) low (sound_holds S) S.cached)
           where
-            out : (a : Reply) → a ≡ Refused x
-                → Outcome s.limit (place (book_of nodes s.count) (F (book_of nodes s.count))) (F (book_of nodes s.count)) s.capacity held nodes₁ lookup₁ a → Over
+            out : (a : Result ℕ Refusal) → a ≡ Err x
+                → Outcome s.limit (place (book_of nodes s.count) (F (book_of nodes s.count))) (F (book_of nodes s.count)) s.capacity fill.count nodes₁ lookup₁ a → Over
             out a q (gave G) = absurd (let z : ◌≡◌ {A = ℕ} 0 1 = cc in omega arith)
             out a q (full D H l) = record { is = cc; D = D; holds = H; big = l }
 
@@ -169,8 +179,8 @@ module _ (s : Store) (nodes lookup cache : List ℕ) where
               rest = ap (λ X. drop (length cache / 4 * 4) X) zero_cache ∙ zeroed_drop 0 (length cache / 4 * 4) cache (omega arith) (omega arith);
             };
             lengths = (
-              ap length U.nodes_are ∙ zeroed_length (3 * s.count) (3 * held) nodes₁ (omega (arith, K.grows)) (omega (arith, K.fits, K.long, roomy.words)) ∙ K.long,
-              ap length U.lookup_is ∙ cleared_length nodes₁ lookup₁ s.count (held - s.count) ∙ K.long_lookup,
+              ap length U.nodes_are ∙ zeroed_length (3 * s.count) (3 * fill.count) nodes₁ (omega (arith, K.grows)) (omega (arith, K.fits, K.long, roomy.words)) ∙ K.long,
+              ap length U.lookup_is ∙ cleared_length nodes₁ lookup₁ s.count (fill.count - s.count) ∙ K.long_lookup,
               ap length zero_cache ∙ zeroed_length 0 (length cache / 4 * 4) cache (omega arith) (omega arith),
             );
             capacity = ap (λ x. x.capacity) as_came;
@@ -181,4 +191,4 @@ module _ (s : Store) (nodes lookup cache : List ℕ) where
 
     -- a call that came through to `finish`
     pub call_done : PlaceCall 0 (F (book_of nodes s.count)) s nodes lookup cache r nodes₂ lookup₂ cache₂
-    call_done = by_answer (answer_of coded) gave_call full_call
+    call_done = by_answer answer gave_call full_call

@@ -16,7 +16,8 @@ use Rattle.table.specs.Own.{cleared}
 use Rattle.table.proofs.OwnSlots.{rolled_back}
 use Rattle.store.specs.declared.record.Store.{Store}
 use Rattle.store_undo.specs.Inner.{RolledBack}
-use Rattle.store.specs.Inner.{Fill, fill_in, Roomy, Holds, Kept}
+use Rattle.store.specs.declared.record.Fill.{Fill}
+use Rattle.store.specs.Inner.{fill_in, Roomy, Holds, Kept}
 use Rattle.store.proofs.Held.{words_apart, words_items}
 use Rattle.store.proofs.Put.{entered_same}
 

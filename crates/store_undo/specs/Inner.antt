@@ -1,14 +1,13 @@
 -- What taking nodes back and ending a call promise. A reader of the promises can pass this page over.
-use Rattle.std.specs.Prelude.{ℕ, ◌*◌, ◌-◌, ◌/◌, ◌≤◌, ◌≡◌, List, length}
+use Rattle.std.specs.Prelude.{ℕ, ◌*◌, ◌-◌, ◌/◌, ◌≤◌, ◌≡◌, List, length, Result, Ok, Err}
 use Rattle.words.specs.Words.{zeroed}
 use Rattle.table.specs.Own.{cleared}
 use Rattle.store.specs.declared.record.Store.{Store}
 use Rattle.store.specs.declared.record.Refusal.{Refusal}
-use Rattle.store.specs.declared.record.PlaceAnswer.TheVariants.{Handle as HandsOut, Refused as Denies}
-use Rattle.store.specs.declared.record.Placed.{Placed}
+use Rattle.store.specs.declared.record.Placement.{Placement}
+use Rattle.store.specs.declared.record.Answered.{Answered}
 use Rattle.store.specs.Capacity.{counting}
-use Rattle.store.specs.Inner.{fill_in, Handle, Refused, Roomy}
-use Rattle.store.specs.Coded.{answer_of}
+use Rattle.store.specs.Inner.{fill_in, Roomy}
 
 -- words that fit the record, and no more nodes to keep than are held
 pub record UndoAsks (s : Store) (nodes lookup : List ℕ) (keep : ℕ) : Type 0 where
@@ -22,8 +21,8 @@ pub record RolledBack (s : Store) (nodes lookup : List ℕ) (keep : ℕ) (nodes'
 
 -- How a call on the store s ends which now holds so many nodes: with a handle, the nodes added are the difference of
 -- the two counts; refused, with the record as it came, those nodes taken back and the whole cache groups zeroed.
-pub record Finished (s : Store) (held coded : ℕ) (nodes lookup cache : List ℕ) (r : Placed) (nodes' lookup' cache' : List ℕ) : Type 0 where
-  pub gave : (h : ℕ) → answer_of coded ≡ Handle h
-      → (r.store ≡ counting s held) × (r.answer ≡ HandsOut h (held - s.count)) × (nodes' ≡ nodes) × (lookup' ≡ lookup) × (cache' ≡ cache)
-  pub undone : (x : Refusal) → answer_of coded ≡ Refused x
-      → (r.store ≡ s) × (r.answer ≡ Denies x) × RolledBack (counting s held) nodes lookup s.count nodes' lookup' × (cache' ≡ zeroed 0 (length cache / 4 * 4) cache)
+pub record Finished (s : Store) (held : ℕ) (answer : Result ℕ Refusal) (nodes lookup cache : List ℕ) (r : Answered Placement) (nodes' lookup' cache' : List ℕ) : Type 0 where
+  pub gave : (h : ℕ) → answer ≡ Ok h
+      → (r.store ≡ counting s held) × (r.answer ≡ Ok (record { handle = h; added = held - s.count })) × (nodes' ≡ nodes) × (lookup' ≡ lookup) × (cache' ≡ cache)
+  pub undone : (x : Refusal) → answer ≡ Err x
+      → (r.store ≡ s) × (r.answer ≡ Err x) × RolledBack (counting s held) nodes lookup s.count nodes' lookup' × (cache' ≡ zeroed 0 (length cache / 4 * 4) cache)

@@ -4,8 +4,7 @@
 ghost use Rattle.store.specs.Capacity.{counting};
 ghost use Rattle.store_undo.specs.Inner.{UndoAsks, RolledBack, Finished};
 
-use store::coded::{FULL, refusal_of};
-use store::record::{Placed, Store};
+use store::record::{Answered, Placement, Refusal, Store};
 use table::own_slots::clear_newest;
 use words::{zero, zero_groups};
 
@@ -19,26 +18,30 @@ pub fn rollback(store: Store, nodes: &mut [u32], lookup: &mut [u32], keep: u32)
     zero(nodes, 3 * keep as usize, 3 * count as usize);
 }
 
-// Ends a call on a store that now holds so many nodes, its answer as one number: a handle is given with the number of
-// nodes added; after a refusal they are taken back and the whole cache groups zeroed.
+// Ends a call on a store that now holds so many nodes: a handle is given with the number of nodes added; after a
+// refusal they are taken back and the whole cache groups zeroed.
 pub fn finish(
     store: Store,
     held: u32,
-    coded: u32,
+    answer: Result<u32, Refusal>,
     nodes: &mut [u32],
     lookup: &mut [u32],
     cache: &mut [u32],
-) -> Placed
+) -> Answered<Placement>
     requires { UndoAsks (counting store held) nodes.old lookup.old store.count }
-    ensures { Finished store held coded nodes.old lookup.old cache.old result nodes.new lookup.new cache.new }
+    ensures { Finished store held answer nodes.old lookup.old cache.old result nodes.new lookup.new cache.new }
 {
     let after = store.with_count(held);
     let before = store.count;
-    if coded < FULL {
-        let added = held - before;
-        return after.placed(coded, added);
+    match answer {
+        Ok(handle) => {
+            let added = held - before;
+            after.placed(handle, added)
+        }
+        Err(refusal) => {
+            rollback(after, nodes, lookup, before);
+            zero_groups(cache);
+            store.refused(refusal)
+        }
     }
-    rollback(after, nodes, lookup, before);
-    zero_groups(cache);
-    store.refused(refusal_of(coded))
 }

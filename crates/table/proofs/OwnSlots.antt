@@ -1,9 +1,9 @@
 -- A node's own slot is the slot where it was entered, so emptying the slots of the newest nodes gives the lookup of
 -- the first ones again.
 -- Among the nodes before it no node has its words, and a number from its own on stops the search.
-use Rattle.std.proofs.Common.{◌≡◌, ℕ, zero, suc, ◌+◌, ◌-◌, ◌*◌, ◌<◌, ◌≤◌, List, length, get_or, set, refl, ap, ◌∙◌, arith, length-set, le-ltb, lt-ltb}
+use Rattle.std.proofs.Common.{◌≡◌, ℕ, zero, suc, ◌+◌, ◌-◌, ◌*◌, ◌<◌, ◌≤◌, ◌⊎◌, List, length, get_or, set, sym, refl, ap, ◌∙◌, inl, inr, arith, length-set, le-ltb, lt-ltb}
 use lib.Seq.{set_out}
-use Rattle.table.specs.Probe.{probe_of}
+use Rattle.table.specs.Probe.{StopsAt, probe_of}
 use Rattle.table.specs.Entered.{entered, start_at}
 use Rattle.table.specs.Own.{own_of, cleared}
 use Rattle.table.proofs.Stops.{Has}
@@ -11,13 +11,10 @@ use Rattle.table.proofs.Filled.{slot_at, clear}
 use Rattle.table.proofs.Found.{starts_in, found}
 
 module _ (nodes lookup : List ℕ) (k : ℕ) where
-  pub own_none : get_or nodes (3 * k) 0 < 1 → own_of nodes lookup k ≡ length lookup
+  pub own_none : (get_or nodes (3 * k) 0 < 1) ⊎ ((1 ≤ get_or nodes (3 * k) 0) × (512 < get_or nodes (3 * k) 0)) → own_of nodes lookup k ≡ length lookup
   unfolding own_of
-  own_none h = rw (lt-ltb (get_or nodes (3 * k) 0) 1 h)
-
-  pub own_above : 1 ≤ get_or nodes (3 * k) 0 → 512 < get_or nodes (3 * k) 0 → own_of nodes lookup k ≡ length lookup
-  unfolding own_of
-  own_above h g = rw (le-ltb (get_or nodes (3 * k) 0) 1 h, lt-ltb 512 (get_or nodes (3 * k) 0) g)
+  own_none (inl h) = rw (lt-ltb (get_or nodes (3 * k) 0) 1 h)
+  own_none (inr h) = rw (le-ltb (get_or nodes (3 * k) 0) 1 h.0, lt-ltb 512 (get_or nodes (3 * k) 0) h.1)
 
   pub own_search : 1 ≤ get_or nodes (3 * k) 0 → get_or nodes (3 * k) 0 ≤ 512
       → own_of nodes lookup k ≡ probe_of nodes lookup k (get_or nodes (3 * k) 0) (get_or nodes (3 * k + 1) 0) (get_or nodes (3 * k + 2) 0)
@@ -25,19 +22,24 @@ module _ (nodes lookup : List ℕ) (k : ℕ) where
   own_search h g = rw (le-ltb (get_or nodes (3 * k) 0) 1 h, le-ltb 512 (get_or nodes (3 * k) 0) g)
 
 -- one node taken out, as a loop that counts down has it
-pub cleared_step : (nodes lookup : List ℕ) (keep k : ℕ) → keep < k
-    → cleared nodes lookup keep (k - keep) ≡ cleared nodes (set lookup (own_of nodes lookup (k - 1)) 0) keep (k - 1 - keep)
+cleared_step : (nodes lookup : List ℕ) (keep k : ℕ) → keep < k
+    → cleared nodes (set lookup (own_of nodes lookup (k - 1)) 0) keep (k - 1 - keep) ≡ cleared nodes lookup keep (k - keep)
 unfolding cleared
 cleared_step nodes lookup keep k h =
     let e : k - keep ≡ suc (k - 1 - keep) = omega arith in
     let f : keep + (k - 1 - keep) ≡ k - 1 = omega arith in
-    ap (cleared nodes lookup keep) e ∙ ap (λ j. cleared nodes (set lookup (own_of nodes lookup j) 0) keep (k - 1 - keep)) f
+    ap (λ j. cleared nodes (set lookup (own_of nodes lookup j) 0) keep (k - 1 - keep)) (sym f) ∙ ap (cleared nodes lookup keep) (sym e)
 
--- a slot past the end: nothing is emptied
-pub cleared_skip : (nodes lookup : List ℕ) (keep k : ℕ) → keep < k → length lookup ≤ own_of nodes lookup (k - 1)
-    → cleared nodes lookup keep (k - keep) ≡ cleared nodes lookup keep (k - 1 - keep)
+-- the slot that its search gives is emptied
+pub cleared_some : (nodes lookup : List ℕ) (keep k slot : ℕ) → keep < k → StopsAt (length lookup) (own_of nodes lookup (k - 1)) slot
+    → cleared nodes (set lookup slot 0) keep (k - 1 - keep) ≡ cleared nodes lookup keep (k - keep)
+cleared_some nodes lookup keep k slot h s = rw s.is (cleared_step nodes lookup keep k h)
+
+-- where its search gives none, nothing is
+pub cleared_skip : (nodes lookup : List ℕ) (keep k : ℕ) → keep < k → own_of nodes lookup (k - 1) ≡ length lookup
+    → cleared nodes lookup keep (k - 1 - keep) ≡ cleared nodes lookup keep (k - keep)
 cleared_skip nodes lookup keep k h o =
-    cleared_step nodes lookup keep k h ∙ ap (λ l. cleared nodes l keep (k - 1 - keep)) (set_out lookup (own_of nodes lookup (k - 1)) 0 o)
+    ap (λ l. cleared nodes l keep (k - 1 - keep)) (sym (set_out lookup (own_of nodes lookup (k - 1)) 0 (omega arith))) ∙ cleared_step nodes lookup keep k h
 
 pub cleared_none : (nodes lookup : List ℕ) (keep k : ℕ) → k ≤ keep → cleared nodes lookup keep (k - keep) ≡ lookup
 unfolding cleared

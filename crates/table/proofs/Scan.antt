@@ -1,7 +1,7 @@
 -- A scan finds a slot at which its test holds wherever there is one, and what it finds hangs on the slots up to there.
 -- Each law is an induction on the steps; around the end a slot is reached after at most as many steps as there are
 -- slots.
-use Rattle.std.proofs.Common.{◌≡◌, ℕ, zero, suc, ◌+◌, ◌-◌, ◌<◌, Bool, true, false, ◌⊎◌, refl, ap, ◌∙◌, inl, inr, ⊎_elim, arith, eq-eqb, ne_eqb}
+use Rattle.std.proofs.Common.{◌≡◌, ℕ, zero, suc, ◌+◌, ◌-◌, ◌<◌, ◌≤◌, Bool, true, false, ◌⊎◌, refl, ap, ◌∙◌, inl, inr, ⊎_elim, arith, eq-eqb, ne_eqb}
 use Rattle.words.proofs.Cases.{by_test, by_eq, by_lt, clash}
 use Rattle.table.specs.Probe.{after, scan}
 
@@ -17,22 +17,22 @@ after_next len at e = rw (ne_eqb (at + 1) len e)
 pub after_lt : (len at : ℕ) → at < len → after len at < len
 after_lt len at h = by_eq (at + 1) len (λ p e. rw (after_wraps len at p) (omega arith)) (λ p e. rw (after_next len at p) (omega arith))
 
--- one step, as a loop that counts down has it
-module _ (stop : ℕ → Bool) (len left at : ℕ) where
-  pub left_none : left ≡ 0 → scan stop len left at ≡ len
+-- one step, after k others
+module _ (stop : ℕ → Bool) (len k at : ℕ) where
+  pub left_none : len ≤ k → scan stop len (len - k) at ≡ len
   unfolding scan
-  left_none e = rw e
+  left_none h = let e : len - k ≡ 0 = omega arith in rw e
 
-  one_more : (left ≡ 0 → ⊥) → left ≡ suc (left - 1)
+  one_more : k < len → len - k ≡ suc (len - (k + 1))
   one_more h = omega arith
 
-  pub left_hit : (left ≡ 0 → ⊥) → stop at ≡ true → scan stop len left at ≡ at
+  pub left_hit : k < len → stop at ≡ true → scan stop len (len - k) at ≡ at
   unfolding scan
-  left_hit h e = ap (λ k. scan stop len k at) (one_more h) ∙ rw e
+  left_hit h e = ap (λ m. scan stop len m at) (one_more h) ∙ rw e
 
-  pub left_miss : (left ≡ 0 → ⊥) → stop at ≡ false → scan stop len left at ≡ scan stop len (left - 1) (after len at)
+  pub left_miss : k < len → stop at ≡ false → scan stop len (len - k) at ≡ scan stop len (len - (k + 1)) (after len at)
   unfolding scan
-  left_miss h e = ap (λ k. scan stop len k at) (one_more h) ∙ rw e
+  left_miss h e = ap (λ m. scan stop len m at) (one_more h) ∙ rw e
 
 -- what it finds passes the test
 pub scan_sound : (stop : ℕ → Bool) (len n at : ℕ) → scan stop len n at < len → stop (scan stop len n at) ≡ true

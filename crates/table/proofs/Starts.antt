@@ -28,7 +28,6 @@ unfolding start_of
 start_lt item z o len h = mod-lt ((mix_of item + 65599 * (z + 65599 * o)) % 2 ^ 32) h
 
 -- the start slot from its wrapped steps
-pub start_steps : (item z o len m h i t s : ℕ) → h ≡ o * 65599 % 2 ^ 32 → i ≡ (z + h) % 2 ^ 32 → m ≡ mix_of item → t ≡ i * 65599 % 2 ^ 32 → s ≡ (m + t) % 2 ^ 32
-    → s % len ≡ start_of item z o len
+pub start_steps : (item z o len : ℕ) → (mix_of item + (z + o * 65599 % 2 ^ 32) % 2 ^ 32 * 65599 % 2 ^ 32) % 2 ^ 32 % len ≡ start_of item z o len
 unfolding start_of
-start_steps item z o len m h i t s eh ei em et es = ap (λ n. n % len) (rw (es, et, ei, eh, em) (wrapped (mix_of item) z o))
+start_steps item z o len = ap (λ n. n % len) (wrapped (mix_of item) z o)

@@ -1,7 +1,7 @@
 -- Where the search for words stops: at a number that is none of the nodes searched, and at the node that has the
 -- words.
 -- Each is one branch of the test.
-use Rattle.std.proofs.Common.{◌≡◌, ℕ, ◌+◌, ◌-◌, ◌*◌, ◌<◌, ◌≤◌, true, false, ◌&&◌, eqb, List, get_or, ◌∙◌, arith, le-ltb, lt-ltb, eq-eqb, ne_eqb, eqb-true}
+use Rattle.std.proofs.Common.{◌≡◌, ℕ, ◌+◌, ◌-◌, ◌*◌, ◌<◌, ◌≤◌, true, ◌&&◌, eqb, List, get_or, arith, le-ltb, lt-ltb, eq-eqb, eqb-true}
 use Rattle.words.proofs.Cases.{and_inv}
 use Rattle.table.specs.Probe.{has_words, stop_on}
 
@@ -18,18 +18,6 @@ module _ (nodes : List ℕ) (count item z o h : ℕ) where
     pub stop_words : stop_on nodes count item z o h ≡ has_words nodes h item z o
     unfolding stop_on
     stop_words = rw (le-ltb h 2 p, le-ltb (count + 1) h q)
-
-    pub stop_item : (get_or nodes (3 * (h - 2)) 0 ≡ item → ⊥) → stop_on nodes count item z o h ≡ false
-    unfolding has_words
-    stop_item a = stop_words ∙ rw (ne_eqb _ _ a)
-
-    pub stop_zero : get_or nodes (3 * (h - 2)) 0 ≡ item → (get_or nodes (3 * (h - 2) + 1) 0 ≡ z → ⊥) → stop_on nodes count item z o h ≡ false
-    unfolding has_words
-    stop_zero a b = stop_words ∙ rw (eq-eqb _ _ a, ne_eqb _ _ b)
-
-    pub stop_one : get_or nodes (3 * (h - 2)) 0 ≡ item → get_or nodes (3 * (h - 2) + 1) 0 ≡ z → stop_on nodes count item z o h ≡ eqb (get_or nodes (3 * (h - 2) + 2) 0) o
-    unfolding has_words
-    stop_one a b = stop_words ∙ rw (eq-eqb _ _ a, eq-eqb _ _ b)
 
 -- node number k + 2 has these words
 pub record Has (nodes : List ℕ) (k item z o : ℕ) : Type 0 where

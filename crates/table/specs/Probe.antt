@@ -1,5 +1,5 @@
 -- The probe of the lookup (the unique table): document 01, 'The store'.
-use Rattle.std.specs.Prelude.{ℕ, zero, suc, ◌+◌, ◌-◌, ◌*◌, Bool, cond, ◌&&◌, ◌||◌, List, length, ◌==◌, nat_lt, slice_index}
+use Rattle.std.specs.Prelude.{ℕ, zero, suc, ◌≡◌, ◌+◌, ◌-◌, ◌*◌, ◌<◌, Bool, cond, ◌&&◌, ◌||◌, Option, MatchOption, List, length, ◌==◌, nat_lt, slice_index}
 use Rattle.table.specs.Start.{start_of}
 
 -- the slot after a slot, "around the end"
@@ -26,3 +26,12 @@ stop_on nodes count item zero_child one_child h = nat_lt h 2 || (nat_lt (count +
 unfoldable pub probe_of : List ℕ → List ℕ → ℕ → ℕ → ℕ → ℕ → ℕ
 probe_of nodes lookup count item zero_child one_child =
     scan (λ x. stop_on nodes count item zero_child one_child (slice_index lookup x)) (length lookup) (length lookup) (start_of item zero_child one_child (length lookup))
+
+-- a slot of so many is the one at which a search stops
+pub record StopsAt (slots stop slot : ℕ) : Type 0 where
+  pub is : slot ≡ stop
+  pub inside : slot < slots
+
+-- the answer of a search that stops at some slot of so many; at none it stops where the slots end, and gives no slot
+abbrev pub SlotOf : ℕ → ℕ → Option ℕ → Type 0
+SlotOf slots stop answer = MatchOption answer (stop ≡ slots) (λ slot. StopsAt slots stop slot)

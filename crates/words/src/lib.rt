@@ -6,15 +6,12 @@ ghost use Rattle.words.specs.Words.{zeroed};
 ghost use Rattle.words.specs.Inner.{Stretch};
 
 // Zeroes the words from one place up to another.
+#[tactic(auto, unfolding(crate::specs::Words::zeroed))]
 pub fn zero(words: &mut [u32], from: usize, to: usize)
     requires { Stretch words.old from to }
     ensures { words.new ≡ zeroed from to words.old }
 {
-    let mut k = from;
-    while k < to {
-        words[k] = 0;
-        k += 1;
-    }
+    words[from..to].fill(0);
 }
 
 // Zeroes the whole groups of four words.

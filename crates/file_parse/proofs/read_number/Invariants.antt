@@ -3,8 +3,5 @@
 use Rattle.file_parse.proofs.Taking.{BytesRead}
 use Rattle.file_parse.proofs.read_number.Given as goal
 
-abbrev pub invariant-loop-left : goal.invariant-loop-left
-invariant-loop-left l = BytesRead l.bytes l.width l.left l.value
-
-abbrev pub decreases-loop-left : goal.decreases-loop-left
-decreases-loop-left l = l.left
+abbrev pub invariant-loop-at : goal.invariant-loop-at
+invariant-loop-at l = BytesRead l.bytes l.width l.at l.value

@@ -1,13 +1,13 @@
 -- `local` reads the local number of a handle.
--- The definition's two cases, and a word that is not there.
-use Rattle.store.proofs.Handles.{word_leaf, word_node, word_none}
+-- The definition's two cases; past the words there is 0 in both.
+use Rattle.std.proofs.Common.{◌∙◌, arith}
+use Rattle.store.proofs.Handles.{word_leaf, word_node}
 use Rattle.file_write.proofs.local.Goals as goal
 
 pub returns-then-handle-lt2 : goal.returns-then-handle-lt2
 returns-then-handle-lt2 c = search word_leaf
 
-pub returns-then-j-links : goal.returns-then-j-links
-returns-then-j-links c = search word_node
-
 pub returns : goal.returns
-returns c = search word_none
+returns c =
+    c.unwrap_or.ensures ∙ rw c.copied.ensures (c.get.ensures.lookup.4 (omega arith) 0)
+    ∙ word_node c.args.links.now c.args.handle c.if-handle-lt2.false

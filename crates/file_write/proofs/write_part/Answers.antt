@@ -1,7 +1,8 @@
 -- `write_part` writes the record of the part at the cursor into what remains of the output.
 -- Each way out is one law of a turn.
 use native.Mathlib.Omega.{arith}
-use Rattle.file_write.proofs.Cursors.{turn_low, turn_high, turn_item, length_is, turn_full, turn_done}
+use Rattle.file_write.proofs.Cursors.{turn_low, turn_high, turn_item, turn_full, turn_done}
+use Rattle.file_record.proofs.Laying.{record_length}
 use Rattle.file_write.proofs.write_part.Goals as goal
 
 pub returns-then-at-lt2 : goal.returns-then-at-lt2
@@ -25,14 +26,14 @@ part_at-part-requires c = omega (arith, c.requires.lent.words, c.requires.lent.f
 pub returns-then-part-gt512 : goal.returns-then-part-gt512
 returns-then-part-gt512 c = search turn_item
 
-pub overflow_add-last : goal.overflow_add-last
-overflow_add-last c = omega (arith, c.requires.cursor_fits.item_low)
+pub standing-requires : goal.standing-requires
+standing-requires c = omega (arith, c.requires.cursor_fits.item_low)
 
 pub overflow_sub-out : goal.overflow_sub-out
 overflow_sub-out c = c.requires.cursor_fits.within
 
 pub returns-then-out-place : goal.returns-then-out-place
-returns-then-out-place c = search turn_full
+returns-then-out-place c = search (turn_full, record_length)
 
 pub slice_bounds-put_record-count : goal.slice_bounds-put_record-count
 slice_bounds-put_record-count c = c.requires.cursor_fits.within
@@ -43,7 +44,7 @@ put_record-requires c =
       item_bound = omega (arith, c.requires.cursor_fits.item_low);
       one_in_bounds = omega (
         arith,
-        length_is a.cursor a.nodes.now a.count a.links.now a.out.now _ c.part_at-part.ensures _ c.length_of-record.ensures.0,
+        record_length _ a.cursor.last c.standing.ensures c.length-length.ensures.value,
         c.if-out-place.false,
         c.requires.cursor_fits.within,
       );
@@ -63,12 +64,12 @@ bounds-links-j-2 c = omega (arith, c.requires.lent.linkable, c.if-at-lt2.false, 
 
 pub overflow_add-result : goal.overflow_add-result
 overflow_add-result c =
-    omega (arith, c.requires.cursor_fits.short, c.requires.cursor_fits.number_low, c.length_of-record.ensures.1)
+    omega (arith, c.requires.cursor_fits.short, c.requires.cursor_fits.number_low, c.length-length.ensures.short)
 
 pub returns : goal.returns
 returns c =
     let a = c.args in
-    turn_done a.cursor a.nodes.now a.count a.links.now a.out.now _ c.part_at-part.ensures _ c.length_of-record.ensures.0
+    turn_done a.cursor a.nodes.now a.count a.links.now a.out.now _ c.part_at-part.ensures _ (record_length _ a.cursor.last c.standing.ensures c.length-length.ensures.value)
     c.requires.lent.linkable c.requires.cursor_fits c.if-at-lt2.false c.if-count-at.false
-    c.if-part-gt512.false c.length_of-record.ensures.1
+    c.if-part-gt512.false c.length-length.ensures.short
     (omega (arith, c.if-out-place.false, c.requires.cursor_fits.within)) c.put_record.ensures.out_after

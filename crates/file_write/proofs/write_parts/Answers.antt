@@ -1,40 +1,35 @@
--- `write_parts` writes record after record; so many parts are left.
--- The measure is their number.
-use Prim.Native.Nat.{◌<◌}
+-- `write_parts` writes record after record.
+-- After so many turns so many parts are written.
 use native.Mathlib.Omega.{arith}
-use Rattle.file_write.proofs.Writes.{left_start, left_fits, left_broken, left_step, left_done}
+use Rattle.file_write.proofs.Writes.{written_start, written_fits, written_broken, written_step, written_done}
 use Rattle.file_write.proofs.write_parts.Goals as goal
 
-pub loop-left-init : goal.loop-left-init
-loop-left-init c = search left_start
+pub loop-init : goal.loop-init
+loop-init c = search written_start
 
 pub write_part-requires : goal.write_part-requires
 write_part-requires c =
     let a = c.args in
-    let l = c.loop-left in record {
+    let l = c.loop in record {
       lent = record { words = c.requires.lent.words; few = c.requires.lent.few; linkable = omega (arith, c.requires.lent.linkable, l.invariant.long) };
-      cursor_fits = left_fits a.first a.parts
-          a.nodes.now a.count a.links.now a.out.now l.cursor l.left l.invariant c.requires.head_room.few;
+      cursor_fits = written_fits a.first a.parts
+          a.nodes.now a.count a.links.now a.out.now l.cursor l.counter l.invariant c.requires.head_room.few;
     }
 
-pub returns-in_default : goal.returns-in_default
-returns-in_default c =
-    let some : 0 < c.loop-left.left = omega (arith, c.loop-left-test.true) in
-    search left_broken
+pub returns-in_err-cursor : goal.returns-in_err-cursor
+returns-in_err-cursor c =
+    let a = c.args in
+    let l = c.loop in
+    rw c.from_residual.ensures (written_broken a.first a.parts a.nodes.now a.count a.links.now a.out.now l.cursor l.counter l.invariant c.loop-test.true c.in_err-cursor.ensures)
 
-pub overflow_sub-left : goal.overflow_sub-left
-overflow_sub-left c = omega (arith, c.loop-left-test.true)
-
-pub loop-left-smaller : goal.loop-left-smaller
-loop-left-smaller c = omega (arith, c.loop-left-test.true)
-
-pub loop-left-preserved : goal.loop-left-preserved
-loop-left-preserved c =
-    let some : 0 < c.loop-left.left = omega (arith, c.loop-left-test.true) in
-    search left_step
+pub loop-preserved : goal.loop-preserved
+loop-preserved c =
+    let a = c.args in
+    let l = c.loop in
+    written_step a.first a.parts a.nodes.now a.count a.links.now a.out.now l.cursor l.counter l.invariant c.loop-test.true c.in_ok-cursor.ensures
 
 pub returns : goal.returns
 returns c =
     let a = c.args in
-    let l = c.loop-left in
-    left_done a.first a.parts a.nodes.now a.count a.links.now a.out.now l.cursor l.left l.invariant (omega (arith, c.loop-left-test.false))
+    let l = c.loop in
+    written_done a.first a.parts a.nodes.now a.count a.links.now a.out.now l.cursor l.counter l.invariant c.loop-test.false

@@ -1,10 +1,7 @@
--- `write_parts` writes record after record; so many parts are left.
--- The measure is their number.
-use Rattle.file_write.proofs.Writes.{PartsLeft}
+-- `write_parts` writes record after record.
+-- After so many turns so many parts are written.
+use Rattle.file_write.proofs.Writes.{Written}
 use Rattle.file_write.proofs.write_parts.Given as goal
 
-abbrev pub invariant-loop-left : goal.invariant-loop-left
-invariant-loop-left l = PartsLeft l.first l.parts l.nodes l.count l.initial.links l.initial.out l.cursor l.left l.links l.out
-
-abbrev pub decreases-loop-left : goal.decreases-loop-left
-decreases-loop-left l = l.left
+abbrev pub invariant-loop : goal.invariant-loop
+invariant-loop l = Written l.first l.parts l.nodes l.count l.initial.links l.initial.out l.cursor l.counter l.links l.out

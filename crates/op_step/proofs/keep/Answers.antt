@@ -1,13 +1,10 @@
 -- `keep` remembers a handle, and nothing of a refusal.
--- The number says which of them it is.
-use Rattle.store.proofs.Codes.{coded_handle, coded_refused}
+-- The answer says which of them it is.
 use Rattle.op_step.proofs.Keeping.{remembered_gave, remembered_refused}
 use Rattle.op_step.proofs.keep.Goals as goal
 
-pub returns-then-coded-lt-FULL : goal.returns-then-coded-lt-FULL
-returns-then-coded-lt-FULL c = remembered_gave _ _ _ _ (coded_handle _ c.if-coded-lt-FULL.true) c.remember.ensures
+pub returns-in-Ok : goal.returns-in-Ok
+returns-in-Ok c = remembered_gave _ _ _ _ c.in-Ok.is c.remember.ensures
 
-pub returns-else-coded-lt-FULL : goal.returns-else-coded-lt-FULL
-returns-else-coded-lt-FULL c =
-    let R = coded_refused _ c.if-coded-lt-FULL.false in
-    remembered_refused _ _ R.0 R.1
+pub returns-in_default : goal.returns-in_default
+returns-in_default c = remembered_refused _ _ _ c.in_default.is

@@ -1,9 +1,7 @@
 -- A log opened on fresh words: no family has a member, and no byte is taken.
 -- What Fresh leaves is a sound store whose book is the first one.
-use mathlib.Core.Path.{refl}
 use Rattle.report_tally.proofs.Openings.{opened}
 use Rattle.report_tally.proofs.open_log.Goals as goal
 
 pub returns : goal.returns
-returns c =
-    opened c.fresh-freshened.ensures refl refl c.empty.ensures c.empty-2.ensures refl refl c.tally_of.ensures
+returns c = search opened

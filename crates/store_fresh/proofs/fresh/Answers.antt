@@ -31,6 +31,6 @@ returns c =
     let e = c.capacity_of-capacity.ensures in
     fresh_done_lem a.limit a.nodes.now a.lookup.now a.cache.now
     (record { some = c.if-nodes-lt3.false; longer = omega (arith, e, c.if-lookup-capacity.false); limit_is = test_passed c.is_limit.ensures (rw c.if-not-is_limit.false) })
-    c.new.result c.zero.new.words c.zero-2.new.words c.zero_groups.new.words
-    (c.new.ensures.0 ∙ e) c.new.ensures.1 c.new.ensures.2
+    c.answered.result c.new.result c.zero.new.words c.zero-2.new.words c.zero_groups.new.words
+    c.answered.ensures.0 c.answered.ensures.1 (c.new.ensures.0 ∙ e) c.new.ensures.1 c.new.ensures.2
     (c.zero.ensures ∙ ap (λ k. zeroed 0 (3 * k) a.nodes.now) e) c.zero-2.ensures c.zero_groups.ensures

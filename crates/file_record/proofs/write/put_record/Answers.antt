@@ -14,21 +14,24 @@ put_field-after_item-requires c = search room_item
 pub put_field-after_zero-requires : goal.put_field-after_zero-requires
 put_field-after_zero-requires c =
     let a = c.args in
-    room_zero a.last.item a.last.number a.part.item a.part.zero a.part.one a.out.now c.requires.one_in_bounds _
+    room_zero a.part a.last c.standing-standing.ensures a.out.now c.requires.one_in_bounds _
     (c.put_field-after_item.auto.out ∙ length-set a.out.now 0 _) c.put_field-after_item.ensures.value
 
 pub put_field-requires : goal.put_field-requires
 put_field-requires c =
     let a = c.args in
-    room_one a.last.item a.last.number a.part.item a.part.zero a.part.one a.out.now c.requires.one_in_bounds _ _
+    room_one a.part a.last c.standing-standing.ensures a.out.now c.requires.one_in_bounds _ _
     (c.put_field-after_zero.auto.out ∙ c.put_field-after_item.auto.out ∙ length-set a.out.now 0 _)
     c.put_field-after_item.ensures.value c.put_field-after_zero.ensures.value
 
-pub returns : goal.returns
-returns c =
-    let a = c.args in record {
-      value = record_place a.last.item a.last.number a.part.item a.part.zero a.part.one a.out.now _ _ _ _ c.map_of.ensures
-          (c.put_field-after_item.ensures.value, c.put_field-after_item.ensures.out_after) (c.put_field-after_zero.ensures.value, c.put_field-after_zero.ensures.out_after) (c.put_field.ensures.value, c.put_field.ensures.out_after);
-      out_after = record_laid a.last.item a.last.number a.part.item a.part.zero a.part.one a.out.now _ _ _ _ c.map_of.ensures
-          (c.put_field-after_item.ensures.value, c.put_field-after_item.ensures.out_after) (c.put_field-after_zero.ensures.value, c.put_field-after_zero.ensures.out_after) (c.put_field.ensures.value, c.put_field.ensures.out_after);
-    }
+pub returns-clause-value : goal.returns-clause-value
+returns-clause-value c =
+    let a = c.args in
+    record_place a.part a.last c.standing-standing.ensures a.out.now _ _ _ _ c.map.ensures
+    (c.put_field-after_item.ensures.value, c.put_field-after_item.ensures.out_after) (c.put_field-after_zero.ensures.value, c.put_field-after_zero.ensures.out_after) (c.put_field.ensures.value, c.put_field.ensures.out_after)
+
+pub returns-clause-out_after : goal.returns-clause-out_after
+returns-clause-out_after c =
+    let a = c.args in
+    record_laid a.part a.last c.standing-standing.ensures a.out.now _ _ _ _ c.map.ensures
+    (c.put_field-after_item.ensures.value, c.put_field-after_item.ensures.out_after) (c.put_field-after_zero.ensures.value, c.put_field-after_zero.ensures.out_after) (c.put_field.ensures.value, c.put_field.ensures.out_after)

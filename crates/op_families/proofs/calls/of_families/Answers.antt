@@ -5,11 +5,13 @@ use native.Mathlib.Omega.{arith}
 use Rattle.std.proofs.Common.{◌+◌, ℕ, List, length, true}
 use Rattle.family.specs.Family.{largest_item}
 use Rattle.store.specs.declared.record.Store.{Store}
-use Rattle.store.specs.declared.tests.Test.{Test}
-use Rattle.store.specs.declared.tests.Test.TheVariants.{Clear}
+use Rattle.std.specs.Bool.{⊤}
+use Rattle.std.proofs.Common.{Result, Ok}
+use Rattle.store.specs.declared.record.Refusal.{Refusal}
 use Rattle.store.specs.Capacity.{fitting}
 use Rattle.store.specs.Tests.{Found}
-use Rattle.op_terminal.specs.Inner.{FamilyOperation}
+use Rattle.op_terminal.specs.Inner.{OnFamilies, set_number}
+use Rattle.op_terminal.proofs.Orders.{on_families}
 use Rattle.store.specs.Inner.{fill_in}
 use Rattle.store.proofs.Growing.{kept_roomy}
 use Rattle.store.proofs.Testing.{tested_clear, placing_refused}
@@ -19,7 +21,7 @@ use Rattle.op_cache.specs.Inner.{call_of}
 use Rattle.op_promise.specs.Promise.{operation_refusal}
 use Rattle.op_promise.proofs.Refusing.{family_number, done}
 use Rattle.op_families.specs.Inner.{ApplyAsks}
-use Rattle.op_families.proofs.Shortcuts.{terminal_code, ran_terminal, ordered_step, ran_ordered}
+use Rattle.op_families.proofs.Shortcuts.{ran_terminal, ordered_step, ran_ordered}
 use Rattle.op_families.proofs.calls.of_families.Goals as goal
 
 -- what is known once the tests passed
@@ -28,8 +30,8 @@ record Ready (op : ℕ) (s : Store) (nodes lookup : List ℕ) (p q : ℕ) : Type
   none : operation_refusal op s.limit s.count p q ≡ 0
   asks : ApplyAsks (call_of op p q) (largest_item + 1) (fill_in s) nodes lookup
 
-ready : {op : ℕ} {s : Store} (nodes lookup : List ℕ) {p q : ℕ} {found : Test} → FamilyOperation op
-    → Found s (length nodes) (length lookup) p q 0 0 0 found → found ≡ Clear → Ready op s nodes lookup p q
+ready : {op : ℕ} {s : Store} (nodes lookup : List ℕ) {p q : ℕ} {found : Result ⊤ Refusal} → OnFamilies op
+    → Found s (length nodes) (length lookup) p q 0 0 0 found → {u : ⊤} → found ≡ Ok u → Ready op s nodes lookup p q
 ready {op = op} {s = s} nodes lookup {p = p} {q = q} O F e =
     let T = tested_clear nodes lookup F e in
     record {
@@ -43,35 +45,34 @@ ready {op = op} {s = s} nodes lookup {p = p} {q = q} O F e =
       };
     }
 
-pub returns-in-Refuses : goal.returns-in-Refuses
-returns-in-Refuses c =
+pub returns-in-Err : goal.returns-in-Err
+returns-in-Err c =
     let a = c.args in
-    let number = family_number a.op a.store.limit a.store.count a.p a.q c.requires.some in
-    placing_refused a.nodes.now a.lookup.now c.tested-found.ensures c.in-Refuses.is (λ e. omega arith)
+    let number = family_number (set_number a.op) a.store.limit a.store.count a.p a.q (on_families a.op).some in
+    placing_refused a.nodes.now a.lookup.now c.tested.ensures c.in-Err.is (λ e. omega arith)
     (λ d. d ∙ sym number) _ _ c.refused.result c.refused.ensures.0 c.refused.ensures.1
 
-pub returns-in-Hit : goal.returns-in-Hit
-returns-in-Hit c =
-    let R = ready c.args.nodes.now c.args.lookup.now c.requires c.tested-found.ensures c.in_default.is in
+pub returns-in-Some : goal.returns-in-Some
+returns-in-Some c =
+    let R = ready c.args.nodes.now c.args.lookup.now (on_families c.args.op) c.tested.ensures c.in_default.is in
     let a = c.args in
     done _ _ _ _ _ _ R.fits _ R.none (omega arith)
-    (ran_terminal R.asks a.cache.now c.in-Hit.is c.shortcut.ensures)
-    (finished_held a.store _ a.nodes.now a.lookup.now a.cache.now c.placed.result
-    (terminal_code R.asks a.cache.now c.in-Hit.is c.shortcut.ensures) c.placed.ensures.0 c.placed.ensures.1)
+    (ran_terminal R.asks a.cache.now c.in-Some.is c.shortcut.ensures)
+    (finished_held a.store _ a.nodes.now a.lookup.now a.cache.now c.placed.result c.placed.ensures.0 c.placed.ensures.1)
 
-pub expand-coded-requires : goal.expand-coded-requires
-expand-coded-requires c =
-    let R = ready c.args.nodes.now c.args.lookup.now c.requires c.tested-found.ensures c.in_default.is in
-    ordered_step c.ordered-call.ensures R.asks c.in_default-shortcut.is c.shortcut.ensures
+pub expand-answer-requires : goal.expand-answer-requires
+expand-answer-requires c =
+    let R = ready c.args.nodes.now c.args.lookup.now (on_families c.args.op) c.tested.ensures c.in_default.is in
+    rw c.fill-fill.ensures (ordered_step c.ordered-first.ensures R.asks c.in_default-shortcut.is c.shortcut.ensures)
 
 pub finish-requires : goal.finish-requires
 finish-requires c =
-    let R = ready c.args.nodes.now c.args.lookup.now c.requires c.tested-found.ensures c.in_default.is in
-    let K = c.expand-coded.ensures.kept in
-    record { roomy = kept_roomy K R.asks.taken.roomy; fewer = K.grows }
+    let R = ready c.args.nodes.now c.args.lookup.now (on_families c.args.op) c.tested.ensures c.in_default.is in
+    let K = (rw c.fill-fill.ensures at c.expand-answer.ensures).kept in
+    record { roomy = rw K.same_capacity at (kept_roomy K R.asks.taken.roomy); fewer = K.grows }
 
 pub returns : goal.returns
 returns c =
-    let R = ready c.args.nodes.now c.args.lookup.now c.requires c.tested-found.ensures c.in_default.is in
+    let R = ready c.args.nodes.now c.args.lookup.now (on_families c.args.op) c.tested.ensures c.in_default.is in
     let a = c.args in
-    done _ _ _ _ _ _ R.fits _ R.none (omega arith) (ran_ordered c.ordered-call.ensures R.asks a.cache.now c.expand-coded.ensures) c.finish.ensures
+    done _ _ _ _ _ _ R.fits _ R.none (omega arith) (ran_ordered c.ordered-first.ensures R.asks a.cache.now (rw c.fill-fill.ensures at c.expand-answer.ensures)) c.finish.ensures

@@ -1,9 +1,10 @@
 -- `restrict` and `expand` run the operation on a family and an item: the level falls from `expand` to each
 -- `restrict`, and `restrict` comes just above `expand` of its level.
 -- Every way out is one at or above the top, a recalled result, or one step over the two results below.
+use mathlib.Core.Path.{ap}
 use native.Mathlib.Omega.{arith}
-use Rattle.store.specs.Inner.{fill_of}
-use Rattle.store.proofs.Codes.{coded_handle, coded_refused}
+use Rattle.op_terminal.specs.Inner.{item_number}
+use Rattle.store.proofs.Answers.{passed_on}
 use Rattle.store.proofs.Growing.{kept_top, kept_roomy}
 use Rattle.store.proofs.Plain.{plain_ran}
 use Rattle.store_sides.proofs.Answers.{sides_two, sides_broken}
@@ -19,11 +20,11 @@ expand-recall-requires t c =
     let p = c.requires in
     omega (arith, p.asks.taken.roomy.within, p.asks.taken.roomy.small)
 
-pub expand-returns-in-Hit : goal.expand-returns-in-Hit
-expand-returns-in-Hit t c =
+pub expand-returns-in-Some : goal.expand-returns-in-Some
+expand-returns-in-Some t c =
     let a = c.args in
     let p = c.requires in
-    ran_recalled a.item (fill_of a.capacity a.count.now) a.nodes.now a.lookup.now a.cache.now p.asks.taken.roomy (call_of a.op a.p a.item) _ (omega (arith, p.asks.taken.operation.some)) c.in-Hit.is c.recall.ensures
+    ran_recalled a.item a.fill.now a.nodes.now a.lookup.now a.cache.now p.asks.taken.roomy (call_of (item_number a.op) a.p a.item) _ (omega (arith, p.asks.taken.operation.some)) c.in-Some.is (rw c.number.ensures at c.recall.ensures)
 
 pub expand-sides_at-requires : goal.expand-sides_at-requires
 expand-sides_at-requires t c =
@@ -41,28 +42,28 @@ pub expand-returns-in_default-sides_at : goal.expand-returns-in_default-sides_at
 expand-returns-in_default-sides_at t c =
     let a = c.args in
     let p = c.requires in
-    ran_broken a.item (fill_of a.capacity a.count.now) a.nodes.now a.lookup.now a.cache.now p.asks.taken.roomy (call_of a.op a.p a.item) (λ l B H. sides_broken c.in_default-sides_at.is c.sides_at.ensures l B a.lookup.now H)
+    ran_broken a.item a.fill.now a.nodes.now a.lookup.now a.cache.now p.asks.taken.roomy (call_of (item_number a.op) a.p a.item) (λ l B H. sides_broken c.in_default-sides_at.is c.sides_at.ensures l B a.lookup.now H)
 
-pub expand-restrict-zero-requires : goal.expand-restrict-zero-requires
-expand-restrict-zero-requires t c =
+pub expand-restrict-requires : goal.expand-restrict-requires
+expand-restrict-requires t c =
     let p = c.requires in
-    let K = sides_two c.in-Two.is c.sides_at.ensures in
+    let K = sides_two c.in-Some-sides_at.is c.sides_at.ensures in
     let I = p.asks.taken in
     (omega arith, search rules)
 
-pub expand-returns-then-zero-ge-FULL : goal.expand-returns-then-zero-ge-FULL
-expand-returns-then-zero-ge-FULL t c =
+pub expand-returns-in_err-zero : goal.expand-returns-in_err-zero
+expand-returns-in_err-zero t c =
     let a = c.args in
     let p = c.requires in
-    let K = sides_two c.in-Two.is c.sides_at.ensures in
-    let R = coded_refused _ c.if-zero-ge-FULL.true in
-    step_first (call_of a.op a.p a.item) _ _ a.level (fill_of a.capacity a.count.now) a.nodes.now a.lookup.now a.cache.now (split_item p K) c.restrict-zero.ensures R.0 R.1
+    let K = sides_two c.in-Some-sides_at.is c.sides_at.ensures in
+    rw (passed_on _ c.from_residual.ensures.1, ← c.in_err-zero.was)
+    (step_first (call_of (item_number a.op) a.p a.item) _ _ a.level a.fill.now a.nodes.now a.lookup.now a.cache.now (split_item p K) c.restrict.ensures _ c.in_err-zero.was)
 
-pub expand-restrict-one-requires : goal.expand-restrict-one-requires
-expand-restrict-one-requires t c =
+pub expand-restrict-requires-2 : goal.expand-restrict-requires-2
+expand-restrict-requires-2 t c =
     let p = c.requires in
-    let K = sides_two c.in-Two.is c.sides_at.ensures in
-    let L = c.restrict-zero.ensures.kept in
+    let K = sides_two c.in-Some-sides_at.is c.sides_at.ensures in
+    let L = c.restrict.ensures.kept in
     let I = p.asks.taken in (
       omega (arith, K.one_below),
       record {
@@ -78,32 +79,32 @@ expand-restrict-one-requires t c =
       },
     )
 
-pub expand-returns-then-one-ge-FULL : goal.expand-returns-then-one-ge-FULL
-expand-returns-then-one-ge-FULL t c =
+pub expand-returns-in_err-one : goal.expand-returns-in_err-one
+expand-returns-in_err-one t c =
     let a = c.args in
     let p = c.requires in
-    let K = sides_two c.in-Two.is c.sides_at.ensures in
-    let R = coded_refused _ c.if-one-ge-FULL.true in
-    step_second (call_of a.op a.p a.item) _ _ a.level (fill_of a.capacity a.count.now) a.nodes.now a.lookup.now a.cache.now (split_item p K) c.restrict-zero.ensures _ (coded_handle _ c.if-zero-ge-FULL.false) c.restrict-one.ensures R.0 R.1
+    let K = sides_two c.in-Some-sides_at.is c.sides_at.ensures in
+    rw (passed_on _ c.from_residual-in_err-one.ensures.1, ← c.in_err-one.was)
+    (step_second (call_of (item_number a.op) a.p a.item) _ _ a.level a.fill.now a.nodes.now a.lookup.now a.cache.now (split_item p K) c.restrict.ensures _ c.in_ok-zero.was c.restrict-2.ensures _ c.in_err-one.was)
 
 pub expand-node_of-made-requires : goal.expand-node_of-made-requires
 expand-node_of-made-requires t c =
     let p = c.requires in
-    let N = node_asks p.asks.taken.roomy c.restrict-zero.ensures (coded_handle _ c.if-zero-ge-FULL.false) c.restrict-one.ensures (coded_handle _ c.if-one-ge-FULL.false) (omega (arith, p.below)) p.asks.level_low in
+    let N = node_asks p.asks.taken.roomy c.restrict.ensures c.in_ok-zero.was c.restrict-2.ensures c.in_ok-one.was (omega (arith, p.below)) p.asks.level_low in
     search rules
 
 pub expand-returns : goal.expand-returns
 expand-returns t c =
     let a = c.args in
     let p = c.requires in
-    let K = sides_two c.in-Two.is c.sides_at.ensures in
-    step_done (call_of a.op a.p a.item) _ _ a.level (fill_of a.capacity a.count.now) a.nodes.now a.lookup.now a.cache.now (split_item p K) c.restrict-zero.ensures _ (coded_handle _ c.if-zero-ge-FULL.false) c.restrict-one.ensures _ (coded_handle _ c.if-one-ge-FULL.false) c.node_of-made.ensures c.keep.ensures
+    let K = sides_two c.in-Some-sides_at.is c.sides_at.ensures in
+    step_done (call_of (item_number a.op) a.p a.item) _ _ a.level a.fill.now a.nodes.now a.lookup.now a.cache.now (split_item p K) c.restrict.ensures _ c.in_ok-zero.was c.restrict-2.ensures _ c.in_ok-one.was c.node_of-made.ensures (rw c.number.ensures at c.keep.ensures)
 
-pub restrict-returns-then-op-eq1 : goal.restrict-returns-then-op-eq1
-restrict-returns-then-op-eq1 t c = ran_none c.requires c.args.cache.now c.if-level-item.true c.if-op-eq1.true
+pub restrict-returns-in-Subset1 : goal.restrict-returns-in-Subset1
+restrict-returns-in-Subset1 t c = ran_none c.requires c.args.cache.now c.if-level-item.true (ap item_number c.in-Subset1.is)
 
-pub restrict-returns-then-op-eq2 : goal.restrict-returns-then-op-eq2
-restrict-returns-then-op-eq2 t c = ran_whole c.requires c.args.cache.now c.if-level-item.true c.if-op-eq2.true
+pub restrict-returns-in-Subset0 : goal.restrict-returns-in-Subset0
+restrict-returns-in-Subset0 t c = ran_whole c.requires c.args.cache.now c.if-level-item.true (ap item_number c.in-Subset0.is)
 
 pub restrict-leaf-requires : goal.restrict-leaf-requires
 restrict-leaf-requires t c =
@@ -113,7 +114,7 @@ restrict-leaf-requires t c =
 pub restrict-returns-then-level-item-2 : goal.restrict-returns-then-level-item-2
 restrict-returns-then-level-item-2 t c =
     let a = c.args in
-    plain_ran a.item _ (fill_of a.capacity a.count.now) a.nodes.now a.lookup.now a.cache.now c.leaf.ensures
+    plain_ran a.item _ a.fill.now a.nodes.now a.lookup.now a.cache.now c.leaf.ensures
 
 pub restrict-expand-requires : goal.restrict-expand-requires
 restrict-expand-requires t c =

@@ -1,6 +1,6 @@
 -- `of_parity` tests in document 01's order, then runs the recursion of the parity and ends as every placing call does.
 -- Each way out is one law of refusing, or of a part that ran to its end.
-use Rattle.std.proofs.Common.{true, false, ℕ, List, ◌≡◌, ◌≤◌}
+use Rattle.std.proofs.Common.{ℕ, List, ◌≡◌, ◌≤◌}
 use Rattle.store.specs.declared.record.Store.{Store}
 use Rattle.store.specs.Words.{top_at}
 use native.Mathlib.Omega.{arith}
@@ -11,7 +11,7 @@ use Rattle.store.proofs.Growing.{kept_roomy}
 use Rattle.store.proofs.Testing.{Tested, tested_clear, placing_refused}
 use Rattle.store_undo.proofs.Finishing.{finished_held}
 use Rattle.op_parity.specs.Inner.{PartAsks}
-use Rattle.op_parity.proofs.Splits.{leaf_code, ran_leaf}
+use Rattle.op_parity.proofs.Splits.{ran_leaf}
 use Rattle.op_parity.proofs.Done.{part_done}
 use Rattle.op_parity.proofs.calls.of_parity.Goals as goal
 
@@ -22,61 +22,43 @@ asks P e l =
     let low = (fits_true _ _ _ P.fits).limit_is.1 in
     record { roomy = P.roomy; held = P.passed.first; level_is = e; level_low = omega arith }
 
-pub returns-in-Refuses : goal.returns-in-Refuses
-returns-in-Refuses c =
+pub returns-in-Err : goal.returns-in-Err
+returns-in-Err c =
     let a = c.args in
-    placing_refused a.nodes.now a.lookup.now c.tested-found.ensures c.in-Refuses.is (λ e. omega arith) (λ d. d) _ _ c.refused.result c.refused.ensures.0 c.refused.ensures.1
+    placing_refused a.nodes.now a.lookup.now c.tested.ensures c.in-Err.is (λ e. omega arith) (λ d. d) _ _ c.refused.result c.refused.ensures.0 c.refused.ensures.1
 
 pub top_of-level-requires : goal.top_of-level-requires
 top_of-level-requires c =
-    let P = tested_clear c.args.nodes.now c.args.lookup.now c.tested-found.ensures c.in_default.is in
+    let P = tested_clear c.args.nodes.now c.args.lookup.now c.tested.ensures c.in_default.is in
     record { held = P.passed.first; words = omega (arith, P.roomy.within, P.roomy.words) }
 
 pub returns-then-store-level : goal.returns-then-store-level
 returns-then-store-level c =
-    let P = tested_clear c.args.nodes.now c.args.lookup.now c.tested-found.ensures c.in_default.is in
+    let P = tested_clear c.args.nodes.now c.args.lookup.now c.tested.ensures c.in_default.is in
     call_high _ _ _ _ _ _ c.refused-then-store-level.result P.fits _ P.passed.first (omega (arith, c.top_of-level.ensures, c.if-store-level.true)) _ c.refused-then-store-level.ensures.0 c.refused-then-store-level.ensures.1
 
 pub returns-then-level-eq0 : goal.returns-then-level-eq0
 returns-then-level-eq0 c =
     let a = c.args in
-    let P = tested_clear c.args.nodes.now c.args.lookup.now c.tested-found.ensures c.in_default.is in
+    let P = tested_clear c.args.nodes.now c.args.lookup.now c.tested.ensures c.in_default.is in
     let A = asks P c.top_of-level.ensures c.if-store-level.false in
     part_done a.even _ _ _ _ _ P.fits P.number_is (ran_leaf a.even A c.if-level-eq0.true a.cache.now)
-    (finished_held a.store _ a.nodes.now a.lookup.now a.cache.now c.placed.result (leaf_code a.even A) c.placed.ensures.0 (rw c.leaf_part.ensures at c.placed.ensures.1))
+    (finished_held a.store _ a.nodes.now a.lookup.now a.cache.now c.placed.result c.placed.ensures.0 (rw c.leaf_part.ensures at c.placed.ensures.1))
 
-pub expand_even-coded-requires : goal.expand_even-coded-requires
-expand_even-coded-requires c =
-    let P = tested_clear c.args.nodes.now c.args.lookup.now c.tested-found.ensures c.in_default.is in
+pub expand-answer-requires : goal.expand-answer-requires
+expand-answer-requires c =
+    let P = tested_clear c.args.nodes.now c.args.lookup.now c.tested.ensures c.in_default.is in
     let A = asks P c.top_of-level.ensures c.if-store-level.false in
-    record { asks = A; some = omega (arith, c.if-level-eq0.false) }
+    rw c.fill-fill.ensures (record { asks = A; some = omega (arith, c.if-level-eq0.false) })
 
 pub finish-requires : goal.finish-requires
 finish-requires c =
-    let P = tested_clear c.args.nodes.now c.args.lookup.now c.tested-found.ensures c.in_default.is in
+    let P = tested_clear c.args.nodes.now c.args.lookup.now c.tested.ensures c.in_default.is in
     let A = asks P c.top_of-level.ensures c.if-store-level.false in
-    let K = c.expand_even-coded.ensures.kept in
-    record { roomy = kept_roomy K A.roomy; fewer = K.grows }
-
-pub returns-then-even : goal.returns-then-even
-returns-then-even c =
-    let P = tested_clear c.args.nodes.now c.args.lookup.now c.tested-found.ensures c.in_default.is in
-    rw c.if-even.true (part_done true _ _ _ _ _ P.fits P.number_is c.expand_even-coded.ensures c.finish.ensures)
-
-pub expand_odd-coded-requires : goal.expand_odd-coded-requires
-expand_odd-coded-requires c =
-    let P = tested_clear c.args.nodes.now c.args.lookup.now c.tested-found.ensures c.in_default.is in
-    let A = asks P c.top_of-level.ensures c.if-store-level.false in
-    record { asks = A; some = omega (arith, c.if-level-eq0.false) }
-
-pub finish-requires-2 : goal.finish-requires-2
-finish-requires-2 c =
-    let P = tested_clear c.args.nodes.now c.args.lookup.now c.tested-found.ensures c.in_default.is in
-    let A = asks P c.top_of-level.ensures c.if-store-level.false in
-    let K = c.expand_odd-coded.ensures.kept in
-    record { roomy = kept_roomy K A.roomy; fewer = K.grows }
+    let K = (rw c.fill-fill.ensures at c.expand-answer.ensures).kept in
+    record { roomy = rw K.same_capacity at (kept_roomy K A.roomy); fewer = K.grows }
 
 pub returns : goal.returns
 returns c =
-    let P = tested_clear c.args.nodes.now c.args.lookup.now c.tested-found.ensures c.in_default.is in
-    rw c.if-even.false (part_done false _ _ _ _ _ P.fits P.number_is c.expand_odd-coded.ensures c.finish-2.ensures)
+    let P = tested_clear c.args.nodes.now c.args.lookup.now c.tested.ensures c.in_default.is in
+    part_done c.args.even _ _ _ _ _ P.fits P.number_is (rw c.fill-fill.ensures at c.expand-answer.ensures) c.finish.ensures

@@ -1,27 +1,28 @@
 -- `shortcut` answers document 001's terminal cases; each is a law of the operation.
 -- Where none applies it says nothing.
-use Rattle.op_terminal.specs.Inner.{known, unknown}
-use Rattle.op_terminal.proofs.Orders.{same_none, same_same, empty_second, empty_none, none_second, first_second}
+use mathlib.Core.Path.{ap}
+use Rattle.op_terminal.specs.Inner.{set_number, known, unknown}
+use Rattle.op_terminal.proofs.Orders.{on_families, four, five, six, same_none, same_same, empty_second, empty_none, none_second, first_second}
 use Rattle.op_terminal.proofs.families.shortcut.Goals as goal
 
-pub returns-then-call-eq6 : goal.returns-then-call-eq6
-returns-then-call-eq6 c = known (same_none c.args.call c.requires c.if-call.true c.if-call-eq6.true)
+pub returns-in-Diff : goal.returns-in-Diff
+returns-in-Diff c = known (same_none _ (on_families c.args.op) c.if-p-q.true (ap set_number c.in-Diff.is))
 
-pub returns-then-call : goal.returns-then-call
-returns-then-call c = known (same_same c.args.call c.requires c.if-call.true c.if-call-eq6.false)
+pub returns-in_default : goal.returns-in_default
+returns-in_default c = known (same_same _ (on_families c.args.op) c.if-p-q.true (λ e. c.in_default.not-Diff (six _ e)))
 
-pub returns-then-call-eq4 : goal.returns-then-call-eq4
-returns-then-call-eq4 c = known (empty_second c.args.call c.requires c.if-call-eq0.true c.if-call-eq4.true)
+pub returns-in-Union : goal.returns-in-Union
+returns-in-Union c = known (empty_second _ (on_families c.args.op) c.if-p-eq0.true (ap set_number c.in-Union.is))
 
-pub returns-then-call-eq0 : goal.returns-then-call-eq0
-returns-then-call-eq0 c = known (empty_none c.args.call c.requires c.if-call-eq0.true c.if-call-eq4.false)
+pub returns-in_default-op : goal.returns-in_default-op
+returns-in_default-op c = known (empty_none _ (on_families c.args.op) c.if-p-eq0.true (λ e. c.in_default-op.not-Union (four _ e)))
 
-pub returns-then-call-eq5 : goal.returns-then-call-eq5
-returns-then-call-eq5 c = known (none_second c.args.call c.requires c.if-call-eq0-2.true c.if-call-eq5.true)
+pub returns-in-Intsec : goal.returns-in-Intsec
+returns-in-Intsec c = known (none_second _ (on_families c.args.op) c.if-q-eq0.true (ap set_number c.in-Intsec.is))
 
-pub returns-then-call-eq0-2 : goal.returns-then-call-eq0-2
-returns-then-call-eq0-2 c = known (first_second c.args.call c.requires c.if-call-eq0-2.true c.if-call-eq5.false)
+pub returns-in_default-op-2 : goal.returns-in_default-op-2
+returns-in_default-op-2 c = known (first_second _ (on_families c.args.op) c.if-q-eq0.true (λ e. c.in_default-op-2.not-Intsec (five _ e)))
 
 pub returns : goal.returns
 returns c =
-    unknown (record { apart = c.if-call.false; first = c.if-call-eq0.false; second = c.if-call-eq0-2.false })
+    unknown (record { apart = c.if-p-q.false; first = c.if-p-eq0.false; second = c.if-q-eq0.false })

@@ -1,19 +1,13 @@
 -- `kept_product` keeps the weight times what it is given.
--- 0 times any number is 0; else a number above the largest stays, or the test before the product decides.
-use Rattle.query_sums.proofs.Keeping.{times_none, times_first, times_above, times_fits, product_word}
+-- 0 times any number is 0; else a number above the largest stays one, or the product is tested as it is made.
+use Rattle.query_sums.proofs.Keeping.{times_none, times_above, times_both}
 use Rattle.query_sums.proofs.kept.kept_product.Goals as goal
 
 pub returns-then-weight-eq0 : goal.returns-then-weight-eq0
 returns-then-weight-eq0 c = search times_none
 
-pub returns-then-a : goal.returns-then-a
-returns-then-a c = search times_first
-
-pub returns-then-weight-a : goal.returns-then-weight-a
-returns-then-weight-a c = search times_above
-
-pub overflow_mul-weight : goal.overflow_mul-weight
-overflow_mul-weight c = search product_word
+pub returns-in_err-a : goal.returns-in_err-a
+returns-in_err-a c = times_above _ _ _ c.if-weight-eq0.false c.in_err-a.was c.from_residual.ensures
 
 pub returns : goal.returns
-returns c = search times_fits
+returns c = times_both _ _ _ _ c.in_ok-a.was c.checked_mul.ensures

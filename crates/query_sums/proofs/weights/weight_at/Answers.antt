@@ -1,15 +1,7 @@
 -- `weight_at` reads the weight of an item, at one less than its number.
--- Past the list the definition has 0.
-use mathlib.Core.Path.{sym}
-use native.Mathlib.Omega.{arith}
-use lib.ListN.{get_or-eq_default}
+-- Past the list the definition has 0, as the code does.
+use Rattle.std.proofs.Common.{◌∙◌, arith}
 use Rattle.query_sums.proofs.weights.weight_at.Goals as goal
 
-pub returns-then-item-eq0 : goal.returns-then-item-eq0
-returns-then-item-eq0 c = (omega arith, λ l. absurd (omega (arith, c.if-item-eq0.true)))
-
-pub returns-then-k-weights : goal.returns-then-k-weights
-returns-then-k-weights c = (c.wide.ensures.1, λ l. c.wide.ensures.0)
-
-pub returns : goal.returns
-returns c = (omega arith, λ l. sym (get_or-eq_default c.args.weights.now 0 c.if-k-weights.false))
+pub returns-clause-is : goal.returns-clause-is
+returns-clause-is c = λ l. c.from.ensures ∙ c.unwrap_or.ensures ∙ rw c.copied.ensures (c.get.ensures.lookup.4 (omega arith) 0)

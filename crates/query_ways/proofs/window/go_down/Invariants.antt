@@ -1,12 +1,8 @@
 -- `go_down` goes through the window from the asked handle down.
 -- Before each turn the ways in the words left, with the total, come to the size of the asked family.
-use mathlib.Core.Path.{◌≡◌}
-use lib.ListN.{length}
 use Rattle.query_ways.proofs.Going.{Goes}
 use Rattle.query_ways.proofs.window.go_down.Given as goal
 
 abbrev pub invariant-loop-left : goal.invariant-loop-left
-invariant-loop-left l = Goes l.p l.nodes l.count l.width l.places l.left l.low l.parts l.entered l.total l.words × (length l.words ≡ length l.initial.words)
-
-abbrev pub decreases-loop-left : goal.decreases-loop-left
-decreases-loop-left l = l.left
+invariant-loop-left l =
+    Goes l.p l.nodes l.count l.width l.left l.passed l.passage.low l.passage.window.now l.passage.parts l.passage.total

@@ -1,18 +1,13 @@
--- `are_zero` decides whether the part is 0: after k turns the words up to k are.
--- The measure is what is left of the part; a word that is not 0 ends it.
-use Rattle.store_audit.proofs.Deciding.{decides_yes, decides_no}
-use Rattle.store_audit.proofs.Testing.{blank_none, blank_more, blank_to}
-use Rattle.std.proofs.Common.{rules}
+-- `are_zero` decides whether the part is 0.
+-- All its words pass the test, or one of them is not 0.
+use Rattle.std.proofs.Common.{◌≡◌, ℕ, ◌-◌, take, drop, rules}
+use Rattle.std.proofs.lemmas.Iterator.{cases_from_all, YieldsList-from_slice}
+use borrow.Author.Tests.{tests}
+use Rattle.store_audit.proofs.Testing.{blank_decided}
 use Rattle.store_audit.proofs.blank.are_zero.Goals as goal
 
-pub loop-k-init : goal.loop-k-init
-loop-k-init c = (search rules, search rules, blank_none _ _)
-
-pub returns-then-words-k-ne0 : goal.returns-then-words-k-ne0
-returns-then-words-k-ne0 c = decides_no (λ b. c.if-words-k-ne0.true (b.is c.loop-k.k c.loop-k.invariant.0 c.loop-k-test.true))
-
-pub loop-k-preserved : goal.loop-k-preserved
-loop-k-preserved c = (search rules, search rules, blank_more _ _ _ c.loop-k.invariant.2 c.if-words-k-ne0.false)
-
 pub returns : goal.returns
-returns c = decides_yes (blank_to _ _ _ _ c.loop-k.invariant.2 c.loop-k-test.false)
+returns c =
+    let a = c.args in
+    blank_decided a.words.now a.from a.to c.requires.rising c.requires.within _
+    (cases_from_all _ _ _ (λ (x : ℕ). x ≡ 0) (λ (x : ℕ). x ≡ 0 → ⊥) c.all.ensures.ran (YieldsList-from_slice (take (a.to - a.from) (drop a.from a.words.now)) cc) (λ x q k. search (rules, tests)) (λ x q k. search (rules, tests)))

@@ -1,43 +1,38 @@
--- `probe` finds the slot of the definition: what is left of the search is the whole search.
--- The measure is the number of slots left.
-use Rattle.std.proofs.Common.{◌≡◌, ℕ, Bool, List, length, get_or, sym, refl, ◌∙◌, arith, rules}
+-- `probe` finds the slot of the definition.
+-- What the slots that are left give is what all of them give.
+use Rattle.std.proofs.Common.{◌≡◌, ℕ, ◌-◌, List, length, get_or, sym, ◌∙◌, arith}
 use Rattle.table.specs.Start.{start_of}
-use Rattle.table.specs.Probe.{stop_on, probe_of}
+use Rattle.table.specs.Probe.{scan, stop_on, probe_of}
 use Rattle.table.proofs.Starts.{start_lt}
 use Rattle.table.proofs.Scan.{after_lt, left_none, left_hit, left_miss}
 use Rattle.table.proofs.probe.probe.Goals as goal
 
--- what stops the search, slot by slot
-abbrev stop : List ℕ → List ℕ → ℕ → ℕ → ℕ → ℕ → ℕ → Bool
-stop nodes lookup count item z o x = stop_on nodes count item z o (get_or lookup x 0)
-
-pub loop-left-init : goal.loop-left-init
+-- the whole search is to come
+begun : (nodes lookup : List ℕ) (count item z o slot : ℕ) → slot ≡ start_of item z o (length lookup)
+    → scan (λ x. stop_on nodes count item z o (get_or lookup x 0)) (length lookup) (length lookup - 0) slot ≡ probe_of nodes lookup count item z o
 unfolding probe_of
-loop-left-init c =
-    let a = c.args in
-    let n = length a.lookup.now in
-    let s : c.start_slot-slot.result ≡ start_of a.item a.zero a.one n = c.start_slot-slot.ensures in
-    (rw s (start_lt a.item a.zero a.one n (search rules)), search rules, refl, rw s refl)
+begun nodes lookup count item z o slot e = let n : length lookup - 0 ≡ length lookup = omega arith in rw (n, e)
 
-pub loop-left-preserved : goal.loop-left-preserved
-loop-left-preserved c =
-    let a = c.args in
-    let l = c.loop-left in
-    let f = stop a.nodes.now a.lookup.now a.count a.item a.zero a.one in (
-      rw c.next_slot-slot.ensures (after_lt _ _ l.invariant.0),
-      omega arith,
-      refl,
-      rw c.next_slot-slot.ensures (sym (left_miss f _ l.left l.slot c.if-left-eq0.false (sym c.stops.ensures ∙ c.if-stops.false)) ∙ l.invariant.3),
-    )
+pub loop-init : goal.loop-init
+loop-init c =
+    record {
+      inside = rw c.start_slot-slot.ensures (start_lt _ _ _ _ c.requires.start.some);
+      whole = begun _ _ _ _ _ _ _ c.start_slot-slot.ensures;
+    }
 
-pub returns-then-left-eq0 : goal.returns-then-left-eq0
-returns-then-left-eq0 c =
-    let a = c.args in
-    let l = c.loop-left in
-    sym (left_none (stop a.nodes.now a.lookup.now a.count a.item a.zero a.one) _ l.left l.slot c.if-left-eq0.true) ∙ l.invariant.3
+pub loop-preserved : goal.loop-preserved
+loop-preserved c =
+    record {
+      inside = rw c.next_slot-slot.ensures (after_lt _ _ c.loop.invariant.inside);
+      whole = rw c.next_slot-slot.ensures (sym (left_miss _ _ _ _ c.loop-test.true (sym c.stops.ensures ∙ c.if-stops.false)) ∙ c.loop.invariant.whole);
+    }
 
 pub returns-then-stops : goal.returns-then-stops
 returns-then-stops c =
-    let a = c.args in
-    let l = c.loop-left in
-    sym (left_hit (stop a.nodes.now a.lookup.now a.count a.item a.zero a.one) _ l.left l.slot c.if-left-eq0.false (sym c.stops.ensures ∙ c.if-stops.true)) ∙ l.invariant.3
+    record {
+      is = sym (left_hit _ _ _ _ c.loop-test.true (sym c.stops.ensures ∙ c.if-stops.true)) ∙ c.loop.invariant.whole;
+      inside = c.loop.invariant.inside;
+    }
+
+pub returns : goal.returns
+returns c = sym c.loop.invariant.whole ∙ left_none _ _ _ _ c.loop-test.false
