@@ -1,11 +1,11 @@
 // The lines of Save.
 use crate::lend::Lent;
-use crate::old::{Answered, save};
 use crate::output::{record, refused, told};
 use crate::replay::Replay;
 use crate::sums::{MARK, kept, sum_of};
+use file_save::save;
 use std::io;
-use store::record::Refusal;
+use store::record::{Answered, Refusal};
 
 // From where on the scratch must be as before: after 10, 4, 11 and 7 all of it, else what is past the needed words.
 pub fn free_until(refusal: Refusal, needed: usize) -> usize {
