@@ -1,11 +1,11 @@
 // The line of Has.
 use crate::draw::{Drawn, item};
 use crate::lend::Lent;
-use crate::old::has;
 use crate::output::{record, refused, told};
 use crate::path::{NONE, member, toggled};
 use crate::replay::Replay;
 use combination::Combination;
+use query_has::has;
 use std::io;
 
 // An item above the limit, up to 512; 513 where there is none.

@@ -19,5 +19,5 @@ pub fn record(rt: &impl Print, store: Store) -> io::Result<()> {
 
 // Writes a refusal.
 pub fn refused(rt: &impl Print, refusal: Refusal) -> io::Result<()> {
-    print!(rt; " refused {}", crate::old::number(refusal))
+    print!(rt; " refused {}", u32::from(refusal))
 }

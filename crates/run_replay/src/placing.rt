@@ -1,12 +1,13 @@
 // The lines of the six operations, Even and Odd.
 use crate::lend::Lent;
-use crate::old::{Answered, Placement, even, odd, operate};
 use crate::output::{record, refused, told};
 use crate::replay::Replay;
 use crate::sums::{cleared, sum_of};
+use op_calls::operate;
+use op_parity::calls::{even, odd};
 use op_promise::Operation;
 use std::{fmt, io};
-use store::record::Refusal;
+use store::record::{Answered, Placement, Refusal};
 
 // An operation and its two operands, or Even or Odd of a family.
 #[derive(Clone, Copy)]

@@ -1,11 +1,11 @@
 // The lines of Save.
 use crate::lend::Lent;
-use crate::old::{Answered, save};
 use crate::output::{record, refused, told};
 use crate::replay::Replay;
 use crate::sums::{MARK, kept, sum_of};
+use file_save::save;
 use std::io;
-use store::record::Refusal;
+use store::record::{Answered, Refusal};
 
 // From where on the scratch must be as before: after 10, 4, 11 and 7 all of it, else what is past the needed words.
 pub fn free_until(refusal: Refusal, needed: usize) -> usize {
@@ -46,9 +46,10 @@ impl Replay<'_> {
         let slots = lent.slots.min(self.lookup.len());
         let part = words.min(1100);
         let out = bytes.min(self.file.len());
-        let lookup = &self.lookup[..slots];
+        let lookup = &mut self.lookup[..slots];
         let file = &mut self.file[..out];
-        let saved = save(lent.record, self.nodes, lookup, p, &mut links[..part], file);
+        let nodes = &mut *self.nodes;
+        let saved = save(lent.record, nodes, lookup, p, &mut links[..part], file);
         print!(rt; "Save {p} lent {slots} {part} {out}:")?;
         given(rt, saved, &links)?;
         println!(rt; " sum {:08x}", sum_of(self.file))?;

@@ -1,13 +1,14 @@
 // The lines of Size by either entry.
 use crate::draw::{Drawn, draw, handle};
 use crate::lend::{Lent, about};
-use crate::old::{Answered, size, size_compact};
 use crate::output::{record, refused, told};
 use crate::parts::needed;
 use crate::replay::Replay;
 use crate::sums::{WIDE_MARK, kept, sum_of};
+use query_size::size;
+use query_size_compact::call::size_compact;
 use std::{fmt, io};
-use store::record::Refusal;
+use store::record::{Answered, Refusal};
 
 // The entries of Size.
 #[derive(Clone, Copy)]

@@ -1,14 +1,14 @@
 // The lines of the two sums of weights.
 use crate::draw::{draw, handle};
 use crate::lend::{Lent, scratch};
-use crate::old::{Answered, weight_by_members, weight_by_nodes};
 use crate::output::{record, refused, told};
 use crate::replay::Replay;
 use crate::saves::free_until;
 use crate::sums::{MARK, WIDE_MARK, kept};
 use crate::weights::{LISTS, Weights};
+use query_weight::calls::{weight_by_members, weight_by_nodes};
 use std::{fmt, io};
-use store::record::Store;
+use store::record::{Answered, Store};
 
 // What a sum goes over.
 #[derive(Clone, Copy)]
