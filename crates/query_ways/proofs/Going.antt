@@ -20,7 +20,7 @@ use Rattle.family.proofs.Bound.{own_length, held_left, held_right}
 use Rattle.store.specs.Inner.{Holds, HandleAsks}
 use Rattle.store.proofs.Held.{at_node, within}
 use Rattle.query_parts.specs.declared.entries.Parts.{Parts}
-use Rattle.query_walk.specs.Inner.{TableOf}
+use Rattle.query_parts.specs.Inner.{TableOf}
 use Rattle.query_walk.proofs.Listing.{list_start}
 use Rattle.query_ways.specs.declared.hand.Passage.{Passage}
 use Rattle.query_ways.specs.Inner.{worth, Covered, passed, entered, due, owing, Ways, BothAsks, HandedBoth, GoAsks, Gone}

@@ -8,7 +8,8 @@ use Rattle.family.specs.Book.{at, Held}
 use Rattle.family.specs.Parts.{part_count}
 use Rattle.store.specs.Inner.{Holds, HandleAsks}
 use Rattle.query_parts.specs.declared.entries.Parts.{Parts}
-use Rattle.query_walk.specs.Inner.{Listed, TableOf, WalkAsks}
+use Rattle.query_parts.specs.Inner.{TableOf}
+use Rattle.query_walk.specs.Inner.{Listed, WalkAsks}
 use Rattle.query_ways.specs.declared.hand.Passage.{Passage}
 
 -- the members of some families, added up

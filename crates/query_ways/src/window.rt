@@ -66,10 +66,7 @@ pub fn size_by_ways(p: u32, nodes: &[u32], count: u32, words: &mut [u64]) -> Opt
     let length = words.len();
     let width = (length / 4).min((p - 1) as usize);
     let some = width / 16;
-    if some == 0 {
-        return None;
-    }
-    if !is_dense(p, nodes, count, &mut words[..some]) {
+    if some == 0 || !is_dense(p, nodes, count, &mut words[..some]) {
         return None;
     }
     let (window, rest) = words.split_at_mut(width);

@@ -49,12 +49,12 @@ descend-returns t c =
 pub reach-find-requires : goal.reach-find-requires
 reach-find-requires t c =
     let q = c.requires in
-    record { some = q.some; entered = _; table = q.table }
+    record { some = q.some; table = q.table }
 
 pub reach-overflow_add-result : goal.reach-overflow_add-result
 reach-overflow_add-result t c =
     let T = c.requires.table in
-    omega (arith, ((c.in-Some.ensures.among _ T).some _ refl).0, T.few, T.small)
+    omega (arith, (c.in-Some.ensures.some _ refl).0, T.few, T.small)
 
 pub reach-returns-in-Some : goal.reach-returns-in-Some
 reach-returns-in-Some t c = walked_found _ _ _ _ _ c.requires.table c.if-p-lt2.false c.in-Some.ensures
