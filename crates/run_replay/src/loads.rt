@@ -48,10 +48,7 @@ impl Replay<'_> {
         let placed = load(lent.record, self.nodes, lookup, cache, file, words);
         print!(rt; "Load {read} lent {slots} {part} {room}:")?;
         given(rt, placed, &self.cache[..part], before)?;
-        let free = match placed.answer {
-            Ok(_) => needed(read),
-            Err(refusal) => free_until(refusal, needed(read)),
-        };
+        let free = free_until(placed.answer, needed(read));
         println!(rt;
             " sum {:08x} kept {}",
             self.sum(),

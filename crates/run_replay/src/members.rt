@@ -1,7 +1,7 @@
 // The line of Has.
 use crate::draw::{Drawn, item};
 use crate::lend::Lent;
-use crate::output::{record, refused, told};
+use crate::output::{answer, record, told};
 use crate::path::{NONE, member, toggled};
 use crate::replay::Replay;
 use combination::Combination;
@@ -54,10 +54,7 @@ impl Replay<'_> {
             }
         }
         print!(rt; " lent {slots}:")?;
-        match asked.answer {
-            Ok(held) => print!(rt; " {}", told(held))?,
-            Err(refusal) => refused(rt, refusal)?,
-        }
+        answer(rt, asked.answer.map(told))?;
         record(rt, asked.store)?;
         println!(rt; "")
     }
