@@ -2,11 +2,11 @@
 -- After each call the handle that it gave means the family placed last, and families held before keep their numbers.
 use Prim.Native.Nat.{ℕ, suc, ◌+◌, ◌-◌, ◌≤◌, ◌<◌}
 use mathlib.Core.Path.{◌≡◌, refl, sym, ap, subst, ◌∙◌}
-use mathlib.Core.Bool.{Bool, true, false, not}
+use mathlib.Core.Bool.{Bool, true, false}
 use mathlib.Core.List.{List, [], ◌∷◌}
 use native.Mathlib.Omega.{arith}
 use lib.ListN.{length}
-use borrow.Author.Tests.{not-true, not-false}
+use Rattle.std.specs.Prelude.{Ok, Err}
 use Rattle.words.proofs.Cases.{by_test}
 use Rattle.family.specs.Family.{Family, largest_item}
 use Rattle.family.specs.Operation.{change, union}
@@ -17,8 +17,8 @@ use Rattle.family.proofs.Placing.{place_grown}
 use Rattle.family.proofs.Words.{holds_items}
 use Rattle.store.specs.declared.record.Store.{Store}
 use Rattle.store.specs.declared.record.Refusal.{Refusal}
-use Rattle.store.specs.declared.record.PlaceAnswer.TheVariants.{Handle, Refused}
-use Rattle.store.specs.declared.record.Placed.{Placed}
+use Rattle.store.specs.declared.record.Placement.{Placement}
+use Rattle.store.specs.declared.record.Answered.{Answered}
 use Rattle.store.specs.Refusals.{refused_by, given_by}
 use Rattle.store.specs.Words.{book_of}
 use Rattle.store.specs.Operations.{rule}
@@ -43,21 +43,21 @@ pub record Gives (n : ℕ) (B : List Family) (a : Added) (h : ℕ) : Type 0 wher
   pub inside : h ≤ n + 1
   pub means : at B h ≡ a.family
 
-module _ {capacity : ℕ} {m : Placed} {nodes lookup cache : List ℕ} {a : Added} (A : After capacity m nodes lookup cache a) where
-  pub gives : (h : ℕ) {n : ℕ} → m.answer ≡ Handle h n → Gives m.store.count (book_of nodes m.store.count) a h
-  gives h e =
+module _ {capacity : ℕ} {m : Answered Placement} {nodes lookup cache : List ℕ} {a : Added} (A : After capacity m nodes lookup cache a) where
+  pub gives : {q : Placement} → m.answer ≡ Ok q → Gives m.store.count (book_of nodes m.store.count) a q.handle
+  gives {q} e =
       by_test a.full
       (λ t. absurd (let z : ◌≡◌ {A = ℕ} 0 5 = ap (λ x. (given_by x).refusal) (sym e) ∙ ap (λ g. g.refusal) (A.answer_is ∙ full_answer a t) in omega arith))
       (λ t.
-      let d : h ≡ number a.book a.family = ap (λ x. (given_by x).handle) (sym e) ∙ ap (λ g. g.handle) (A.answer_is ∙ going_answer a t) in
+      let d : q.handle ≡ number a.book a.family = ap (λ x. (given_by x).handle) (sym e) ∙ ap (λ g. g.handle) (A.answer_is ∙ going_answer a t) in
       record {
         going = t;
         inside = omega (arith, A.held t, ap length A.book_is, (sound_holds A.sound).size);
-        means = ap (λ B. at B h) A.book_is ∙ ap (λ k. at a.book k) d ∙ number_at a.book a.family (A.held t);
+        means = ap (λ B. at B q.handle) A.book_is ∙ ap (λ k. at a.book k) d ∙ number_at a.book a.family (A.held t);
       })
 
-  pub refused_full : (x : Refusal) → m.answer ≡ Refused x → a.full ≡ true
-  refused_full x e =
+  pub refused_full : {x : Refusal} → m.answer ≡ Err x → a.full ≡ true
+  refused_full {x} e =
       by_test a.full (λ t. t)
       (λ t. absurd (refusal_some x (ap (λ y. (given_by y).refusal) (sym e) ∙ ap (λ g. g.refusal) (A.answer_is ∙ going_answer a t))))
 
@@ -68,43 +68,25 @@ next_going : (capacity : ℕ) (f : Family → Family) (a : Added) → a.full ≡
 next_going capacity f a e = rw e
 
 -- one turn of the loop
-module _ (m : Placed) (nodes lookup cache : List ℕ) (c : List ℕ) (v : ℕ) where
-  pub turn_absent : {t : Bool} → t ≡ holds v c → not t ≡ true → ChangeIt m nodes lookup cache c v m nodes lookup cache
-  turn_absent e d = record { after = λ capacity a A. rw (sym e ∙ not-true _ d) A }
-
-  pub turn_refused : (x : Refusal) → m.answer ≡ Refused x → ChangeIt m nodes lookup cache c v m nodes lookup cache
-  turn_refused x e =
-      record { after = λ capacity a A. by_test (holds v c) (λ t. rw (t, next_full capacity (change v) a (refused_full A x e)) A) (λ t. rw t A) }
-
-  pub turn_changed : {t : Bool} {h n : ℕ} {r : Placed} {nodes' lookup' cache' : List ℕ} → t ≡ holds v c → not t ≡ false → InRange v → m.answer ≡ Handle h n
-      → OperationCall 3 h v m.store nodes lookup cache r nodes' lookup' cache' → ChangeIt m nodes lookup cache c v r nodes' lookup' cache'
-  turn_changed {h = h} {r = r} {nodes'} {lookup'} {cache'} e d i eh P = record { after = go }
+module _ (m : Answered Placement) (nodes lookup cache : List ℕ) (c : List ℕ) (v : ℕ) where
+  pub turn_changed : {t : Bool} {q : Placement} {r : Answered Placement} {nodes' lookup' cache' : List ℕ} → t ≡ holds v c → t ≡ true → InRange v → m.answer ≡ Ok q
+      → OperationCall 3 q.handle v m.store nodes lookup cache r nodes' lookup' cache' → ChangeIt m nodes lookup cache c v r nodes' lookup' cache'
+  turn_changed {q = q} {r} {nodes'} {lookup'} {cache'} e d i eh P = record { after = go }
     where
       go : (capacity : ℕ) (a : Added) → After capacity m nodes lookup cache a → After capacity r nodes' lookup' cache' (changed_by capacity c v a)
       go capacity a A =
-          let G = gives A h eh in
-          let Q = change_after A.sound A.limit_is h G.inside v i.low i.high P in
-          rw (sym e ∙ not-false _ d, next_going capacity (change v) a G.going, ← A.capacity_is, ← A.book_is, ← G.means) Q
+          let G = gives A eh in
+          let Q = change_after A.sound A.limit_is q.handle G.inside v i.low i.high P in
+          rw (sym e ∙ d, next_going capacity (change v) a G.going, ← A.capacity_is, ← A.book_is, ← G.means) Q
 
 -- the loop over the items: before each turn, the combination of the smaller items is made
-pub record Making (m₀ : Placed) (nodes₀ lookup₀ cache₀ w nodes lookup cache : List ℕ) (m : Placed) (item : ℕ) : Type 0 where
-  pub low : 1 ≤ item
-  pub high : item ≤ 513
-  pub long : length nodes ≡ length nodes₀
-  pub long_lookup : length lookup ≡ length lookup₀
-  pub long_cache : length cache ≡ length cache₀
-  pub after : Sound m₀.store nodes₀ lookup₀ cache₀ → m₀.store.limit ≡ largest_item → After m₀.store.capacity m nodes lookup cache (line_made m₀.store.capacity (book_of nodes₀ m₀.store.count) (items_to (item - 1) w))
+pub record Making (s : Store) (nodes₀ lookup₀ cache₀ w nodes lookup cache : List ℕ) (m : Answered Placement) (item : ℕ) : Type 0 where
+  pub after : Sound s nodes₀ lookup₀ cache₀ → s.limit ≡ largest_item → After s.capacity m nodes lookup cache (line_made s.capacity (book_of nodes₀ s.count) (items_to (item - 1) w))
 
-pub making_start : (m : Placed) (nodes lookup cache w : List ℕ) (h item : ℕ) → m.answer ≡ Handle h 0 → h ≡ 1 → item ≡ 1 → Making m nodes lookup cache w nodes lookup cache m item
-making_start m nodes lookup cache w h item e one ei =
-    let z : item - 1 ≡ 0 = omega arith in
-    record {
-      low = omega arith;
-      high = omega arith;
-      long = refl;
-      long_lookup = refl;
-      long_cache = refl;
-      after = λ S i. let B = (sound_holds S).book in rw z record {
+pub making_start : {m : Answered Placement} {s : Store} (nodes lookup cache w : List ℕ) {h : ℕ} → m.store ≡ s → m.answer ≡ Ok (record { handle = h; added = 0 }) → h ≡ 1 → Making s nodes lookup cache w nodes lookup cache m 1
+making_start {m} nodes lookup cache w es e one =
+    rw (← es) record {
+      after = λ S i. let B = (sound_holds S).book in record {
         sound = S;
         capacity_is = refl;
         limit_is = i;
@@ -121,26 +103,21 @@ items_all : (w : List ℕ) (n : ℕ) → n ≡ 512 → items_to n w ≡ items_of
 unfolding items_of
 items_all w n e = ap (λ k. items_to k w) e
 
-module _ {m₀ : Placed} {nodes₀ lookup₀ cache₀ w nodes lookup cache : List ℕ} {m : Placed} {item : ℕ} (I : Making m₀ nodes₀ lookup₀ cache₀ w nodes lookup cache m item) where
-  pub making_again : {r : Placed} {nodes' lookup' cache' : List ℕ} → item ≤ 512 → ChangeIt m nodes lookup cache (items_of w) item r nodes' lookup' cache'
-      → length nodes' ≡ length nodes → length lookup' ≡ length lookup → length cache' ≡ length cache → Making m₀ nodes₀ lookup₀ cache₀ w nodes' lookup' cache' r (item + 1)
-  making_again {r} {nodes'} {lookup'} {cache'} l C a b d =
-      let up : item + 1 - 1 ≡ suc (item - 1) = omega (arith, I.low) in
-      let one : suc (item - 1) ≡ item = omega (arith, I.low) in
+module _ {s : Store} {nodes₀ lookup₀ cache₀ w nodes lookup cache : List ℕ} {m : Answered Placement} {item : ℕ} (I : Making s nodes₀ lookup₀ cache₀ w nodes lookup cache m item) where
+  pub making_again : {r : Answered Placement} {nodes' lookup' cache' : List ℕ} → 1 ≤ item → item < 513 → ChangeIt m nodes lookup cache (items_of w) item r nodes' lookup' cache'
+      → Making s nodes₀ lookup₀ cache₀ w nodes' lookup' cache' r (item + 1)
+  making_again l h C =
+      let up : item + 1 - 1 ≡ suc (item - 1) = omega arith in
+      let one : suc (item - 1) ≡ item = omega arith in
       record {
-        low = omega arith;
-        high = omega arith;
-        long = a ∙ I.long;
-        long_lookup = b ∙ I.long_lookup;
-        long_cache = d ∙ I.long_cache;
-        after = λ S i. rw (up, made_step m₀.store.capacity (book_of nodes₀ m₀.store.count) w (item - 1) (omega (arith, I.low)), one)
-            (C.after m₀.store.capacity (line_made m₀.store.capacity (book_of nodes₀ m₀.store.count) (items_to (item - 1) w)) (I.after S i));
+        after = λ S i. rw (up, made_step s.capacity (book_of nodes₀ s.count) w (item - 1) (omega arith), one)
+            (C.after s.capacity (line_made s.capacity (book_of nodes₀ s.count) (items_to (item - 1) w)) (I.after S i));
       }
 
-  pub making_end : (s : Store) → m₀.store ≡ s → 512 < item → MakeIt s nodes₀ lookup₀ cache₀ (items_of w) m nodes lookup cache
-  making_end s e l =
-      rw (← e) record {
-        after = λ S i. subst (λ x. After m₀.store.capacity m nodes lookup cache (line_made m₀.store.capacity (book_of nodes₀ m₀.store.count) x)) (items_all w (item - 1) (omega (arith, I.high))) (I.after S i);
+  pub making_end : item ≤ 513 → 513 ≤ item → MakeIt s nodes₀ lookup₀ cache₀ (items_of w) m nodes lookup cache
+  making_end l h =
+      record {
+        after = λ S i. subst (λ x. After s.capacity m nodes lookup cache (line_made s.capacity (book_of nodes₀ s.count) x)) (items_all w (item - 1) (omega arith)) (I.after S i);
       }
 
 -- placing keeps what a book holds
@@ -156,28 +133,24 @@ made_grown capacity B [] = grown_self B
 made_grown capacity B (x ∷ c) = next_grown capacity (change x) (line_made capacity B c) (made_grown capacity B c)
 
 -- one Union of the family of a handle with the family placed last
-united : {capacity : ℕ} {m : Placed} {nodes lookup cache : List ℕ} {a : Added} → After capacity m nodes lookup cache a → (p h : ℕ) {n : ℕ} (F : Family) → p ≤ m.store.count + 1 → at (book_of nodes m.store.count) p ≡ F
-    → m.answer ≡ Handle h n → {r : Placed} {nodes' lookup' cache' : List ℕ} → OperationCall 4 p h m.store nodes lookup cache r nodes' lookup' cache'
+united : {capacity : ℕ} {m : Answered Placement} {nodes lookup cache : List ℕ} {a : Added} → After capacity m nodes lookup cache a → (p : ℕ) (F : Family) → p ≤ m.store.count + 1 → at (book_of nodes m.store.count) p ≡ F
+    → {q : Placement} → m.answer ≡ Ok q → {r : Answered Placement} {nodes' lookup' cache' : List ℕ} → OperationCall 4 p q.handle m.store nodes lookup cache r nodes' lookup' cache'
     → After capacity r nodes' lookup' cache' (next_call capacity (union F) a)
 unfolding rule
-united {capacity} {a = a} A p h F l e eh P =
-    let G = gives A h eh in
-    let Q = combine_after A.sound A.limit_is p l 4 (omega arith) (omega arith) h G.inside P in
+united {capacity} {a = a} A p F l e {q} eh P =
+    let G = gives A eh in
+    let Q = combine_after A.sound A.limit_is p l 4 (omega arith) (omega arith) q.handle G.inside P in
     rw (next_going capacity (union F) a G.going, ← A.capacity_is, ← A.book_is, ← G.means, ← e) Q
 
 -- the ends of adding
-module _ {s : Store} {nodes lookup cache c : List ℕ} {m : Placed} {nodes₁ lookup₁ cache₁ : List ℕ} (M : MakeIt s nodes lookup cache c m nodes₁ lookup₁ cache₁) (p : ℕ) where
-  pub add_refused : (x : Refusal) → m.answer ≡ Refused x → AddCall s nodes lookup cache p c m nodes₁ lookup₁ cache₁
-  add_refused x e =
-      record { on_sound = λ S i l. let A = M.after S i in rw (next_full s.capacity (union (at (book_of nodes s.count) p)) (line_made s.capacity (book_of nodes s.count) c) (refused_full A x e)) A }
-
-  pub add_united : {h n : ℕ} {r : Placed} {nodes' lookup' cache' : List ℕ} → m.answer ≡ Handle h n → OperationCall 4 p h m.store nodes₁ lookup₁ cache₁ r nodes' lookup' cache'
+module _ {s : Store} {nodes lookup cache c : List ℕ} {m : Answered Placement} {nodes₁ lookup₁ cache₁ : List ℕ} (M : MakeIt s nodes lookup cache c m nodes₁ lookup₁ cache₁) (p : ℕ) where
+  pub add_united : {q : Placement} {r : Answered Placement} {nodes' lookup' cache' : List ℕ} → m.answer ≡ Ok q → OperationCall 4 p q.handle m.store nodes₁ lookup₁ cache₁ r nodes' lookup' cache'
       → AddCall s nodes lookup cache p c r nodes' lookup' cache'
-  add_united {h} eh P =
+  add_united eh P =
       record {
         on_sound = λ S i l.
             let A = M.after S i in
             let g = made_grown s.capacity (book_of nodes s.count) c in
-            let q = handle_inside S p l in
-            united A p h (at (book_of nodes s.count) p) (omega (arith, grown_length g, ap length A.book_is, (sound_holds A.sound).size)) (ap (λ B. at B p) A.book_is ∙ grown_at g p q) eh P;
+            let k = handle_inside S p l in
+            united A p (at (book_of nodes s.count) p) (omega (arith, grown_length g, ap length A.book_is, (sound_holds A.sound).size)) (ap (λ B. at B p) A.book_is ∙ grown_at g p k) eh P;
       }

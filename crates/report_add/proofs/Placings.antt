@@ -15,7 +15,8 @@ use Rattle.family.proofs.Books.{held_at}
 use Rattle.family.proofs.Placing.{book_place}
 use Rattle.family.proofs.Restrict.{within_change}
 use Rattle.store.specs.declared.record.Store.{Store}
-use Rattle.store.specs.declared.record.Placed.{Placed}
+use Rattle.store.specs.declared.record.Placement.{Placement}
+use Rattle.store.specs.declared.record.Answered.{Answered}
 use Rattle.store.specs.Words.{book_of}
 use Rattle.store.specs.Operations.{restrict, rule, named}
 use Rattle.store.specs.Sound.{Sound}
@@ -59,7 +60,7 @@ module _ {s : Store} {nodes lookup cache : List ℕ} (S : Sound s nodes lookup c
   pub handle_within : (p : ℕ) → p ≤ s.count + 1 → Within s.limit (at (book_of nodes s.count) p)
   handle_within p l = book.within (at (book_of nodes s.count) p) (held_at (book_of nodes s.count) book p (handle_inside p l))
 
-  module _ {F : Family} {r : Placed} {nodes' lookup' cache' : List ℕ} (i : s.limit ≡ largest_item) (w : Within s.limit F) (P : PlaceCall 0 F s nodes lookup cache r nodes' lookup' cache') where
+  module _ {F : Family} {r : Answered Placement} {nodes' lookup' cache' : List ℕ} (i : s.limit ≡ largest_item) (w : Within s.limit F) (P : PlaceCall 0 F s nodes lookup cache r nodes' lookup' cache') where
     full_after : too_large s.capacity (book_of nodes s.count) F ≡ true → After s.capacity r nodes' lookup' cache' (record { full = true; book = book_of nodes s.count; family = F; cost = 0 })
     full_after t =
         let L = (P.on_sound S).leaves_is ∙ way_full 0 F s nodes lookup refl t in
@@ -91,7 +92,7 @@ module _ {s : Store} {nodes lookup cache : List ℕ} (S : Sound s nodes lookup c
         (λ t. rw (placed_full F s nodes lookup t) (full_after t))
         (λ t. rw (placed_new F s nodes lookup t) (new_after t))
 
-  module _ {r : Placed} {nodes' lookup' cache' : List ℕ} (i : s.limit ≡ largest_item) (p : ℕ) (lp : p ≤ s.count + 1) where
+  module _ {r : Answered Placement} {nodes' lookup' cache' : List ℕ} (i : s.limit ≡ largest_item) (p : ℕ) (lp : p ≤ s.count + 1) where
     -- Change
     pub change_after : (v : ℕ) → 0 < v → v ≤ largest_item → OperationCall 3 p v s nodes lookup cache r nodes' lookup' cache'
         → After s.capacity r nodes' lookup' cache' (called s.capacity (book_of nodes s.count) (change v (at (book_of nodes s.count) p)))

@@ -4,7 +4,8 @@ use Rattle.family.specs.Family.{Family, base, largest_item}
 use Rattle.family.specs.Operation.{change, union}
 use Rattle.family.specs.Book.{at, number, place, Held}
 use Rattle.store.specs.declared.record.Store.{Store}
-use Rattle.store.specs.declared.record.Placed.{Placed}
+use Rattle.store.specs.declared.record.Placement.{Placement}
+use Rattle.store.specs.declared.record.Answered.{Answered}
 use Rattle.store.specs.Refusals.{Given, refused_by, given_by}
 use Rattle.store.specs.Words.{book_of}
 use Rattle.store.specs.Sound.{Sound}
@@ -45,7 +46,7 @@ last_answer a = cond a.full (refused_by 5) (record { refusal = 0; handle = numbe
 
 -- A store after calls that place, with their last answer: it is sound and has the limit of all items, its words are
 -- those of the book (which a sound store's book decides), and an answer that is no refusal is the family's handle.
-pub record After (capacity : ℕ) (r : Placed) (nodes lookup cache : List ℕ) (a : Added) : Type 0 where
+pub record After (capacity : ℕ) (r : Answered Placement) (nodes lookup cache : List ℕ) (a : Added) : Type 0 where
   pub sound : Sound r.store nodes lookup cache
   pub capacity_is : r.store.capacity ≡ capacity
   pub limit_is : r.store.limit ≡ largest_item
@@ -55,6 +56,6 @@ pub record After (capacity : ℕ) (r : Placed) (nodes lookup cache : List ℕ) (
 
 -- The promise of adding a combination to the family of a handle, for a sound store that holds the handle and has the
 -- limit of all items, since a line's items go up to it.
-pub record AddCall (s : Store) (nodes lookup cache : List ℕ) (p : ℕ) (c : List ℕ) (r : Placed) (nodes' lookup' cache' : List ℕ) : Type 0 where
+pub record AddCall (s : Store) (nodes lookup cache : List ℕ) (p : ℕ) (c : List ℕ) (r : Answered Placement) (nodes' lookup' cache' : List ℕ) : Type 0 where
   pub on_sound : Sound s nodes lookup cache → s.limit ≡ largest_item → p ≤ s.count + 1
       → After s.capacity r nodes' lookup' cache' (added s.capacity (book_of nodes s.count) (at (book_of nodes s.count) p) c)

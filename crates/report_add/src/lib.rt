@@ -8,29 +8,27 @@ ghost use Rattle.report_add.specs.Inner.{InRange, ChangeIt, MakeIt};
 use combination::Combination;
 use op_families::calls::union;
 use op_items::calls::change;
-use store::record::{PlaceAnswer, Placed, Store};
+use store::record::{Answered, Placement, Store};
 use store_fresh::base;
 
 // Changes the family placed last by an item, where the combination holds it and nothing was refused before.
 fn change_by(
-    placed: Placed,
+    made: Answered<Placement>,
     nodes: &mut [u32],
     lookup: &mut [u32],
     cache: &mut [u32],
     items: Combination,
     item: u32,
-) -> Placed
+) -> Answered<Placement>
     requires { InRange item }
-    ensures { ChangeIt placed nodes.old lookup.old cache.old (items_of items.words) item result nodes.new lookup.new cache.new }
+    ensures { ChangeIt made nodes.old lookup.old cache.old (items_of items.words) item result nodes.new lookup.new cache.new }
 {
-    if !items.contains(item) {
-        return placed;
+    match made.answer {
+        Ok(last) if items.contains(item) => {
+            change(made.store, nodes, lookup, cache, last.handle, item)
+        }
+        _ => made,
     }
-    let answer = placed.answer;
-    let PlaceAnswer::Handle(p, _) = answer else {
-        return placed;
-    };
-    change(placed.store, nodes, lookup, cache, p, item)
 }
 
 // Makes a combination by Change from handle 1, in rising items.
@@ -40,16 +38,14 @@ fn make_combination(
     lookup: &mut [u32],
     cache: &mut [u32],
     items: Combination,
-) -> Placed
+) -> Answered<Placement>
     ensures { MakeIt store nodes.old lookup.old cache.old (items_of items.words) result nodes.new lookup.new cache.new }
 {
-    let mut placed = store.placed(base(), 0);
-    let mut item: u32 = 1;
-    while item <= 512 {
-        placed = change_by(placed, nodes, lookup, cache, items, item);
-        item = item + 1;
+    let mut made = store.placed(base(), 0);
+    for item in 1..=512 {
+        made = change_by(made, nodes, lookup, cache, items, item);
     }
-    placed
+    made
 }
 
 // Adds a combination to the family of a handle, and gives the handle of what that makes.
@@ -60,13 +56,12 @@ pub fn add(
     cache: &mut [u32],
     family: u32,
     items: Combination,
-) -> Placed
+) -> Answered<Placement>
     ensures { AddCall store nodes.old lookup.old cache.old family (items_of items.words) result nodes.new lookup.new cache.new }
 {
     let made = make_combination(store, nodes, lookup, cache, items);
-    let answer = made.answer;
-    let PlaceAnswer::Handle(p, _) = answer else {
-        return made;
-    };
-    union(made.store, nodes, lookup, cache, family, p)
+    match made.answer {
+        Ok(combination) => union(made.store, nodes, lookup, cache, family, combination.handle),
+        Err(_) => made,
+    }
 }

@@ -1,6 +1,7 @@
 -- What the functions below `take_piece` promise each other. A reader of the promises can pass this page over.
 use Rattle.std.specs.Prelude.{ℕ, List}
-use Rattle.store.specs.declared.record.Placed.{Placed}
+use Rattle.store.specs.declared.record.Placement.{Placement}
+use Rattle.store.specs.declared.record.Answered.{Answered}
 use Rattle.report_line.specs.declared.Side.{Side}
 use Rattle.report_line.specs.declared.Side.TheVariants.{Passed, Returned}
 use Rattle.report_tally.specs.declared.Tally.{Tally}
@@ -14,21 +15,13 @@ pub record LineIt (t : Tally) (nodes lookup cache : List ℕ) (d : Side) (c : Li
   pub keeps : (capacity : ℕ) (g : Log) → Keeps capacity t nodes lookup cache g
       → Keeps capacity r nodes' lookup' cache' (counted g (take_line capacity g.lot d c))
 
--- the handle of the family that a line of a side goes to, and the two handles with another one there
+-- the handle of the family that a line of a side goes to
 abbrev pub side_handle : Side → Tally → ℕ
 side_handle Passed t = t.passed
 side_handle Returned t = t.returned
 
-abbrev pub passed_with : Side → Tally → ℕ → ℕ
-passed_with Passed t h = h
-passed_with Returned t h = t.passed
-
-abbrev pub returned_with : Side → Tally → ℕ → ℕ
-returned_with Passed t h = t.returned
-returned_with Returned t h = h
-
 -- the tally behind a line of a side, by what adding it gave
-pub record LineEnd (t : Tally) (d : Side) (m : Placed) (r : Tally) : Type 0 where
+pub record LineEnd (t : Tally) (d : Side) (m : Answered Placement) (r : Tally) : Type 0 where
   pub is : (nodes lookup cache c nodes' lookup' cache' : List ℕ)
       → AddCall t.store nodes lookup cache (side_handle d t) c m nodes' lookup' cache'
       → LineIt t nodes lookup cache d c r nodes' lookup' cache'

@@ -6,9 +6,9 @@ ghost use Rattle.report_log.specs.Promise.{TakeCall};
 ghost use Rattle.report_log.specs.Inner.{side_handle, LineEnd};
 
 use report_add::add;
-use report_line::{Side, Stage};
-use report_tally::{Ending, Tally, bumped, tally_of};
-use store::record::{PlaceAnswer, Placed};
+use report_line::{Reading, Side, Stage};
+use report_tally::{Ending, Tally};
+use store::record::{Answered, Placement};
 
 // The handle of the family that a line of this side goes to.
 fn side_handle(t: Tally, side: Side) -> u32
@@ -21,18 +21,33 @@ fn side_handle(t: Tally, side: Side) -> u32
 }
 
 // The tally behind a line of this side, by what adding it gave.
-fn line_end(t: Tally, side: Side, placed: Placed) -> Tally
+fn line_end(t: Tally, side: Side, placed: Answered<Placement>) -> Tally
     ensures { LineEnd t side placed result }
 {
-    let store = placed.store;
-    let answer = placed.answer;
-    let PlaceAnswer::Handle(p, _) = answer else {
-        return tally_of(store, t.passed, t.returned, t.lines, Ending::Full);
+    let behind = Tally {
+        store: placed.store,
+        reading: Reading::new(),
+        ending: Ending::Going,
+        ..t
     };
-    let lines = bumped(t.lines);
+    let Ok(placement) = placed.answer else {
+        return Tally {
+            ending: Ending::Full,
+            ..behind
+        };
+    };
+    let lines = t.line_number();
     match side {
-        Side::Passed => tally_of(store, p, t.returned, lines, Ending::Going),
-        Side::Returned => tally_of(store, t.passed, p, lines, Ending::Going),
+        Side::Passed => Tally {
+            passed: placement.handle,
+            lines,
+            ..behind
+        },
+        Side::Returned => Tally {
+            returned: placement.handle,
+            lines,
+            ..behind
+        },
     }
 }
 
@@ -40,28 +55,28 @@ fn line_end(t: Tally, side: Side, placed: Placed) -> Tally
 fn take_byte(t: Tally, nodes: &mut [u32], lookup: &mut [u32], cache: &mut [u32], b: u8) -> Tally
     ensures { TakeCall t nodes.old lookup.old cache.old (b ∷ []) result nodes.new lookup.new cache.new }
 {
-    let ending = t.ending;
-    let Ending::Going = ending else {
+    let Ending::Going = t.ending else {
         return t;
     };
-    let reading = t.reading;
-    let next = reading.take(b);
-    let side = next.side;
-    let stage = next.stage;
-    match stage {
-        Stage::Whole => {
-            let family = side_handle(t, side);
-            let placed = add(t.store, nodes, lookup, cache, family, next.items);
-            line_end(t, side, placed)
+    let reading = t.reading.take(b);
+    match reading.stage {
+        Stage::Whole(panel) => {
+            let family = side_handle(t, panel.side);
+            let placed = add(t.store, nodes, lookup, cache, family, panel.items);
+            line_end(t, panel.side, placed)
         }
-        Stage::Malformed => t.read_on(next, Ending::Refused),
-        _ => t.read_on(next, Ending::Going),
+        Stage::Malformed => Tally {
+            reading,
+            ending: Ending::Refused,
+            ..t
+        },
+        _ => Tally { reading, ..t },
     }
 }
 
 // Takes a piece of a log.
 pub fn take_piece(
-    t: Tally,
+    mut t: Tally,
     nodes: &mut [u32],
     lookup: &mut [u32],
     cache: &mut [u32],
@@ -69,11 +84,8 @@ pub fn take_piece(
 ) -> Tally
     ensures { TakeCall t nodes.old lookup.old cache.old piece.now result nodes.new lookup.new cache.new }
 {
-    let mut taken = t;
-    let mut i: usize = 0;
-    while i < piece.len() {
-        taken = take_byte(taken, nodes, lookup, cache, piece[i]);
-        i = i + 1;
+    for &b in piece {
+        t = take_byte(t, nodes, lookup, cache, b);
     }
-    taken
+    t
 }

@@ -1,7 +1,6 @@
 -- One byte more: a log that ended stays; else a whole line is added, a malformed one ends the log, any other is read
 -- on. The stage of the reading is the grammar's progress.
-use mathlib.Core.Path.{refl}
-use Rattle.report_log.proofs.Logs.{line_added, next_whole, next_read, next_going, byte_going, byte_ended}
+use Rattle.report_log.proofs.Logs.{line_added, next_whole, next_malformed, next_going, byte_going, byte_ended}
 use Rattle.report_log.proofs.take_byte.Goals as goal
 
 pub returns-in_default : goal.returns-in_default
@@ -10,13 +9,12 @@ returns-in_default c = byte_ended c.in_default.not-Going
 pub returns-in-Whole : goal.returns-in-Whole
 returns-in-Whole c =
     byte_going c.in-Going.is
-    (next_whole _ c.take-next.result c.take-next.ensures c.in-Whole.is
-    (line_added _ c.side_handle-family.ensures c.add-placed.ensures c.line_end.ensures))
+    (next_whole _ c.take-reading.result c.take-reading.ensures c.in-Whole.is (line_added _ c.side_handle-family.ensures c.add-placed.ensures c.line_end.ensures))
 
 pub returns-in-Malformed : goal.returns-in-Malformed
 returns-in-Malformed c =
-    byte_going c.in-Going.is (next_read _ c.take-next.result c.take-next.ensures c.in-Malformed.is _ c.read_on.ensures (λ capacity g s d x n. refl))
+    byte_going c.in-Going.is (next_malformed _ c.take-reading.result c.take-reading.ensures c.in-Malformed.is)
 
 pub returns-in_default-stage : goal.returns-in_default-stage
 returns-in_default-stage c =
-    byte_going c.in-Going.is (next_going _ c.take-next.result c.take-next.ensures c.in_default-stage.not-Whole c.in_default-stage.not-Malformed c.read_on-in_default-stage.ensures)
+    byte_going c.in-Going.is (next_going _ c.take-reading.result c.take-reading.ensures c.in_default-stage.not-Whole c.in_default-stage.not-Malformed c.in-Going.is)
