@@ -63,6 +63,7 @@ pub record Table (places n : ℕ) (words : List ℕ) : Type 0 where
   pub links : (e : ℕ) → e < n → next_at words e ≤ e
   pub leads : (e : ℕ) → e < n → Leads (λ k. next_at words k) (head_at words (handle_at words e % places)) (suc e)
 
+-- the same of the table that is held
 abbrev pub TableOf : Parts → Type 0
 TableOf t = Table t.places t.entered t.words.now
 

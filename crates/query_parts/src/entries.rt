@@ -13,6 +13,8 @@ pub fn places_in(words: usize, count: u32) -> u32
 }
 
 // A table in lent words: how many places it has, and how many parts were entered.
+// Kept: that the words are such a table stands in the contracts and in no ghost field, which would have to hold at each
+// write behind the reference. `enter` writes three words, and only after the last they are a table again.
 #[derive(Drop)]
 pub struct Parts<'a> {
     pub words: &'a mut [u64],

@@ -114,10 +114,10 @@ module _ (p : ℕ) (nodes : List ℕ) (count width : ℕ) where
               listed = list_start B w.parts A.empty;
               sum =
                   let s : worth B w.low w.window.now width ≡ size (at B p) = ap (λ k. worth B w.low w.window.now k) wide
-                  ∙ worth_one B w.low w.window.now (length w.window.now - 1) A.none A.one
+                  ∙ worth_one B w.low w.window.now (length w.window.now - 1) A.opened.none A.opened.one
                   ∙ ap (λ k. size (at B k)) last in
                   omega (arith, s, A.nothing);
-              covers = λ X m. due (length w.window.now - 1) (omega (arith, A.wide)) (λ z. omega (arith, A.one)) (subst (λ k. Memᴰ X (parts (at B k))) (sym last) m);
+              covers = λ X m. due (length w.window.now - 1) (omega (arith, A.wide)) (λ z. omega (arith, A.opened.one)) (subst (λ k. Memᴰ X (parts (at B k))) (sym last) m);
             },
           ),
         );
