@@ -17,23 +17,10 @@ pub enum Call {
     Odd(u32),
 }
 
-// The name of an operation.
-// Kept: each program has its own: in a library it would be a public function with nothing to promise.
-fn name(op: Operation) -> &'static str {
-    match op {
-        Operation::Subset1 => "Subset1",
-        Operation::Subset0 => "Subset0",
-        Operation::Change => "Change",
-        Operation::Union => "Union",
-        Operation::Intsec => "Intsec",
-        Operation::Diff => "Diff",
-    }
-}
-
 impl fmt::Display for Call {
     fn fmt<W: fmt::Write>(&self, f: &mut fmt::Formatter<W>) -> fmt::Result {
         match *self {
-            Call::Operate(op, p, q) => write!(f, "{} {p} {q}", name(op)),
+            Call::Operate(op, p, q) => write!(f, "{op:?} {p} {q}"),
             Call::Even(p) => write!(f, "Even {p}"),
             Call::Odd(p) => write!(f, "Odd {p}"),
         }
