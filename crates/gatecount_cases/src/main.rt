@@ -10,8 +10,7 @@ fn report_opened(rt: &(impl Files + Print), path: &str) -> bool {
     let Ok(mut file) = File::open(rt, path) else {
         return false;
     };
-    let mut out = [0u8; 128];
-    report_run::report_on(rt, &mut file, 7, &mut out).written
+    report_run::report_on(rt, &mut file, 7).is_ok()
 }
 
 // Prints the name of a file and the report on it; says on standard error where none could be made.

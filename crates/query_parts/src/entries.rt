@@ -1,7 +1,7 @@
 // The table: as many places as there are tags, and as many sizes behind them. A chain starts at the handle modulo the
 // places: handles of one family mostly stand side by side.
-ghost use Rattle.std.specs.Prelude.{◌≡◌, ◌+◌, ◌/◌, min};
-ghost use Rattle.query_parts.specs.Inner.{ClearAsks, Cleared, FindAsks, Found, EnterAsks, Entered};
+ghost use Rattle.std.specs.Prelude.{◌≡◌, ◌/◌, min};
+ghost use Rattle.query_parts.specs.Inner.{OpenAsks, Opened, FindAsks, Found, EnterAsks, Entered};
 
 use crate::tag::{handle_of, head_of, headed, linked, next_of};
 
@@ -13,6 +13,8 @@ pub fn places_in(words: usize, count: u32) -> u32
 }
 
 // A table in lent words: how many places it has, and how many parts were entered.
+// Kept: that the words are such a table stands in the contracts and in no ghost field, which would have to hold at each
+// write behind the reference. `enter` writes three words, and only after the last they are a table again.
 #[derive(Drop)]
 pub struct Parts<'a> {
     pub words: &'a mut [u64],
@@ -23,8 +25,8 @@ pub struct Parts<'a> {
 impl<'a> Parts<'a> {
     // An empty table of so many places.
     pub fn new(words: &'a mut [u64], places: u32) -> Parts<'a>
-        requires { ClearAsks words.old places }
-        ensures { Cleared places words.old result.words.now × (result.places ≡ places) × (result.entered ≡ 0) }
+        requires { OpenAsks words.old places }
+        ensures { Opened places words.old result }
     {
         words[..places as usize].fill(0);
         Parts {
@@ -36,8 +38,8 @@ impl<'a> Parts<'a> {
 
     // The place of a handle, where it was entered.
     pub fn find(&self, handle: u32) -> Option<u32>
-        requires { FindAsks self.now.words.now self.now.places }
-        ensures { Found self.now.words.now self.now.places handle result }
+        requires { FindAsks self.now }
+        ensures { Found self.now handle result }
     {
         let mut chain = head_of(self.words[(handle % self.places) as usize]);
         while let Some(place) = chain {
@@ -52,8 +54,8 @@ impl<'a> Parts<'a> {
 
     // Enters a handle with its size behind the others, as the head of its chain.
     pub fn enter(&mut self, handle: u32, size: u64)
-        requires { EnterAsks self.old.words.now self.old.places self.old.entered handle }
-        ensures { Entered self.old.places self.old.entered handle size self.old.words.now self.new.words.now × (self.new.places ≡ self.old.places) × (self.new.entered ≡ self.old.entered + 1) }
+        requires { EnterAsks self.old handle }
+        ensures { Entered handle size self.old self.new }
     {
         let place = self.entered as usize;
         let start = (handle % self.places) as usize;

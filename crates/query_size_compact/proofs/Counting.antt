@@ -23,7 +23,7 @@ use Rattle.store.specs.declared.record.Refusal.TheVariants.{Large, Scratch}
 use Rattle.store.specs.Inner.{Holds}
 use Rattle.store.proofs.Held.{at_0, at_1, held, within}
 use Rattle.query_parts.specs.declared.entries.Parts.{Parts}
-use Rattle.query_parts.specs.Inner.{Cleared}
+use Rattle.query_parts.specs.Inner.{Opened}
 use Rattle.query_walk.specs.Inner.{told, size_of, Listed, Came, New, Walked}
 use Rattle.query_walk.proofs.Sums.{told_none, told_some}
 use Rattle.query_walk.proofs.Listing.{has_item, past_two, list_start, number_told}
@@ -94,14 +94,14 @@ module _ (nodes : List ℕ) (count p : ℕ) (scratch : List ℕ) where
     pub counted_none : places ≡ 0 → Counted nodes count p scratch (Err Scratch) scratch
     counted_none z = record { long = refl; is = λ B lookup H. sym (told_short (at B p) (length scratch) (short_of H (omega (arith, one_part H p (omega arith) h)))) }
 
-    module _ {t t' : Parts} (K : Cleared places scratch t.words.now) (same : t.places ≡ places) (none_yet : t.entered ≡ 0) {r : Option ℕ} (D : Walked New p 513 nodes count t t' r) where
+    module _ {t t' : Parts} (K : Opened places scratch t) {r : Option ℕ} (D : Walked New p 513 nodes count t t' r) where
       as_many : t'.places ≡ places
-      as_many = D.went.same ∙ same
+      as_many = D.went.same ∙ K.places_are
 
       came : {limit : ℕ} {B : List Family} {lookup : List ℕ} → Holds limit B count nodes lookup → Came limit B (place start (at B p)) (at B p) t' r
       came {limit} {B} {lookup} H =
           D.sound B start lookup H (omega arith) (omega (arith, (within H p (omega arith)).low, H.limit_low))
-          (λ q. omega (arith, q, past_two (book_start limit) (number start (at B p)) (at B p) (has_item H p h (omega arith)) (number_at start (at B p) q))) (list_start B t none_yet)
+          (λ q. omega (arith, q, past_two (book_start limit) (number start (at B p)) (at B p) (has_item H p h (omega arith)) (number_at start (at B p) q))) (list_start B t K.none_yet)
 
       pub counted_short : r ≡ None → {words : List ℕ} → length words ≡ length scratch → Counted nodes count p scratch (Err Scratch) words
       counted_short e long =

@@ -17,8 +17,8 @@ use Rattle.store.specs.Inner.{Holds}
 use Rattle.store.proofs.Held.{at_inj, at_node, within}
 use Rattle.query_sizes.proofs.Brims.{some_size}
 use Rattle.query_parts.specs.declared.entries.Parts.{Parts}
-use Rattle.query_parts.specs.Inner.{handle_at, size_at, FoundAmong, Entered}
-use Rattle.query_walk.specs.Inner.{as_word, told, word_told, size_of, Part, Listed, TableOf, Appended}
+use Rattle.query_parts.specs.Inner.{handle_at, size_at, TableOf, Found, Entered}
+use Rattle.query_walk.specs.Inner.{as_word, told, word_told, size_of, Part, Listed, Appended}
 use Rattle.query_walk.proofs.Sums.{size_leaf, size_read, told_low, word_put, word_read}
 
 -- a node's family has an item
@@ -67,7 +67,7 @@ module _ {limit : ℕ} {B C : List Family} {t : Parts} (L : Listed limit B C t) 
 
   module _ {count : ℕ} {nodes lookup : List ℕ} (H : Holds limit B count nodes lookup) (p : ℕ) (h : 2 ≤ p) (l : p < count + 2) where
     -- a handle that was not found
-    pub found_none : FoundAmong t.entered t.words.now p None → Held C (at B p) → ⊥
+    pub found_none : Found t p None → Held C (at B p) → ⊥
     found_none W q = go (number C (at B p)) q (number_at C (at B p) q)
       where
         go : (k : ℕ) → k < length C → at C k ≡ at B p → ⊥
@@ -78,11 +78,11 @@ module _ {limit : ℕ} {B C : List Family} {t : Parts} (L : Listed limit B C t) 
             W.none refl (k - 2) (omega (arith, L.long)) (at_inj H (handle_at t.words.now (k - 2)) p (omega (arith, P.held, H.size)) l (P.means ∙ same))
 
     -- a handle that was found
-    pub found_some : (e : ℕ) → FoundAmong t.entered t.words.now p (Some e) → at C (e + 2) ≡ at B p
+    pub found_some : (e : ℕ) → Found t p (Some e) → at C (e + 2) ≡ at B p
     found_some e W = sym (L.each e (W.some e refl).0).means ∙ ap (λ j. at B j) (W.some e refl).1
 
 -- a handle entered behind the others
-module _ {p word : ℕ} (t t' : Parts) (E : Entered t.places t.entered p word t.words.now t'.words.now) (same_places : t'.places ≡ t.places) (one_more : t'.entered ≡ t.entered + 1) where
+module _ {p word : ℕ} (t t' : Parts) (E : Entered p word t t') where
   module _ {limit : ℕ} (B C : List Family) (F : Family) (L : Listed limit B C t) (l : p < length B) (m : at B p ≡ F) (s : word ≡ as_word (size F)) (K : Book limit (C ++ (F ∷ []))) where
     last : (k : ℕ) → k ≡ length C → at (C ++ (F ∷ [])) k ≡ F
     last k e = get_or_at C F [] empty k (sym e)
@@ -91,7 +91,7 @@ module _ {p word : ℕ} (t t' : Parts) (E : Entered t.places t.entered p word t.
     old k d = let g : Grown C (C ++ (F ∷ [])) = record { new = F ∷ []; eq = refl } in grown_at g k d
 
     size_there : (e : ℕ) → size_at t'.places t'.words.now e ≡ size_at t.places t'.words.now e
-    size_there e = ap (λ k. size_at k t'.words.now e) same_places
+    size_there e = ap (λ k. size_at k t'.words.now e) E.places_stay
 
     part : (e : ℕ) → e < t'.entered → Part B (at (C ++ (F ∷ [])) (e + 2)) t' e
     part e d =
@@ -104,7 +104,7 @@ module _ {p word : ℕ} (t t' : Parts) (E : Entered t.places t.entered p word t.
           size_is = size_there e ∙ E.sizes_stay e a ∙ P.size_is;
         })
         (λ a w.
-        let same : e ≡ t.entered = omega arith in
+        let same : e ≡ t.entered = omega (arith, E.one_more) in
         rw (same, last (t.entered + 2) (sym L.long)) record {
           held = omega (arith, E.handle_is);
           means = ap (λ h. at B h) E.handle_is ∙ m;
@@ -114,16 +114,16 @@ module _ {p word : ℕ} (t t' : Parts) (E : Entered t.places t.entered p word t.
     listed_behind : Listed limit B (C ++ (F ∷ [])) t' × ((t.entered + 2 < length (C ++ (F ∷ []))) × (at (C ++ (F ∷ [])) (t.entered + 2) ≡ F))
     listed_behind =
         let longer : length (C ++ (F ∷ [])) ≡ length C + 1 = length-append C (F ∷ []) in
-        (record { book = K; long = omega (arith, L.long); each = part }, (omega (arith, L.long), last (t.entered + 2) (sym L.long)))
+        (record { book = K; long = omega (arith, L.long, E.one_more); each = part }, (omega (arith, L.long), last (t.entered + 2) (sym L.long)))
 
   pub append_done : (size_is : Option ℕ) → word ≡ unwrap_or size_is 0 → Appended p size_is t t' (Some (t.entered + 2))
   append_done size_is w =
       record {
         went = record {
-          same = same_places;
+          same = E.places_stay;
           long = E.long;
-          table = rw (same_places, one_more) E.table;
-          low = λ k q. let same : k ≡ t.entered + 2 = cc in omega arith;
+          table = E.table;
+          low = λ k q. let same : k ≡ t.entered + 2 = cc in omega (arith, E.one_more);
         };
         sound = λ B C F L l m s K. record {
           listed = λ k q.

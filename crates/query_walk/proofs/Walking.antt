@@ -15,8 +15,8 @@ use Rattle.words.proofs.Cases.{by_lt, by_eq}
 use Rattle.store.specs.Inner.{Holds}
 use Rattle.store.proofs.Held.{at_0, at_1, at_node, entry, inside, within}
 use Rattle.query_parts.specs.declared.entries.Parts.{Parts}
-use Rattle.query_parts.specs.Inner.{Found}
-use Rattle.query_walk.specs.Inner.{told, size_of, Summed, Listed, Came, TableOf, Went, Appended, Any, New, Walked}
+use Rattle.query_parts.specs.Inner.{TableOf, Found}
+use Rattle.query_walk.specs.Inner.{told, size_of, Summed, Listed, Came, Went, Appended, Any, New, Walked}
 use Rattle.query_walk.proofs.Listing.{begin_0, begin_1, number_told, found_none, found_some}
 
 -- no number, with the table that the walk came to
@@ -44,20 +44,19 @@ module _ (p bound : ℕ) (nodes : List ℕ) (count : ℕ) (t : Parts) (T : Table
       }
 
   module _ (h : 2 ≤ p) where
-    pub walked_found : {e : ℕ} → Found t.words.now t.places p (Some e) → Walked Any p bound nodes count t t (Some (e + 2))
+    pub walked_found : {e : ℕ} → Found t p (Some e) → Walked Any p bound nodes count t t (Some (e + 2))
     walked_found {e} W =
-        let W' = W.among t.entered T in
-        let low' = (W'.some e refl).0 in
+        let low' = (W.some e refl).0 in
         record {
           went = record { same = refl; long = refl; table = T; low = λ k q. let same : k ≡ e + 2 = cc in omega arith };
           sound = λ B C lookup H m w f L.
-              let is = found_some L H p h m e W' in
+              let is = found_some L H p h m e W in
               let low : e + 2 < length C = omega (arith, L.long) in
               rw (place_held C (at B p) L.book (rw is at (held_at C L.book (e + 2) low))) (stands L low is);
         }
 
-    pub walked_on : Found t.words.now t.places p None → {t' : Parts} {r : Option ℕ} → Walked New p bound nodes count t t' r → Walked Any p bound nodes count t t' r
-    walked_on W D = record { went = D.went; sound = λ B C lookup H m w f L. D.sound B C lookup H m w (found_none L H p h m (W.among t.entered T)) L }
+    pub walked_on : Found t p None → {t' : Parts} {r : Option ℕ} → Walked New p bound nodes count t t' r → Walked Any p bound nodes count t t' r
+    walked_on W D = record { went = D.went; sound = λ B C lookup H m w f L. D.sound B C lookup H m w (found_none L H p h m W) L }
 
   pub descended_outside : count + 1 < p → Walked New p bound nodes count t t None
   descended_outside o = record { went = stopped refl refl T; sound = λ B C lookup H m w f L. absurd (omega arith) }

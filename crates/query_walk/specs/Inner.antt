@@ -5,7 +5,7 @@ use Rattle.family.specs.Family.{Family, size, top}
 use Rattle.family.specs.Book.{at, Held, place, Book}
 use Rattle.store.specs.Inner.{Holds}
 use Rattle.query_parts.specs.declared.entries.Parts.{Parts}
-use Rattle.query_parts.specs.Inner.{handle_at, size_at, Table}
+use Rattle.query_parts.specs.Inner.{handle_at, size_at, TableOf}
 
 -- a size in one word: 0 where it is above the largest
 abbrev pub as_word : ℕ → ℕ
@@ -50,10 +50,6 @@ pub record Listed (limit : ℕ) (B C : List Family) (t : Parts) : Type 0 where
 pub record Came (limit : ℕ) (B C : List Family) (F : Family) (t : Parts) (r : Option ℕ) : Type 0 where
   pub listed : (k : ℕ) → r ≡ Some k → Listed limit B C t × ((k < length C) × (at C k ≡ F))
   pub short : r ≡ None → t.places + 2 < length C
-
--- the places of a table of at most as many parts, whose chains lead to each of them
-abbrev pub TableOf : Parts → Type 0
-TableOf t = Table t.places t.entered t.words.now
 
 -- what holds on any words: a table as large, and a number, if there is one, that has a place in it
 pub record Went (t t' : Parts) (r : Option ℕ) : Type 0 where

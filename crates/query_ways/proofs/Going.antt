@@ -17,13 +17,13 @@ use Rattle.family.proofs.Books.{same_self, book_start, held_at, grown_held}
 use Rattle.family.proofs.Placing.{book_place, place_only}
 use Rattle.family.proofs.Different.{no_longer}
 use Rattle.family.proofs.Bound.{own_length, held_left, held_right}
-use Rattle.store.specs.Inner.{Holds, HandleAsks}
+use Rattle.store.specs.Inner.{Holds}
 use Rattle.store.proofs.Held.{at_node, within}
 use Rattle.query_parts.specs.declared.entries.Parts.{Parts}
-use Rattle.query_walk.specs.Inner.{TableOf}
+use Rattle.query_parts.specs.Inner.{TableOf}
 use Rattle.query_walk.proofs.Listing.{list_start}
 use Rattle.query_ways.specs.declared.hand.Passage.{Passage}
-use Rattle.query_ways.specs.Inner.{worth, Covered, passed, entered, due, owing, Ways, BothAsks, HandedBoth, GoAsks, Gone}
+use Rattle.query_ways.specs.Inner.{worth, Covered, passed, entered, due, owing, Ways, HandedBoth, GoAsks, Gone}
 use Rattle.query_ways.proofs.Worth.{worth_one}
 
 -- a list holds its first family
@@ -114,10 +114,10 @@ module _ (p : ℕ) (nodes : List ℕ) (count width : ℕ) where
               listed = list_start B w.parts A.empty;
               sum =
                   let s : worth B w.low w.window.now width ≡ size (at B p) = ap (λ k. worth B w.low w.window.now k) wide
-                  ∙ worth_one B w.low w.window.now (length w.window.now - 1) A.none A.one
+                  ∙ worth_one B w.low w.window.now (length w.window.now - 1) A.opened.none A.opened.one
                   ∙ ap (λ k. size (at B k)) last in
                   omega (arith, s, A.nothing);
-              covers = λ X m. due (length w.window.now - 1) (omega (arith, A.wide)) (λ z. omega (arith, A.one)) (subst (λ k. Memᴰ X (parts (at B k))) (sym last) m);
+              covers = λ X m. due (length w.window.now - 1) (omega (arith, A.wide)) (λ z. omega (arith, A.opened.one)) (subst (λ k. Memᴰ X (parts (at B k))) (sym last) m);
             },
           ),
         );
@@ -146,15 +146,6 @@ module _ (p : ℕ) (nodes : List ℕ) (count width : ℕ) where
           some = G.some;
           table = G.table;
           sound = λ B lookup H. let g = at_turn B lookup H in (g.0, g.1, (g.2.0, ways_skip e g.2.1));
-        }
-
-    -- what is asked of the node whose ways are handed on
-    pub goes_asks : HandleAsks nodes count p → BothAsks (w.low + w.left) nodes count w
-    goes_asks A =
-        record {
-          asks = record { walk = record { nodes_long = A.words; few = A.small; some = G.some; table = G.table }; within = omega (arith, G.within, G.long) };
-          part = omega (arith, G.low_some);
-          held = omega (arith, A.held, G.within, G.low_is);
         }
 
     pub goes_on : (get_or w.window.now w.left 0 ≡ 0 → ⊥) → p ≤ count + 1 → {w' : Passage} → HandedBoth (w.low + w.left) (get_or w.window.now w.left 0) nodes count w w' true

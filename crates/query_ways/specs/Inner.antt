@@ -8,7 +8,8 @@ use Rattle.family.specs.Book.{at, Held}
 use Rattle.family.specs.Parts.{part_count}
 use Rattle.store.specs.Inner.{Holds, HandleAsks}
 use Rattle.query_parts.specs.declared.entries.Parts.{Parts}
-use Rattle.query_walk.specs.Inner.{Listed, TableOf, WalkAsks}
+use Rattle.query_parts.specs.Inner.{TableOf}
+use Rattle.query_walk.specs.Inner.{Listed, WalkAsks}
 use Rattle.query_ways.specs.declared.hand.Passage.{Passage}
 
 -- the members of some families, added up
@@ -82,6 +83,11 @@ pub record DenseAsks (p : ℕ) (nodes : List ℕ) (count : ℕ) (marks : List �
   pub some : 0 < length marks
   pub few : length marks < p
 
+-- words that are 0 but for the last
+pub record Opened (words : List ℕ) : Type 0 where
+  pub one : get_or words (length words - 1) 0 ≡ 1
+  pub none : (i : ℕ) → i < length words - 1 → get_or words i 0 ≡ 0
+
 -- a handle that is held and the window down from it, with one way, to its last handle, and an empty table
 pub record GoAsks (p : ℕ) (nodes : List ℕ) (count : ℕ) (w : Passage) : Type 0 where
   pub handle : HandleAsks nodes count p
@@ -89,8 +95,7 @@ pub record GoAsks (p : ℕ) (nodes : List ℕ) (count : ℕ) (w : Passage) : Typ
   pub low_is : w.low + length w.window.now ≡ p + 1
   pub low_some : 2 ≤ w.low
   pub some : 0 < w.parts.places
-  pub one : get_or w.window.now (length w.window.now - 1) 0 ≡ 1
-  pub none : (i : ℕ) → i < length w.window.now - 1 → get_or w.window.now i 0 ≡ 0
+  pub opened : Opened w.window.now
   pub table : TableOf w.parts
   pub empty : w.parts.entered ≡ 0
   pub nothing : w.total ≡ 0

@@ -1,9 +1,18 @@
 // The window: a quarter of the words, for the asked handle and those before it. The table has the rest.
-ghost use Rattle.std.specs.Prelude.{◌≡◌, ◌/◌, ◌≤◌, length};
-ghost use Rattle.query_ways.specs.Inner.{DenseAsks, GoAsks, Gone, WaysAsks};
+ghost use Rattle.std.specs.Prelude.{◌≡◌, ◌/◌, ◌<◌, ◌≤◌, length};
+ghost use Rattle.query_ways.specs.Inner.{DenseAsks, Opened, GoAsks, Gone, WaysAsks};
 
 use crate::hand::Passage;
 use query_parts::entries::{Parts, places_in};
+
+// One way to the last handle, and none to the others.
+fn open(words: &mut [u64])
+    requires { 0 < length words.old }
+    ensures { Opened words.new }
+{
+    words.fill(0);
+    words[words.len() - 1] = 1;
+}
 
 // Marks a handle, where its word is one of the first ones.
 fn mark(marks: &mut [u64], left: u32, low: u32, child: u32)
@@ -21,8 +30,7 @@ fn is_dense(p: u32, nodes: &[u32], count: u32, marks: &mut [u64]) -> bool
     requires { DenseAsks p nodes.now count marks.old }
     ensures { length marks.new ≡ length marks.old }
 {
-    marks.fill(0);
-    marks[marks.len() - 1] = 1;
+    open(marks);
     let some = marks.len() as u32;
     let low = p - some + 1;
     for left in (0..some).rev() {
@@ -66,15 +74,11 @@ pub fn size_by_ways(p: u32, nodes: &[u32], count: u32, words: &mut [u64]) -> Opt
     let length = words.len();
     let width = (length / 4).min((p - 1) as usize);
     let some = width / 16;
-    if some == 0 {
-        return None;
-    }
-    if !is_dense(p, nodes, count, &mut words[..some]) {
+    if some == 0 || !is_dense(p, nodes, count, &mut words[..some]) {
         return None;
     }
     let (window, rest) = words.split_at_mut(width);
-    window.fill(0);
-    window[width - 1] = 1;
+    open(window);
     let places = places_in(rest.len(), count);
     let mut passage = Passage {
         window,

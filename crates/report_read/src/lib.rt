@@ -1,11 +1,10 @@
 // A log read from a reader in pieces. What decides is `take_read`, on the reader's answer and the bytes it left.
 #![tactic(auto)]
 
-ghost use Rattle.std.specs.Prelude.{◌≡◌, ◌<◌, ◌^◌, length};
-ghost use Rattle.std.specs.Result.{ForOk};
+ghost use Rattle.std.specs.Prelude.{◌≡◌, length};
 ghost use Rattle.report_read.specs.Answers.{Moved, behind};
 ghost use Rattle.report_read.specs.Promise.{ReadCall, ReadAllCall};
-ghost use Rattle.report_read.specs.Inner.{clamp_len, got_of, OneRead};
+ghost use Rattle.report_read.specs.Inner.{got_of, OneRead};
 
 use report_log::take_piece;
 use report_tally::{Ending, Tally};
@@ -33,83 +32,52 @@ fn input_behind(ending: Ending) -> Input
 {
     match ending {
         Ending::Going => Input::More,
-        Ending::Refused => Input::Done,
-        Ending::Full => Input::Done,
+        Ending::Refused | Ending::Full => Input::Done,
     }
 }
 
-// So many bytes of a buffer as a read brought: none where it failed, and never more than the buffer has.
-fn count(got: isize, buffer: &[u8]) -> usize
-    ensures { result ≡ clamp_len got (length buffer.now) }
-{
-    if got < 0 {
-        return 0;
-    }
-    let n = got as usize;
-    if buffer.len() < n {
-        return buffer.len();
-    }
-    n
-}
-
-// Takes what a read brought: below 0 it failed, at 0 the input is at its end, else so many bytes stand in the buffer.
+// Takes what a read brought: none where it failed; 0 at the end of the input, else so many bytes stand in the buffer.
 pub fn take_read(
     t: Tally,
     nodes: &mut [u32],
     lookup: &mut [u32],
     cache: &mut [u32],
-    got: isize,
+    got: Option<usize>,
     buffer: &[u8],
 ) -> Fed
     ensures { ReadCall t nodes.old lookup.old cache.old buffer.now got result nodes.new lookup.new cache.new }
 {
-    if got < 0 {
-        return Fed {
+    match got {
+        None => Fed {
             tally: t,
             input: Input::Failed,
-        };
-    }
-    if got == 0 {
-        return Fed {
+        },
+        Some(0) => Fed {
             tally: t,
             input: Input::Done,
-        };
-    }
-    let n = count(got, buffer);
-    let taken = take_piece(t, nodes, lookup, cache, &buffer[..n]);
-    let ending = taken.ending;
-    Fed {
-        tally: taken,
-        input: input_behind(ending),
+        },
+        Some(n) => {
+            let piece = &buffer[..n.min(buffer.len())];
+            let tally = take_piece(t, nodes, lookup, cache, piece);
+            let input = input_behind(tally.ending);
+            Fed { tally, input }
+        }
     }
 }
 
-// What a read answered: how many bytes it brought, or -1 where it failed.
-fn got_of(read: io::Result<usize>) -> isize
-    requires { ForOk read (λ n. n < 2 ^ 63) }
+// What a read answered: how many bytes it brought, or none where it failed.
+fn got_of(read: io::Result<usize>) -> Option<usize>
     ensures { result ≡ got_of read }
 {
-    match read {
-        Ok(n) => n as isize,
-        Err(_) => -1,
-    }
+    read.ok()
 }
 
-// One read: how many bytes it put at the front of a buffer, or -1 where it failed.
-fn read_front<R: Read>(reader: &mut R, buffer: &mut [u8]) -> isize
+// One read of at most so many bytes to the front of a buffer.
+fn read_front<R: Read>(reader: &mut R, most: usize, buffer: &mut [u8]) -> Option<usize>
     ensures { Moved (length buffer.old) result }
 {
-    got_of(reader.read(buffer))
-}
-
-// Reads at most so many bytes to the front of a buffer.
-fn read_some<R: Read>(reader: &mut R, most: usize, buffer: &mut [u8]) -> isize
-    ensures { Moved (length buffer.old) result }
-{
-    if most < buffer.len() {
-        return read_front(reader, &mut buffer[..most]);
-    }
-    read_front(reader, buffer)
+    let most = most.min(buffer.len());
+    got_of(reader.read(&mut buffer[..most]))
 }
 
 // Reads one piece of at most so many bytes, and takes it.
@@ -124,7 +92,7 @@ fn read_piece<R: Read>(
     ensures { OneRead t nodes.old lookup.old cache.old result nodes.new lookup.new cache.new }
 {
     let mut buffer = [0u8; 65536];
-    let got = read_some(reader, most, &mut buffer);
+    let got = read_front(reader, most, &mut buffer);
     take_read(t, nodes, lookup, cache, got, &buffer)
 }
 
@@ -143,14 +111,11 @@ pub fn read_all<R: Read>(
         tally: t,
         input: Input::More,
     };
-    let mut turns: u64 = 18446744073709551615;
-    while turns > 0 {
+    for _ in 0..u64::MAX {
         fed = read_piece(reader, most, fed.tally, nodes, lookup, cache);
-        let input = fed.input;
-        let Input::More = input else {
+        let Input::More = fed.input else {
             return fed;
         };
-        turns = turns - 1;
     }
     fed
 }

@@ -1,12 +1,12 @@
 // The lists: Fresh, then so many drawn calls.
 use crate::draw::draw;
-use crate::old::fresh;
 use crate::output::{record, refused, told};
 use crate::replay::Replay;
 use crate::settings::{Opening, Setting, drawn_setting, first, last};
 use crate::sums::{MARK, cleared, spare};
 use std::io;
 use store::record::Store;
+use store_fresh::fresh;
 
 // Writes some words, after what they are.
 fn words_line(rt: &impl Print, name: &str, words: &[u32]) -> io::Result<()> {

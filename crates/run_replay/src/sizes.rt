@@ -1,11 +1,12 @@
 // The lines of Size by either entry.
 use crate::draw::{Drawn, draw, handle};
 use crate::lend::{Lent, about};
-use crate::old::{Answered, size, size_compact};
-use crate::output::{record, refused, told};
+use crate::output::{answer, record, told};
 use crate::parts::needed;
 use crate::replay::Replay;
 use crate::sums::{WIDE_MARK, kept, sum_of};
+use query_size::size;
+use query_size_compact::call::size_compact;
 use std::{fmt, io};
 use store::record::Refusal;
 
@@ -23,15 +24,6 @@ impl fmt::Display for Entry {
             Entry::Compact => write!(f, "Size compact"),
         }
     }
-}
-
-// Writes what an entry gave.
-fn given(rt: &impl Print, measured: Answered<u64>) -> io::Result<()> {
-    match measured.answer {
-        Ok(members) => print!(rt; " {members}")?,
-        Err(refusal) => refused(rt, refusal)?,
-    }
-    record(rt, measured.store)
 }
 
 // From where on the second entry leaves the scratch as before: after a refusal with 10 and 4 all of it, else what was
@@ -73,7 +65,8 @@ impl Replay<'_> {
             Entry::Compact => size_compact(lent.record, self.nodes, lookup, p, room),
         };
         print!(rt; "{entry} {p} lent {slots} {part}:")?;
-        given(rt, measured)?;
+        answer(rt, measured.answer)?;
+        record(rt, measured.store)?;
         match entry {
             Entry::First => println!(rt; " sum {:08x}", sum_of(scratch))?,
             Entry::Compact => {

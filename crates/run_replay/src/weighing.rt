@@ -1,12 +1,12 @@
 // The lines of the two sums of weights.
 use crate::draw::{draw, handle};
 use crate::lend::{Lent, scratch};
-use crate::old::{Answered, weight_by_members, weight_by_nodes};
-use crate::output::{record, refused, told};
+use crate::output::{answer, record, told};
 use crate::replay::Replay;
 use crate::saves::free_until;
 use crate::sums::{MARK, WIDE_MARK, kept};
 use crate::weights::{LISTS, Weights};
+use query_weight::calls::{weight_by_members, weight_by_nodes};
 use std::{fmt, io};
 use store::record::Store;
 
@@ -44,24 +44,6 @@ fn sums(few: bool) -> &'static [By] {
     }
 }
 
-// Writes what a sum gave, and whether the other scratch words are as before.
-fn given(rt: &impl Print, weighed: Answered<u64>, scratch: &[u64]) -> io::Result<()> {
-    let needed = 3 * weighed.store.count as usize;
-    let free = match weighed.answer {
-        Ok(sum) => {
-            print!(rt; " {sum}")?;
-            needed
-        }
-        Err(refusal) => {
-            refused(rt, refusal)?;
-            free_until(refusal, needed)
-        }
-    };
-    print!(rt; " kept {}", told(kept(scratch, free, WIDE_MARK)))?;
-    record(rt, weighed.store)?;
-    println!(rt; "")
-}
-
 impl Replay<'_> {
     // Asks for a sum and writes the line.
     fn weigh(&self, rt: &impl Print, by: By, asked: Weighing) -> io::Result<()> {
@@ -85,7 +67,11 @@ impl Replay<'_> {
             By::Nodes => weight_by_nodes(lent.record, self.nodes, lookup, p, list, room),
         };
         print!(rt; "Weight by {by} {p} weights {weights} lent {slots} {long} {part}:")?;
-        given(rt, weighed, &scratch)
+        answer(rt, weighed.answer)?;
+        let free = free_until(weighed.answer, 3 * weighed.store.count as usize);
+        print!(rt; " kept {}", told(kept(&scratch, free, WIDE_MARK)))?;
+        record(rt, weighed.store)?;
+        println!(rt; "")
     }
 
     // Asks for sums and writes the lines.

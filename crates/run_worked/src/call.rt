@@ -7,6 +7,7 @@ use std::fmt;
 pub struct Call(pub Operation, pub u32, pub u32);
 
 // The name of an operation.
+// Kept: each program has its own: in a library it would be a public function with nothing to promise.
 fn name(op: Operation) -> &'static str {
     match op {
         Operation::Subset1 => "Subset1",

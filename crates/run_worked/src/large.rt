@@ -13,7 +13,7 @@ const CALLS: [Call; 4] = [
     Call(Operation::Change, 1, 513),
 ];
 
-// Runs an operation; gives the handle, 0 for a refusal.
+// Runs an operation; gives the handle, that of {} for a refusal.
 fn handle(lent: &mut Lent, op: Operation, p: u32, q: u32) -> u32 {
     lent.operate(Call(op, p, q))
         .map_or(0, |placement| placement.handle)

@@ -1,9 +1,14 @@
 // A store on lent words: the calls on it, each with its line.
 use crate::call::Call;
-use crate::old::{Placement, fresh, has, load, operate, save, size};
 use combination::Combination;
+use file_load::load;
+use file_save::save;
+use op_calls::operate;
+use query_has::has;
+use query_size::size;
 use std::io;
-use store::record::{Refusal, Store};
+use store::record::{Placement, Refusal, Store};
+use store_fresh::fresh;
 
 // The record and the words of a store.
 #[derive(Drop)]
@@ -16,7 +21,7 @@ pub struct Lent<'a> {
 
 // Ends a line with a refusal.
 pub fn refused(rt: &impl Print, refusal: Refusal) -> io::Result<()> {
-    println!(rt; " refused with {}", crate::old::number(refusal))
+    println!(rt; " refused with {}", u32::from(refusal))
 }
 
 // Writes bytes in hexadecimal.

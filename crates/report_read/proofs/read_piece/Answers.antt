@@ -5,4 +5,4 @@ use Rattle.report_read.proofs.Feedings.{one_read}
 use Rattle.report_read.proofs.read_piece.Goals as goal
 
 pub returns : goal.returns
-returns g c = one_read {z = c.read_some-got.result} (search rules) c.read_some-got.ensures (search rules) c.take_read.ensures
+returns g c = one_read c.read_front-got.ensures (search rules) c.take_read.ensures

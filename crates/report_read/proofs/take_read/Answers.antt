@@ -1,13 +1,16 @@
 -- What a read brought is taken: nothing where it failed or the input is at its end, else so many bytes of the buffer.
--- The two tests leave the three cases of the reader's answer.
+-- The arms are the three cases of the reader's answer.
+use mathlib.Core.Path.{sym, ap, ◌∙◌}
+use Rattle.std.specs.Prelude.{Some}
 use Rattle.report_read.proofs.Feedings.{read_failed, read_ended, read_brought}
 use Rattle.report_read.proofs.take_read.Goals as goal
 
-pub returns-then-got-lt0 : goal.returns-then-got-lt0
-returns-then-got-lt0 c = read_failed c.ranges.got c.if-got-lt0.true
+pub returns-in-None : goal.returns-in-None
+returns-in-None c = read_failed c.in-None.is
 
-pub returns-then-got-eq0 : goal.returns-then-got-eq0
-returns-then-got-eq0 c = read_ended c.ranges.got c.if-got-eq0.true
+pub returns-in-Some-eq0 : goal.returns-in-Some-eq0
+returns-in-Some-eq0 c = read_ended (c.in-Some-eq0.is ∙ ap Some (sym c.in-Some-eq0.field-0-is ∙ c.in-Some-eq0.field-0-test))
 
-pub returns : goal.returns
-returns c = read_brought c.ranges.got c.if-got-lt0.false c.if-got-eq0.false c.count-n.ensures c.take_piece-taken.ensures c.input_behind.ensures
+pub returns-in-Some : goal.returns-in-Some
+returns-in-Some c =
+    read_brought c.in-Some.is (rw c.in-Some.is at c.in-Some.n-test).1 c.min.ensures c.take_piece-tally.ensures c.input_behind-input.ensures

@@ -13,10 +13,8 @@ returns-then-places-eq0 c = search counted_none
 
 pub returns-in_default : goal.returns-in_default
 returns-in_default c =
-    let K = c.new-parts.ensures in
-    counted_short _ _ _ _ c.if-p-lt2.false c.requires.held _ c.places_in-places.ensures K.0 K.1 K.2 c.in_default.ensures refl (search rules)
+    counted_short _ _ _ _ c.if-p-lt2.false c.requires.held _ c.places_in-places.ensures c.new-parts.ensures c.in_default.ensures refl (search rules)
 
 pub returns : goal.returns
 returns c =
-    let K = c.new-parts.ensures in
-    counted_told _ _ _ _ c.if-p-lt2.false c.requires.held _ c.places_in-places.ensures K.0 K.1 K.2 c.in-Some.ensures refl _ c.size_of.ensures c.ok_or.ensures.value (search rules)
+    counted_told _ _ _ _ c.if-p-lt2.false c.requires.held _ c.places_in-places.ensures c.new-parts.ensures c.in-Some.ensures refl _ c.size_of.ensures c.ok_or.ensures.value (search rules)

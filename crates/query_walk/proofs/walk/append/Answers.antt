@@ -4,6 +4,4 @@ use Rattle.query_walk.proofs.Listing.{append_done}
 use Rattle.query_walk.proofs.walk.append.Goals as goal
 
 pub returns : goal.returns
-returns c =
-    let e = c.enter.ensures in
-    append_done _ _ e.0 e.1 e.2 _ c.unwrap_or.ensures
+returns c = append_done _ _ c.enter.ensures _ c.unwrap_or.ensures

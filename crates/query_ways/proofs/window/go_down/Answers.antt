@@ -4,7 +4,7 @@ use Prim.Native.Nat.{◌-◌}
 use mathlib.Core.Path.{◌≡◌, refl}
 use native.Mathlib.Omega.{arith}
 use Rattle.query_ways.specs.declared.hand.Passage.{Passage}
-use Rattle.query_ways.proofs.Going.{goes_begin, goes_skip, goes_asks, goes_on, goes_end}
+use Rattle.query_ways.proofs.Going.{goes_begin, goes_skip, goes_on, goes_end}
 use Rattle.query_ways.proofs.window.go_down.Goals as goal
 
 pub loop-left-init : goal.loop-left-init
@@ -15,9 +15,6 @@ loop-left-preserved-then-ways-eq0 c =
     let q = c.loop-left.passage in
     let w : Passage = record { window = q.window; low = q.low; left = c.loop-left.left - 1; parts = q.parts; total = q.total } in
     goes_skip _ _ _ _ w (omega arith) c.loop-left.invariant c.if-ways-eq0.true
-
-pub hand_both-requires : goal.hand_both-requires
-hand_both-requires c = goes_asks _ _ _ _ _ (omega arith) c.loop-left.invariant c.requires.handle
 
 pub loop-left-preserved : goal.loop-left-preserved
 loop-left-preserved c =

@@ -5,4 +5,5 @@ use Rattle.query_parts.proofs.Tables.{entered}
 use Rattle.query_parts.proofs.entries.Parts.enter.Goals as goal
 
 pub returns : goal.returns
-returns c = (search entered, refl, refl)
+returns c =
+    entered _ _ _ _ _ _ c.requires c.head_of.ensures c.linked.ensures c.headed.ensures _ refl refl refl

@@ -5,7 +5,7 @@ use Rattle.query_parts.proofs.Chains.{Sought}
 use Rattle.query_parts.proofs.entries.Parts.find.Given as goal
 
 abbrev pub invariant-loop-chain : goal.invariant-loop-chain
-invariant-loop-chain l = Sought l.self.words.now l.self.places l.handle (link_to l.chain)
+invariant-loop-chain l = Sought l.self l.handle (link_to l.chain)
 
 abbrev pub decreases-loop-chain : goal.decreases-loop-chain
 decreases-loop-chain l = link_to l.chain
