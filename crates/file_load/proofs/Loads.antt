@@ -2,20 +2,20 @@
 -- limit, or with the file's family placed.
 -- What the bytes hold decides the promise's own tests, and placing ends as for every call.
 use Prim.Native.Nat.{ℕ, ◌+◌, ◌*◌, ◌/◌, ◌≤◌, ◌<◌}
-use mathlib.Core.Path.{◌≡◌, refl, ◌∙◌, sym}
+use mathlib.Core.Path.{◌≡◌, refl, ap, ◌∙◌, sym}
 use mathlib.Core.Bool.{true}
-use mathlib.Core.List.{List}
+use mathlib.Core.List.{List, ◌++◌}
 use mathlib.Core.Option.{none, some}
 use native.Mathlib.Omega.{arith}
-use lib.ListN.{length, get_or}
+use lib.ListN.{length, take, drop, length-append, length-drop, take-append-drop}
+use lib.Seq.{drop-drop, drop_at, length-take-le}
 use borrow.Author.Tests.{lt-ltb, le-ltb}
 use Rattle.family.specs.Family.{Family, top, largest_item}
 use Rattle.family.specs.Book.{start, at}
 use Rattle.family.specs.File.{family_of}
 use Rattle.words.proofs.Cases.{by_eq, clash, by_lt}
-use Rattle.words.proofs.Zeroed.{rest_drop}
 use Rattle.std.specs.Prelude.{⊤}
-use Rattle.std.proofs.Common.{Option, Some, None, Result, Ok, Err}
+use Rattle.std.proofs.Common.{Some, None, Result, Ok, Err}
 use Rattle.store.specs.declared.record.Refusal.{Refusal}
 use Rattle.store.specs.Tests.{tests_of, Found}
 use Rattle.store.specs.Refusals.{refusal_number}
@@ -35,7 +35,6 @@ use Rattle.store_undo.proofs.Finishing.{finished_held}
 use Rattle.store_undo.proofs.Done.{call_done}
 use Rattle.store.proofs.Calls.{refusal_some, call_refused}
 use Rattle.store.proofs.Plain.{plain_held, plain_ran}
-use Rattle.file_read.specs.declared.file.Content.{Content}
 use Rattle.file_read.specs.declared.file.Content.TheVariants.{Leaf, Parts}
 use Rattle.file_load.specs.Promise.{load_refusal, load_family, LoadCall}
 use Rattle.file_place.specs.Inner.{PlacedOf}
@@ -65,6 +64,44 @@ family_found : (file : List ℕ) (F : Family) → family_of largest_item file �
 unfolding load_family
 family_found file F e = rw e
 
+-- the word read is the top of the family
+top_is : {file parts slots parts₁ slots₁ : List ℕ} {n : ℕ} (A : ContentOf file parts slots (Some (Parts n)) parts₁ slots₁) → top_at parts₁ (n + 1) ≡ top (at A.outcome.book (n + 1))
+top_is {n = n} A = top_at_lem A.outcome.table (n + 1) (omega arith)
+
+-- a scratch whose words past those of so many bytes stay
+pub record ScratchKept (b : ℕ) (words words' : List ℕ) : Type 0 where
+  pub size : length words' ≡ length words
+  pub same : drop (6 * b) words' ≡ drop (6 * b) words
+
+-- behind three parts of these lengths
+behind : (b : ℕ) (p s h r : List ℕ) → length p ≡ 3 * b → length s ≡ 2 * b → length h ≡ b → drop (6 * b) (p ++ (s ++ (h ++ r))) ≡ r
+behind b p s h r ep es eh =
+    let e : 6 * b ≡ 3 * b + 2 * b + b = omega arith in
+    ap (λ k. drop k (p ++ (s ++ (h ++ r)))) e ∙ sym (drop-drop b (3 * b + 2 * b) (p ++ (s ++ (h ++ r))))
+    ∙ ap (λ x. drop b x) (sym (drop-drop (2 * b) (3 * b) (p ++ (s ++ (h ++ r)))) ∙ ap (λ x. drop (2 * b) x) (drop_at p (s ++ (h ++ r)) (3 * b) ep) ∙ drop_at s (h ++ r) (2 * b) es)
+    ∙ drop_at h r b eh
+
+pub scratch_room : {s : Store} {nodes lookup : List ℕ} {words b : ℕ} → Tested s nodes lookup 0 0 0 (words / 6) b → 6 * b ≤ words
+scratch_room P = omega (arith, P.passed.room)
+
+-- the lengths of three parts
+long : {words rest : List ℕ} (parts slots others : List ℕ) → words ≡ parts ++ rest → rest ≡ slots ++ others → length words ≡ length parts + (length slots + length others)
+long {rest = rest} parts slots others e d = ap length e ∙ length-append parts rest ∙ ap (λ n. length parts + n) (ap length d ∙ length-append slots others)
+
+-- the scratch of so many bytes lent in three parts, and what is left of it
+module _ {b : ℕ} {words rest : List ℕ} (room : 6 * b ≤ length words) (parts slots others : List ℕ) (e : words ≡ parts ++ rest) (ep : length parts ≡ 3 * b) (d : rest ≡ slots ++ others) (es : length slots ≡ 2 * b) where
+  pub handles_room : length (take b others) ≡ b
+  handles_room = length-take-le b others (omega (arith, long parts slots others e d))
+
+  pub scratch_kept : (parts' slots' handles : List ℕ) → length parts' ≡ length parts → length slots' ≡ length slots → length handles ≡ length (take b others) → ScratchKept b words (parts' ++ (slots' ++ (handles ++ drop b others)))
+  scratch_kept parts' slots' handles fp fs fh =
+      let whole : words ≡ parts ++ (slots ++ (take b others ++ drop b others)) = e ∙ ap (λ x. parts ++ x) (d ∙ ap (λ x. slots ++ x) (sym (take-append-drop b others))) in
+      record {
+        size = rw (length-append parts', length-append slots', length-append handles) (omega (arith, long parts slots others e d, handles_room, length-drop b others));
+        same = behind b parts' slots' handles (drop b others) (omega arith) (omega arith) (omega (arith, handles_room))
+            ∙ sym (ap (λ x. drop (6 * b) x) whole ∙ behind b parts slots (take b others) (drop b others) ep es handles_room);
+      }
+
 module _ (s : Store) (nodes lookup cache file words : List ℕ) (r : Answered Placement) where
   -- the tests decide the promise's own: no handle, no item, and six words per byte
   short_number : (x : Refusal) → refusal_number x ≡ tests_of s.count 0 0 0 (length words / 6) (length file) → refusal_number x ≡ load_refusal s.limit file (length words)
@@ -88,35 +125,34 @@ module _ (s : Store) (nodes lookup cache file words : List ℕ) (r : Answered Pl
     e : fitting s (length nodes) (length lookup) ≡ true
     e = P.fits
 
-    module _ {x : Option Content} {words₁ : List ℕ} (A : ContentOf file words (length file) x words₁) where
-      room : 6 * length file ≤ length words
-      room = omega (arith, P.passed.room)
+    room : 6 * length file ≤ length words
+    room = omega (arith, P.passed.room)
 
-      -- the scratch, where no test refuses it
-      kept : {n : ℕ} {F : Family} {nodes' lookup' cache' words' : List ℕ} → load_refusal s.limit file (length words) ≡ n → load_family file ≡ F → PlaceCall n F s nodes lookup cache r nodes' lookup' cache' → length words' ≡ length words
-          → ((j : ℕ) → 6 * length file ≤ j → get_or words' j 0 ≡ get_or words j 0) → LoadCall s nodes lookup cache file words r nodes' lookup' cache' words'
-      kept {words' = words'} en ef P size same =
-          record {
-            places = rw (en, ef) P;
-            scratch_misfit = λ d. clash e d;
-            scratch_short = λ d. absurd (omega (arith, room));
-            scratch_rest = rest_drop (6 * length file) words words' size same;
-            long = size;
-          }
+    -- the scratch, where no test refuses it
+    kept : {n : ℕ} {F : Family} {nodes' lookup' cache' words' : List ℕ} → load_refusal s.limit file (length words) ≡ n → load_family file ≡ F → PlaceCall n F s nodes lookup cache r nodes' lookup' cache'
+        → ScratchKept (length file) words words' → LoadCall s nodes lookup cache file words r nodes' lookup' cache' words'
+    kept en ef Q K =
+        record {
+          places = rw (en, ef) Q;
+          scratch_misfit = λ d. clash e d;
+          scratch_short = λ d. absurd (omega (arith, room));
+          scratch_rest = K.same;
+          long = K.size;
+        }
 
-    module _ {words₁ : List ℕ} where
-      pub load_none : ContentOf file words (length file) None words₁ → r.store ≡ s → r.answer ≡ Err NoFile → LoadCall s nodes lookup cache file words r nodes lookup cache words₁
+    module _ {words' : List ℕ} (K : ScratchKept (length file) words words') where
+      pub load_none : {parts slots parts₁ slots₁ : List ℕ} → ContentOf file parts slots None parts₁ slots₁ → r.store ≡ s → r.answer ≡ Err NoFile → LoadCall s nodes lookup cache file words r nodes lookup cache words'
       load_none A es ea =
-          kept A (refusal_none s.limit file (length words) (room A) A.outcome) refl (call_refused s nodes lookup cache 9 _ r NoFile e refl (omega arith) es ea) A.long A.rest
+          kept (refusal_none s.limit file (length words) room A.outcome) refl (call_refused s nodes lookup cache 9 _ r NoFile e refl (omega arith) es ea) K
 
-      pub load_leaf : {h : ℕ} → ContentOf file words (length file) (Some (Leaf h)) words₁ → r.store ≡ s → r.answer ≡ Ok (record { handle = h; added = 0 }) → LoadCall s nodes lookup cache file words r nodes lookup cache words₁
-      load_leaf {h} A es ea =
+      pub load_leaf : {parts slots parts₁ slots₁ : List ℕ} {h : ℕ} → ContentOf file parts slots (Some (Leaf h)) parts₁ slots₁ → r.store ≡ s → r.answer ≡ Ok (record { handle = h; added = 0 }) → LoadCall s nodes lookup cache file words r nodes lookup cache words'
+      load_leaf {h = h} A es ea =
           let L = A.outcome in
-          kept A (refusal_found s.limit file (length words) (room A) (at start h) L.is (leaf_top h L.low)) (family_found file (at start h) L.is)
+          kept (refusal_found s.limit file (length words) room (at start h) L.is (leaf_top h L.low)) (family_found file (at start h) L.is)
           (call_done s nodes lookup cache (λ B. at start h) e (leaf_top h L.low)
           (plain_ran (top (at start h)) (λ B. at start h) (fill_in s) nodes lookup cache
           (plain_held (top (at start h)) (λ B. at start h) (fill_in s) nodes lookup P.roomy h (omega (arith, L.low)) (λ l B H. same_leaf B H h L.low)))
-          (finished_held s h nodes lookup cache r es ea)) A.long A.rest
+          (finished_held s h nodes lookup cache r es ea)) K
         where
           leaf_top : (h : ℕ) → h < 2 → top (at start h) ≤ s.limit
           leaf_top h l = by_eq h 0 (λ p t. rw p (omega arith)) (λ d t. let p : h ≡ 1 = omega arith in rw p (omega arith))
@@ -124,22 +160,18 @@ module _ (s : Store) (nodes lookup cache file words : List ℕ) (r : Answered Pl
           same_leaf : {limit : ℕ} (B : List Family) → Holds limit B s.count nodes lookup → (h : ℕ) → h < 2 → at B h ≡ at start h
           same_leaf B H h l = by_eq h 0 (λ p t. rw p (at_0 H)) (λ d t. let p : h ≡ 1 = omega arith in rw p (at_1 H))
 
-      module _ {n : ℕ} (A : ContentOf file words (length file) (Some (Parts n)) words₁) where
-        -- the word read is the top of the family
-        top_is : top_at words₁ (n + 1) ≡ top (at A.outcome.book (n + 1))
-        top_is = top_at_lem A.outcome.table (n + 1) (omega arith)
-
-        pub load_above : s.limit < top_at words₁ (n + 1) → r.store ≡ s → r.answer ≡ Err AboveLimit → LoadCall s nodes lookup cache file words r nodes lookup cache words₁
+      module _ {parts slots parts₁ slots₁ : List ℕ} {n : ℕ} (A : ContentOf file parts slots (Some (Parts n)) parts₁ slots₁) where
+        pub load_above : s.limit < top_at parts₁ (n + 1) → r.store ≡ s → r.answer ≡ Err AboveLimit → LoadCall s nodes lookup cache file words r nodes lookup cache words'
         load_above h es ea =
-            kept A (refusal_above s.limit file (length words) (room A) (at A.outcome.book (n + 1)) A.outcome.is (omega (arith, top_is))) refl
-            (call_refused s nodes lookup cache 13 _ r AboveLimit e refl (omega arith) es ea) A.long A.rest
+            kept (refusal_above s.limit file (length words) room (at A.outcome.book (n + 1)) A.outcome.is (omega (arith, top_is A))) refl
+            (call_refused s nodes lookup cache 13 _ r AboveLimit e refl (omega arith) es ea) K
 
-        pub load_parts : {fill : Fill} {answer : Result ℕ Refusal} {nodes₁ lookup₁ words₂ : List ℕ} → PlacedOf (fill_in s) nodes lookup words₁ (length file) n (reached fill answer) nodes₁ lookup₁ words₂
-            → top_at words₁ (n + 1) ≤ s.limit → {nodes₂ lookup₂ cache₂ : List ℕ} → Finished s fill.count answer nodes₁ lookup₁ cache r nodes₂ lookup₂ cache₂ → LoadCall s nodes lookup cache file words r nodes₂ lookup₂ cache₂ words₂
+        pub load_parts : {fill : Fill} {answer : Result ℕ Refusal} {handles nodes₁ lookup₁ handles₁ : List ℕ} → PlacedOf (fill_in s) nodes lookup parts₁ handles n (reached fill answer) nodes₁ lookup₁ handles₁
+            → top_at parts₁ (n + 1) ≤ s.limit → {nodes₂ lookup₂ cache₂ : List ℕ} → Finished s fill.count answer nodes₁ lookup₁ cache r nodes₂ lookup₂ cache₂ → LoadCall s nodes lookup cache file words r nodes₂ lookup₂ cache₂ words'
         load_parts W h E =
             let R = A.outcome in
             let F = at R.book (n + 1) in
-            let low : top F ≤ s.limit = omega (arith, top_is) in
-            kept A (refusal_found s.limit file (length words) (room A) F R.is low) (family_found file F R.is)
-            (call_done s nodes lookup cache (λ B. F) e low (plain_ran (top F) (λ B. F) (fill_in s) nodes lookup cache (W.ran R.book R.table R.own)) E)
-            (W.long ∙ A.long) (λ j h. W.rest j h ∙ A.rest j h)
+            let low : top F ≤ s.limit = omega (arith, top_is A) in
+            kept (refusal_found s.limit file (length words) room F R.is low) (family_found file F R.is)
+            (call_done s nodes lookup cache (λ B. F) e low (plain_ran (top F) (λ B. F) (fill_in s) nodes lookup cache (W.ran R.book slots₁ R.table R.own)) E)
+            K

@@ -21,23 +21,26 @@ pub fn load(
 ) -> Answered<Placement>
     ensures { LoadCall store nodes.old lookup.old cache.old file.now words.old result nodes.new lookup.new cache.new words.new }
 {
-    // The scratch has six words for each byte of the file.
+    let bytes = file.len();
     let room = words.len() / 6;
-    let need = file.len();
-    let found = tested(store, nodes.len(), lookup.len(), 0, 0, Ok(()), room, need);
+    let found = tested(store, nodes.len(), lookup.len(), 0, 0, Ok(()), room, bytes);
     if let Err(refusal) = found {
         return store.refused(refusal);
     }
-    match read_file(file, words) {
+    // For each byte of the file the scratch has three words of local nodes, two of a local lookup, and a handle.
+    let (parts, others) = words.split_at_mut(3 * bytes);
+    let (slots, others) = others.split_at_mut(2 * bytes);
+    let handles = &mut others[..bytes];
+    match read_file(file, parts, slots) {
         None => store.refused(Refusal::NoFile),
         Some(Content::Leaf(handle)) => store.placed(handle, 0),
-        Some(Content::Parts(parts)) => {
+        Some(Content::Parts(count)) => {
             // The last part is the family: no item of the file is above its top.
-            if store.limit < top_of(words, parts, parts + 1) {
+            if store.limit < top_of(parts, count, count + 1) {
                 return store.refused(Refusal::AboveLimit);
             }
             let mut fill = store.fill();
-            let answer = place_parts(&mut fill, nodes, lookup, words, file.len(), parts);
+            let answer = place_parts(&mut fill, nodes, lookup, parts, handles, count);
             finish(store, fill.count, answer, nodes, lookup, cache)
         }
     }

@@ -1,24 +1,24 @@
-// Placing the local parts in the store, one after another; the scratch keeps the handle of each.
+// Placing the local parts in the store, one after another; each gets its handle in the store.
 #![tactic(auto)]
 
-ghost use Rattle.std.specs.Prelude.{◌≡◌, ◌+◌, ◌*◌, ◌<◌, ◌≤◌, length, get_or};
+ghost use Rattle.std.specs.Prelude.{◌≡◌, ◌+◌, ◌*◌, ◌<◌, length, get_or};
 ghost use Rattle.store.specs.Inner.{reached};
+ghost use Rattle.store.specs.Words.{word_of};
 ghost use Rattle.store_node.specs.Inner.{NodeIt};
-ghost use Rattle.file_place.specs.Inner.{handle_in, PartAsks, PartsAsks, PlacedOf};
+ghost use Rattle.file_place.specs.Inner.{PartAsks, PartsAsks, PlacedOf};
 
 use store::record::{Fill, Refusal};
 use store_node::getnode::node_of;
 
 // The handle in the store of a local number.
-fn handle_at(words: &[u32], bytes: usize, p: u32) -> u32
-    requires bytes_in_bounds { 6 * bytes ≤ length words.now }
-    requires p_bound { p < bytes + 2 }
-    ensures { result ≡ handle_in bytes words.now p }
+fn handle_at(handles: &[u32], p: u32) -> u32
+    requires { p < length handles.now + 2 }
+    ensures { result ≡ word_of handles.now p }
 {
     if p < 2 {
         return p;
     }
-    words[5 * bytes + (p - 2) as usize]
+    handles[(p - 2) as usize]
 }
 
 // Places the local part number k + 2, and gives its handle.
@@ -26,34 +26,34 @@ fn place_part(
     fill: &mut Fill,
     nodes: &mut [u32],
     lookup: &mut [u32],
-    words: &[u32],
-    bytes: usize,
+    parts: &[u32],
+    handles: &[u32],
     k: u32,
 ) -> Result<u32, Refusal>
-    requires { PartAsks fill.old nodes.old lookup.old words.now bytes k }
-    ensures { NodeIt fill.old nodes.old lookup.old (get_or words.now (3 * k) 0) (handle_in bytes words.now (get_or words.now (3 * k + 1) 0)) (handle_in bytes words.now (get_or words.now (3 * k + 2) 0)) (reached fill.new result) nodes.new lookup.new }
+    requires { PartAsks fill.old nodes.old lookup.old parts.now handles.now k }
+    ensures { NodeIt fill.old nodes.old lookup.old (get_or parts.now (3 * k) 0) (word_of handles.now (get_or parts.now (3 * k + 1) 0)) (word_of handles.now (get_or parts.now (3 * k + 2) 0)) (reached fill.new result) nodes.new lookup.new }
 {
     let base = 3 * k as usize;
-    let zero = handle_at(words, bytes, words[base + 1]);
-    let one = handle_at(words, bytes, words[base + 2]);
-    node_of(fill, nodes, lookup, words[base], zero, one)
+    let zero = handle_at(handles, parts[base + 1]);
+    let one = handle_at(handles, parts[base + 2]);
+    node_of(fill, nodes, lookup, parts[base], zero, one)
 }
 
-// Places all parts, and gives the handle of the last.
+// Places so many parts, whose words are those of local nodes, and gives the handle of the last.
 pub fn place_parts(
     fill: &mut Fill,
     nodes: &mut [u32],
     lookup: &mut [u32],
-    words: &mut [u32],
-    bytes: usize,
-    parts: u32,
+    parts: &[u32],
+    handles: &mut [u32],
+    count: u32,
 ) -> Result<u32, Refusal>
-    requires { PartsAsks fill.old nodes.old lookup.old words.old bytes parts }
-    ensures { PlacedOf fill.old nodes.old lookup.old words.old bytes parts (reached fill.new result) nodes.new lookup.new words.new }
+    requires { PartsAsks fill.old nodes.old lookup.old parts.now handles.old count }
+    ensures { PlacedOf fill.old nodes.old lookup.old parts.now handles.old count (reached fill.new result) nodes.new lookup.new handles.new }
 {
-    for k in 0..parts {
-        let handle = place_part(fill, nodes, lookup, words, bytes, k)?;
-        words[5 * bytes + k as usize] = handle;
+    for k in 0..count {
+        let handle = place_part(fill, nodes, lookup, parts, handles, k)?;
+        handles[k as usize] = handle;
     }
-    Ok(handle_at(words, bytes, parts + 1))
+    Ok(handle_at(handles, count + 1))
 }

@@ -1,12 +1,12 @@
 -- One turn of `read_records`: it takes a record as the definition of the file does.
 -- What is left to read gives what the whole gives, and the local table holds the book so far.
-use Prim.Native.Nat.{ℕ, suc, ◌+◌, ◌*◌, ◌-◌, ◌≤◌, ◌<◌}
+use Prim.Native.Nat.{ℕ, suc, ◌+◌, ◌-◌, ◌≤◌, ◌<◌}
 use mathlib.Core.Path.{◌≡◌, sym, ap, ◌∙◌}
 use mathlib.Core.Bool.{true}
 use mathlib.Core.List.{List, [], ◌∷◌, ◌++◌}
 use mathlib.Core.Option.{some}
 use native.Mathlib.Omega.{arith}
-use lib.ListN.{length, get_or, drop, length-drop}
+use lib.ListN.{length, drop, length-drop}
 use Rattle.std.specs.Prelude.{⊤}
 use Rattle.std.proofs.Common.{Some}
 use Rattle.family.specs.Family.{Family, node, largest_item}
@@ -25,26 +25,26 @@ turn_fit : (m : ℕ) (C : List Family) (pi pn : ℕ) (l : List ℕ) (i z o : ℕ
 turn_fit m C pi pn l i z o r e d = rw (e, d)
 
 -- k records are taken
-pub record RecordsTaken (bytes : List ℕ) (n : ℕ) (words₀ : List ℕ) (b : ℕ) (left : List ℕ) (last : Last) (k : ℕ) (words : List ℕ) : Type 0 where
-  pub long : length words ≡ length words₀
-  pub rest : (j : ℕ) → 6 * b ≤ j → get_or words j 0 ≡ get_or words₀ j 0
+pub record RecordsTaken (bytes : List ℕ) (n : ℕ) (nodes₀ lookup₀ left : List ℕ) (last : Last) (k : ℕ) (nodes lookup : List ℕ) : Type 0 where
+  pub long : length nodes ≡ length nodes₀
+  pub long_lookup : length lookup ≡ length lookup₀
   pub most : k ≤ n
   pub item_low : last.item ≤ largest_item
   pub number_is : last.number ≡ k + 1
   pub used : k + length left ≤ length bytes
   pub book : List Family
-  pub table : Local book k b words
+  pub table : Local book k nodes lookup
   pub todo : read_records largest_item (n - k) book last.item last.number left ≡ read_records largest_item n start 0 1 bytes
 
-pub taken_step : {bytes : List ℕ} {n : ℕ} {words₀ : List ℕ} {b : ℕ} {left : List ℕ} {last : Last} {k : ℕ} {words : List ℕ} → RecordsTaken bytes n words₀ b left last k words → k < n
-    → {t : Taken Part} → RecordTaken last left t → {u : ⊤} {words' : List ℕ} → TakeOf words b k t.value (Some u) words' → {left' : List ℕ} → left' ≡ drop t.bytes left
-    → RecordsTaken bytes n words₀ b left' (record { item = t.value.item; number = k + 2 }) (k + 1) words'
+pub taken_step : {bytes : List ℕ} {n : ℕ} {nodes₀ lookup₀ left : List ℕ} {last : Last} {k : ℕ} {nodes lookup : List ℕ} → RecordsTaken bytes n nodes₀ lookup₀ left last k nodes lookup → k < n
+    → {t : Taken Part} → RecordTaken last left t → {u : ⊤} {nodes' lookup' : List ℕ} → TakeOf nodes lookup k t.value (Some u) nodes' lookup' → {left' : List ℕ} → left' ≡ drop t.bytes left
+    → RecordsTaken bytes n nodes₀ lookup₀ left' (record { item = t.value.item; number = k + 2 }) (k + 1) nodes' lookup'
 taken_step {n = n} {left = left} {last} {k} U l {t} R T el =
     let F = T.sound U.book U.table in
     let more : n - k ≡ suc (n - (k + 1)) = omega arith in
     record {
       long = T.long ∙ U.long;
-      rest = λ j h. T.rest j h ∙ U.rest j h;
+      long_lookup = T.long_lookup ∙ U.long_lookup;
       most = omega arith;
       item_low = omega (arith, T.low);
       number_is = omega arith;

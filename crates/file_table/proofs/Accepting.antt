@@ -58,8 +58,8 @@ module _ (words : List ℕ) (k i z o : ℕ) where
       )
 
 -- the tests are those of the definition, but for whether the node is held
-module _ (words : List ℕ) (b k : ℕ) (part : Part) where
-  module _ {C : List Family} (H : Local C k b words) where
+module _ (words lookup : List ℕ) (k : ℕ) (part : Part) where
+  module _ {C : List Family} (H : Local C k words lookup) where
     next_follows : Next largest_item C part.item part.zero part.one → CanFollow words k part.item part.zero part.one
     next_follows f =
         record {
@@ -103,31 +103,31 @@ module _ (words : List ℕ) (b k : ℕ) (part : Part) where
             new = l;
           }
 
-      taken : (r : Option ⊤) (words' : List ℕ) → MatchOption r (Held C (node part.item (at C part.zero) (at C part.one))) (λ _. Entered C (node part.item (at C part.zero) (at C part.one)) k b words')
-          → MatchOption r (fits largest_item C (triple part.item part.zero part.one) ≡ false) (λ _. PartTaken C part k b words')
-      taken (Some u) words' E = record { fit = next_fits largest_item C part.item part.zero part.one (next E.new); table = E.table }
-      taken None words' h =
+      taken : (r : Option ⊤) (words' lookup' : List ℕ) → MatchOption r (Held C (node part.item (at C part.zero) (at C part.one))) (λ _. Entered C (node part.item (at C part.zero) (at C part.one)) k words' lookup')
+          → MatchOption r (fits largest_item C (triple part.item part.zero part.one) ≡ false) (λ _. PartTaken C part k words' lookup')
+      taken (Some u) words' lookup' E = record { fit = next_fits largest_item C part.item part.zero part.one (next E.new); table = E.table }
+      taken None words' lookup' h =
           by_test (fits largest_item C (triple part.item part.zero part.one))
           (λ e. absurd (omega (arith, h, (fits_next largest_item C part.item part.zero part.one e).new))) (λ e. e)
 
-  pub take_unfit : follows words k part.item part.zero part.one ≡ false → TakeOf words b k part None words
+  pub take_unfit : follows words k part.item part.zero part.one ≡ false → TakeOf words lookup k part None words lookup
   take_unfit e =
       record {
         long = refl;
-        rest = λ j h. refl;
+        long_lookup = refl;
         low = tt;
         sound = λ C H. by_test (fits largest_item C (triple part.item part.zero part.one))
             (λ d. clash (is_follows words k part.item part.zero part.one (next_follows H (fits_next largest_item C part.item part.zero part.one d))) e) (λ d. d);
       }
 
-  pub take_entered : follows words k part.item part.zero part.one ≡ true → (r : Option ⊤) {words' : List ℕ} → EnterOf words b k part.item part.zero part.one r words' → TakeOf words b k part r words'
-  take_entered e r {words'} E =
+  pub take_entered : follows words k part.item part.zero part.one ≡ true → (r : Option ⊤) {words' lookup' : List ℕ} → EnterOf words lookup k part.item part.zero part.one r words' lookup' → TakeOf words lookup k part r words' lookup'
+  take_entered e r {words'} {lookup'} E =
       let f = follows_is words k part.item part.zero part.one e in
       record {
         long = E.long;
-        rest = E.rest;
+        long_lookup = E.long_lookup;
         low = item_low r f.item;
-        sound = λ C H. taken H f r words' (E.sound C H (omega (arith, f.zero_in)) (omega (arith, f.one_in)) (is_within H f));
+        sound = λ C H. taken H f r words' lookup' (E.sound C H (omega (arith, f.zero_in)) (omega (arith, f.one_in)) (is_within H f));
       }
     where
       item_low : (r : Option ⊤) → part.item ≤ largest_item → IfSome r (λ _. part.item ≤ largest_item)

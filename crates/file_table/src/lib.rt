@@ -1,5 +1,4 @@
-// The local table in the scratch of a file: three node words, two lookup words and one handle for each byte of the
-// file.
+// The local table of a file: the words of its nodes and a lookup, as the store has them.
 #![tactic(auto)]
 
 ghost use Rattle.std.specs.Prelude.{◌≡◌, ◌*◌, ◌<◌, ◌≤◌, length};
@@ -12,51 +11,43 @@ use table::probe::probe;
 // Whether a part can come after k others: an item up to 512, children that stand before it and have smaller
 // tops, one child not 0.
 #[tactic(auto, unfolding(crate::specs::Inner::follows))]
-fn is_next(words: &[u32], k: u32, part: Part) -> bool
-    requires k_in_bounds { 3 * k ≤ length words.now }
+fn is_next(nodes: &[u32], k: u32, part: Part) -> bool
+    requires k_in_bounds { 3 * k ≤ length nodes.now }
     requires k_bound { k < 4294967295 }
-    ensures { result ≡ follows words.now k part.item part.zero part.one }
+    ensures { result ≡ follows nodes.now k part.item part.zero part.one }
 {
     part.item <= 512
         && part.zero <= k + 1
         && part.one <= k + 1
         && 0 < part.one
-        && top_of(words, k, part.zero) < part.item
-        && top_of(words, k, part.one) < part.item
+        && top_of(nodes, k, part.zero) < part.item
+        && top_of(nodes, k, part.one) < part.item
 }
 
 // Enters a part behind k others; None where its words stand there already.
-fn enter(words: &mut [u32], bytes: usize, k: u32, part: Part) -> Option<()>
-    requires { EnterAsks words.old bytes k part.item }
-    ensures { EnterOf words.old bytes k part.item part.zero part.one result words.new }
+fn enter(nodes: &mut [u32], lookup: &mut [u32], k: u32, part: Part) -> Option<()>
+    requires { EnterAsks nodes.old lookup.old k part.item }
+    ensures { EnterOf nodes.old lookup.old k part.item part.zero part.one result nodes.new lookup.new }
 {
-    let slot = probe(
-        &words[0..3 * bytes],
-        &words[3 * bytes..5 * bytes],
-        k,
-        part.item,
-        part.zero,
-        part.one,
-    )?;
-    let at = 3 * bytes + slot;
-    if words[at] != 0 {
+    let slot = probe(nodes, lookup, k, part.item, part.zero, part.one)?;
+    if lookup[slot] != 0 {
         return None;
     }
     let base = 3 * k as usize;
-    words[base] = part.item;
-    words[base + 1] = part.zero;
-    words[base + 2] = part.one;
-    words[at] = k + 2;
+    nodes[base] = part.item;
+    nodes[base + 1] = part.zero;
+    nodes[base + 2] = part.one;
+    lookup[slot] = k + 2;
     Some(())
 }
 
 // Takes a part behind k others; None where it can not come next.
-pub fn take_part(words: &mut [u32], bytes: usize, k: u32, part: Part) -> Option<()>
-    requires { TableRoom words.old bytes k }
-    ensures { TakeOf words.old bytes k part result words.new }
+pub fn take_part(nodes: &mut [u32], lookup: &mut [u32], k: u32, part: Part) -> Option<()>
+    requires { TableRoom nodes.old lookup.old k }
+    ensures { TakeOf nodes.old lookup.old k part result nodes.new lookup.new }
 {
-    if !is_next(words, k, part) {
+    if !is_next(nodes, k, part) {
         return None;
     }
-    enter(words, bytes, k, part)
+    enter(nodes, lookup, k, part)
 }

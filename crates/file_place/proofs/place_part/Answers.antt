@@ -11,8 +11,8 @@ node_of-requires c =
       roomy = p.roomy;
       item_some = p.local.item_some;
       item_low = p.local.item_low;
-      zero_held = omega (arith, c.handle_at-zero.ensures, p.handles.each _ p.local.zero_before);
-      one_held = omega (arith, c.handle_at-one.ensures, p.handles.each _ p.local.one_before);
+      zero_held = omega (arith, c.handle_at-zero.ensures, p.handles_held.each _ p.local.zero_before);
+      one_held = omega (arith, c.handle_at-one.ensures, p.handles_held.each _ p.local.one_before);
     }
 
 pub returns : goal.returns

@@ -16,7 +16,7 @@ returns-in_err-handle c =
     rw (passed_on _ c.from_residual.ensures.1) (turns_refused c.requires c.loop-k.invariant c.loop-k-test.true _ c.in_err-handle.ensures refl)
 
 pub loop-k-preserved : goal.loop-k-preserved
-loop-k-preserved c = turns_next c.requires c.loop-k.invariant c.loop-k-test.true _ c.in_ok-handle.ensures refl refl
+loop-k-preserved c = turns_next c.requires c.loop-k.invariant c.loop-k-test.true _ c.in_ok-handle.ensures refl
 
 pub returns : goal.returns
 returns c = turns_done c.requires c.loop-k.invariant c.loop-k-test.false _ c.handle_at.ensures

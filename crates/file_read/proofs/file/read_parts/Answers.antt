@@ -17,11 +17,11 @@ returns-then-parts c = search file_many
 pub returns-in_err-read_table : goal.returns-in_err-read_table
 returns-in_err-read_table c =
     let a = c.args in
-    rw c.from_residual.ensures (file_unread a.rest.now a.words.now a.bytes _ c.if-rest-lt4.false c.read_number-parts.ensures c.if-parts-eq0.false
+    rw c.from_residual.ensures (file_unread a.rest.now a.nodes.now a.lookup.now _ c.if-rest-lt4.false c.read_number-parts.ensures c.if-parts-eq0.false
     (omega (arith, c.read_number-parts.type_inv, c.if-parts.false)) (rw (part_from a.rest.now 4) at c.in_err-read_table.ensures))
 
 pub returns : goal.returns
 returns c =
     let a = c.args in
-    file_parts a.rest.now a.words.now a.bytes _ c.if-rest-lt4.false c.read_number-parts.ensures c.if-parts-eq0.false
-    (omega (arith, c.read_number-parts.type_inv, c.if-parts.false)) c.requires.rest_len (rw (part_from a.rest.now 4) at c.in_ok-read_table.ensures)
+    file_parts a.rest.now a.nodes.now a.lookup.now _ c.if-rest-lt4.false c.read_number-parts.ensures c.if-parts-eq0.false
+    (omega (arith, c.read_number-parts.type_inv, c.if-parts.false)) (rw (part_from a.rest.now 4) at c.in_ok-read_table.ensures)

@@ -4,4 +4,4 @@ use Rattle.file_read.proofs.Recording.{RecordsTaken}
 use Rattle.file_read.proofs.read.read_records.Given as goal
 
 abbrev pub invariant-loop-k : goal.invariant-loop-k
-invariant-loop-k l = RecordsTaken l.records l.parts l.initial.words l.bytes l.rest l.last l.k l.words
+invariant-loop-k l = RecordsTaken l.records l.parts l.initial.nodes l.initial.lookup l.rest l.last l.k l.nodes l.lookup
