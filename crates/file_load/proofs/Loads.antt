@@ -10,39 +10,36 @@ use native.Mathlib.Omega.{arith}
 use lib.ListN.{length, get_or}
 use borrow.Author.Tests.{lt-ltb, le-ltb}
 use Rattle.family.specs.Family.{Family, top, largest_item}
-use Rattle.family.specs.Book.{start, at, place}
+use Rattle.family.specs.Book.{start, at}
 use Rattle.family.specs.File.{family_of}
 use Rattle.words.proofs.Cases.{by_eq, clash, by_lt}
 use Rattle.words.proofs.Zeroed.{rest_drop}
-use Rattle.store.specs.declared.tests.Test.{Test}
-use Rattle.store.specs.declared.tests.Test.TheVariants.{Refuses}
+use Rattle.std.specs.Prelude.{⊤}
+use Rattle.std.proofs.Common.{Option, Some, None, Result, Ok, Err}
 use Rattle.store.specs.declared.record.Refusal.{Refusal}
 use Rattle.store.specs.Tests.{tests_of, Found}
 use Rattle.store.specs.Refusals.{refusal_number}
 use Rattle.store.proofs.Testing.{tests_short, tests_clear, Tested, placing_refused}
 use Rattle.store.specs.declared.record.Store.{Store}
 use Rattle.store.specs.declared.record.Refusal.TheVariants.{NoFile, AboveLimit}
-use Rattle.store.specs.declared.record.PlaceAnswer.TheVariants.{Handle, Refused}
-use Rattle.store.specs.declared.record.Placed.{Placed}
+use Rattle.store.specs.declared.record.Placement.{Placement}
+use Rattle.store.specs.declared.record.Answered.{Answered}
+use Rattle.store.specs.declared.record.Fill.{Fill}
 use Rattle.store.specs.Capacity.{fitting}
 use Rattle.store.specs.Promise.{PlaceCall}
 use Rattle.store_undo.specs.Inner.{Finished}
-use Rattle.store.specs.Coded.{reached_as}
-use Rattle.store.specs.Inner.{fill_in, Holds}
+use Rattle.store.specs.Inner.{fill_in, reached, Holds}
 use Rattle.store.specs.Words.{top_at}
 use Rattle.store.proofs.Held.{at_0, at_1, top_at_lem}
 use Rattle.store_undo.proofs.Finishing.{finished_held}
 use Rattle.store_undo.proofs.Done.{call_done}
 use Rattle.store.proofs.Calls.{refusal_some, call_refused}
-use Rattle.store.proofs.Plain.{plain_coded, plain_ran}
-use Rattle.store.proofs.Codes.{coded_held}
+use Rattle.store.proofs.Plain.{plain_held, plain_ran}
 use Rattle.file_read.specs.declared.file.Content.{Content}
-use Rattle.file_read.specs.declared.file.Content.TheVariants.{Leaf, Parts, Bad}
+use Rattle.file_read.specs.declared.file.Content.TheVariants.{Leaf, Parts}
 use Rattle.file_load.specs.Promise.{load_refusal, load_family, LoadCall}
-use Rattle.file_table.specs.Inner.{Local, LocalNodes}
 use Rattle.file_place.specs.Inner.{PlacedOf}
-use Rattle.file_read.specs.Inner.{Holding, holds_leaf, holds_parts, holds_none, ContentOf}
-use Rattle.file_read.proofs.Walks.{local_nodes}
+use Rattle.file_read.specs.Inner.{ContentOf}
 
 -- the promise's tests
 module _ (limit : ℕ) (file : List ℕ) (n : ℕ) where
@@ -68,41 +65,7 @@ family_found : (file : List ℕ) (F : Family) → family_of largest_item file �
 unfolding load_family
 family_found file F e = rw e
 
--- what the reader said
-none_of : {file words : List ℕ} {b : ℕ} {x : Content} → x ≡ Bad → Holding file b words x → family_of largest_item file ≡ none
-none_of e A = out (rw e at A)
-  where
-    out : {file words : List ℕ} {b : ℕ} → Holding file b words Bad → family_of largest_item file ≡ none
-    out (holds_none is) = is
-
-record LeafRead (file : List ℕ) (h : ℕ) : Type 0 where
-  low : h < 2
-  is : family_of largest_item file ≡ some (at start h)
-
-leaf_of : {file words : List ℕ} {b : ℕ} {x : Content} (h : ℕ) → x ≡ Leaf h → Holding file b words x → LeafRead file h
-leaf_of h e A = out (rw e at A)
-  where
-    out : {file words : List ℕ} {b h : ℕ} → Holding file b words (Leaf h) → LeafRead file h
-    out (holds_leaf l is) = record { low = l; is = is }
-
-pub record PartsRead (file : List ℕ) (b : ℕ) (words : List ℕ) (n : ℕ) : Type 0 where
-  pub book : List Family
-  pub is : family_of largest_item file ≡ some (at book (n + 1))
-  pub few : n ≤ b
-  pub low : n < 4294967295
-  pub table : Local book n b words
-  pub own : place start (at book (n + 1)) ≡ book
-
-pub parts_of : {file words : List ℕ} {b : ℕ} {x : Content} (n : ℕ) → x ≡ Parts n → Holding file b words x → PartsRead file b words n
-parts_of n e A = out (rw e at A)
-  where
-    out : {file words : List ℕ} {b n : ℕ} → Holding file b words (Parts n) → PartsRead file b words n
-    out (holds_parts {C = C} is few low T own) = record { book = C; is = is; few = few; low = low; table = T; own = own }
-
-pub parts_nodes : {file words : List ℕ} {b n : ℕ} → PartsRead file b words n → LocalNodes words n
-parts_nodes R = local_nodes R.table
-
-module _ (s : Store) (nodes lookup cache file words : List ℕ) (r : Placed) where
+module _ (s : Store) (nodes lookup cache file words : List ℕ) (r : Answered Placement) where
   -- the tests decide the promise's own: no handle, no item, and six words per byte
   short_number : (x : Refusal) → refusal_number x ≡ tests_of s.count 0 0 0 (length words / 6) (length file) → refusal_number x ≡ load_refusal s.limit file (length words)
   short_number x d =
@@ -110,7 +73,7 @@ module _ (s : Store) (nodes lookup cache file words : List ℕ) (r : Placed) whe
       (λ l e. d ∙ tests_short s.count 0 0 0 (length words / 6) (length file) (omega arith) (omega arith) refl l ∙ sym (refusal_short s.limit file (length words) (omega arith)))
       (λ l e. absurd (refusal_some x (d ∙ tests_clear s.count 0 0 0 (length words / 6) (length file) (omega arith) (omega arith) refl l)))
 
-  pub load_refused : {a : Test} → Found s (length nodes) (length lookup) 0 0 0 (length words / 6) (length file) a → {x : Refusal} → a ≡ Refuses x → r.store ≡ s → r.answer ≡ Refused x
+  pub load_refused : {a : Result ⊤ Refusal} → Found s (length nodes) (length lookup) 0 0 0 (length words / 6) (length file) a → {x : Refusal} → a ≡ Err x → r.store ≡ s → r.answer ≡ Err x
       → LoadCall s nodes lookup cache file words r nodes lookup cache words
   load_refused F {x} e es ea =
       record {
@@ -125,7 +88,7 @@ module _ (s : Store) (nodes lookup cache file words : List ℕ) (r : Placed) whe
     e : fitting s (length nodes) (length lookup) ≡ true
     e = P.fits
 
-    module _ {x : Content} {words₁ : List ℕ} (A : ContentOf file words (length file) x words₁) where
+    module _ {x : Option Content} {words₁ : List ℕ} (A : ContentOf file words (length file) x words₁) where
       room : 6 * length file ≤ length words
       room = omega (arith, P.passed.room)
 
@@ -141,18 +104,19 @@ module _ (s : Store) (nodes lookup cache file words : List ℕ) (r : Placed) whe
             long = size;
           }
 
-      pub load_none : x ≡ Bad → r.store ≡ s → r.answer ≡ Refused NoFile → LoadCall s nodes lookup cache file words r nodes lookup cache words₁
-      load_none ex es ea =
-          kept (refusal_none s.limit file (length words) room (none_of ex A.outcome)) refl (call_refused s nodes lookup cache 9 _ r NoFile e refl (omega arith) es ea) A.long A.rest
+    module _ {words₁ : List ℕ} where
+      pub load_none : ContentOf file words (length file) None words₁ → r.store ≡ s → r.answer ≡ Err NoFile → LoadCall s nodes lookup cache file words r nodes lookup cache words₁
+      load_none A es ea =
+          kept A (refusal_none s.limit file (length words) (room A) A.outcome) refl (call_refused s nodes lookup cache 9 _ r NoFile e refl (omega arith) es ea) A.long A.rest
 
-      pub load_leaf : (h : ℕ) → x ≡ Leaf h → r.store ≡ s → r.answer ≡ Handle h 0 → LoadCall s nodes lookup cache file words r nodes lookup cache words₁
-      load_leaf h ex es ea =
-          let L = leaf_of h ex A.outcome in
-          kept (refusal_found s.limit file (length words) room (at start h) L.is (leaf_top h L.low)) (family_found file (at start h) L.is)
+      pub load_leaf : {h : ℕ} → ContentOf file words (length file) (Some (Leaf h)) words₁ → r.store ≡ s → r.answer ≡ Ok (record { handle = h; added = 0 }) → LoadCall s nodes lookup cache file words r nodes lookup cache words₁
+      load_leaf {h} A es ea =
+          let L = A.outcome in
+          kept A (refusal_found s.limit file (length words) (room A) (at start h) L.is (leaf_top h L.low)) (family_found file (at start h) L.is)
           (call_done s nodes lookup cache (λ B. at start h) e (leaf_top h L.low)
           (plain_ran (top (at start h)) (λ B. at start h) (fill_in s) nodes lookup cache
-          (plain_coded (top (at start h)) (λ B. at start h) (fill_in s) nodes lookup P.roomy h (omega (arith, L.low)) (λ l B H. same_leaf B H h L.low)))
-          (finished_held s h nodes lookup cache r (coded_held h P.roomy P.roomy.within (omega (arith, L.low))) es ea)) A.long A.rest
+          (plain_held (top (at start h)) (λ B. at start h) (fill_in s) nodes lookup P.roomy h (omega (arith, L.low)) (λ l B H. same_leaf B H h L.low)))
+          (finished_held s h nodes lookup cache r es ea)) A.long A.rest
         where
           leaf_top : (h : ℕ) → h < 2 → top (at start h) ≤ s.limit
           leaf_top h l = by_eq h 0 (λ p t. rw p (omega arith)) (λ d t. let p : h ≡ 1 = omega arith in rw p (omega arith))
@@ -160,23 +124,22 @@ module _ (s : Store) (nodes lookup cache file words : List ℕ) (r : Placed) whe
           same_leaf : {limit : ℕ} (B : List Family) → Holds limit B s.count nodes lookup → (h : ℕ) → h < 2 → at B h ≡ at start h
           same_leaf B H h l = by_eq h 0 (λ p t. rw p (at_0 H)) (λ d t. let p : h ≡ 1 = omega arith in rw p (at_1 H))
 
-      module _ (n : ℕ) (ex : x ≡ Parts n) where
-        R : PartsRead file (length file) words₁ n
-        R = parts_of n ex A.outcome
-
+      module _ {n : ℕ} (A : ContentOf file words (length file) (Some (Parts n)) words₁) where
         -- the word read is the top of the family
-        top_is : top_at words₁ (n + 1) ≡ top (at R.book (n + 1))
-        top_is = top_at_lem R.table (n + 1) (omega arith)
+        top_is : top_at words₁ (n + 1) ≡ top (at A.outcome.book (n + 1))
+        top_is = top_at_lem A.outcome.table (n + 1) (omega arith)
 
-        pub load_above : s.limit < top_at words₁ (n + 1) → r.store ≡ s → r.answer ≡ Refused AboveLimit → LoadCall s nodes lookup cache file words r nodes lookup cache words₁
+        pub load_above : s.limit < top_at words₁ (n + 1) → r.store ≡ s → r.answer ≡ Err AboveLimit → LoadCall s nodes lookup cache file words r nodes lookup cache words₁
         load_above h es ea =
-            kept (refusal_above s.limit file (length words) room (at R.book (n + 1)) R.is (omega (arith, top_is))) refl (call_refused s nodes lookup cache 13 _ r AboveLimit e refl (omega arith) es ea) A.long A.rest
+            kept A (refusal_above s.limit file (length words) (room A) (at A.outcome.book (n + 1)) A.outcome.is (omega (arith, top_is))) refl
+            (call_refused s nodes lookup cache 13 _ r AboveLimit e refl (omega arith) es ea) A.long A.rest
 
-        module _ {held coded : ℕ} {nodes₁ lookup₁ words₂ : List ℕ} (W : PlacedOf (fill_in s) nodes lookup words₁ (length file) n (reached_as s.capacity held coded) nodes₁ lookup₁ words₂) where
-          pub load_parts : top_at words₁ (n + 1) ≤ s.limit → {nodes₂ lookup₂ cache₂ : List ℕ} → Finished s held coded nodes₁ lookup₁ cache r nodes₂ lookup₂ cache₂ → LoadCall s nodes lookup cache file words r nodes₂ lookup₂ cache₂ words₂
-          load_parts h E =
-              let F = at R.book (n + 1) in
-              let low : top F ≤ s.limit = omega (arith, top_is) in
-              kept (refusal_found s.limit file (length words) room F R.is low) (family_found file F R.is)
-              (call_done s nodes lookup cache (λ B. F) e low (plain_ran (top F) (λ B. F) (fill_in s) nodes lookup cache (W.ran R.book R.table R.own)) E)
-              (W.long ∙ A.long) (λ j h. W.rest j h ∙ A.rest j h)
+        pub load_parts : {fill : Fill} {answer : Result ℕ Refusal} {nodes₁ lookup₁ words₂ : List ℕ} → PlacedOf (fill_in s) nodes lookup words₁ (length file) n (reached fill answer) nodes₁ lookup₁ words₂
+            → top_at words₁ (n + 1) ≤ s.limit → {nodes₂ lookup₂ cache₂ : List ℕ} → Finished s fill.count answer nodes₁ lookup₁ cache r nodes₂ lookup₂ cache₂ → LoadCall s nodes lookup cache file words r nodes₂ lookup₂ cache₂ words₂
+        load_parts W h E =
+            let R = A.outcome in
+            let F = at R.book (n + 1) in
+            let low : top F ≤ s.limit = omega (arith, top_is) in
+            kept A (refusal_found s.limit file (length words) (room A) F R.is low) (family_found file F R.is)
+            (call_done s nodes lookup cache (λ B. F) e low (plain_ran (top F) (λ B. F) (fill_in s) nodes lookup cache (W.ran R.book R.table R.own)) E)
+            (W.long ∙ A.long) (λ j h. W.rest j h ∙ A.rest j h)

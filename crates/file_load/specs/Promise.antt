@@ -4,7 +4,8 @@ use Rattle.std.proofs.Math.Option.{Option, none, some}
 use Rattle.family.specs.Family.{Family, empty, top, largest_item}
 use Rattle.family.specs.File.{family_of}
 use Rattle.store.specs.declared.record.Store.{Store}
-use Rattle.store.specs.declared.record.Placed.{Placed}
+use Rattle.store.specs.declared.record.Placement.{Placement}
+use Rattle.store.specs.declared.record.Answered.{Answered}
 use Rattle.store.specs.Capacity.{fitting}
 use Rattle.store.specs.Promise.{PlaceCall}
 
@@ -28,7 +29,7 @@ unfoldable pub load_family : List ℕ → Family
 load_family file = found_family (family_of largest_item file)
 
 -- Load's promise. "Needed scratch words are left free, later ones untouched": of the scratch it says which words stay.
-pub record LoadCall (s : Store) (nodes lookup cache file scratch : List ℕ) (r : Placed) (nodes' lookup' cache' scratch' : List ℕ) : Type 0 where
+pub record LoadCall (s : Store) (nodes lookup cache file scratch : List ℕ) (r : Answered Placement) (nodes' lookup' cache' scratch' : List ℕ) : Type 0 where
   pub places : PlaceCall (load_refusal s.limit file (length scratch)) (load_family file) s nodes lookup cache r nodes' lookup' cache'
   -- after a certain 10 and after 7 the scratch stays
   pub scratch_misfit : fitting s (length nodes) (length lookup) ≡ false → scratch' ≡ scratch

@@ -15,13 +15,14 @@ use Rattle.family.proofs.Diagrams.{mk_node}
 use Rattle.family.proofs.Books.{add_grown, grown_self, grown_trans, grown_length, grown_at}
 use Rattle.family.proofs.Placing.{place_own}
 use Rattle.words.proofs.Cases.{by_lt, by_eq}
-use Rattle.store.specs.Coded.{full_number, answer_of, reached_as}
-use Rattle.store.specs.Inner.{Fill, fill_of, Handle, Reached, Roomy, Holds, Handed, Outcome, gave, Kept}
+use Rattle.std.proofs.Common.{Result, Ok, Err}
+use Rattle.store.specs.declared.record.Fill.{Fill}
+use Rattle.store.specs.declared.record.Refusal.{Refusal}
+use Rattle.store.specs.Inner.{Reached, reached, Roomy, Holds, Handed, Outcome, gave, Kept}
 use Rattle.store_node.specs.Inner.{NodeIt}
 use Rattle.store.proofs.Held.{at_0, at_1, held, within}
 use Rattle.store.proofs.Growing.{kept_self, kept_trans, kept_roomy}
 use Rattle.store.proofs.Answers.{handle_is, handed_of, refused_on, not_both}
-use Rattle.store.proofs.Codes.{coded_handle, coded_held, coded_refused}
 use Rattle.store_node.proofs.Getting.{made_inhabited}
 use Rattle.file_table.specs.Inner.{Local, LocalNode}
 use Rattle.file_place.specs.Inner.{handle_in, Handles, PartAsks, PartsAsks, PlacedOf}
@@ -91,17 +92,17 @@ pub record Stored (limit : ℕ) (B C : List Family) (k b : ℕ) (words : List �
   pub holds : Holds limit (upto B C k) count nodes lookup
   pub means : (p : ℕ) → p < k + 2 → at (upto B C k) (handle_in b words p) ≡ at C p
 
-pub record Turns (s : Fill) (nodes₀ lookup₀ words₀ : List ℕ) (b n k count : ℕ) (nodes lookup words : List ℕ) : Type 0 where
+pub record Turns (s : Fill) (nodes₀ lookup₀ words₀ : List ℕ) (b n k : ℕ) (f : Fill) (nodes lookup words : List ℕ) : Type 0 where
   pub long : length words ≡ length words₀
   pub table : (j : ℕ) → j < 3 * b → get_or words j 0 ≡ get_or words₀ j 0
   pub rest : (j : ℕ) → 6 * b ≤ j → get_or words j 0 ≡ get_or words₀ j 0
   pub most : k ≤ n
-  pub kept : Kept s nodes₀ lookup₀ (fill_of s.capacity count) nodes lookup
-  pub handles : Handles k b count words
-  pub sound : {limit : ℕ} (B C : List Family) → Tops limit C → Holds limit B s.count nodes₀ lookup₀ → Local C n b words₀ → Stored limit B C k b words count nodes lookup
+  pub kept : Kept s nodes₀ lookup₀ f nodes lookup
+  pub handles : Handles k b f.count words
+  pub sound : {limit : ℕ} (B C : List Family) → Tops limit C → Holds limit B s.count nodes₀ lookup₀ → Local C n b words₀ → Stored limit B C k b words f.count nodes lookup
 
 module _ (s : Fill) (nodes₀ lookup₀ words₀ : List ℕ) (b n : ℕ) where
-  pub turns_start : Roomy s nodes₀ lookup₀ → Turns s nodes₀ lookup₀ words₀ b n 0 s.count nodes₀ lookup₀ words₀
+  pub turns_start : Roomy s nodes₀ lookup₀ → Turns s nodes₀ lookup₀ words₀ b n 0 s nodes₀ lookup₀ words₀
   turns_start R =
       record {
         long = refl;
@@ -119,7 +120,7 @@ module _ (s : Fill) (nodes₀ lookup₀ words₀ : List ℕ) (b n : ℕ) where
           (λ e t. rw e (at_0 H ∙ sym (at_0 L)))
           (λ d t. let e : p ≡ 1 = omega arith in rw e (at_1 H ∙ sym (at_1 L)))
 
-module _ {s : Fill} {nodes₀ lookup₀ words₀ : List ℕ} {b n : ℕ} (A : PartsAsks s nodes₀ lookup₀ words₀ b n) {k count : ℕ} {nodes lookup words : List ℕ} (I : Turns s nodes₀ lookup₀ words₀ b n k count nodes lookup words) where
+module _ {s : Fill} {nodes₀ lookup₀ words₀ : List ℕ} {b n : ℕ} (A : PartsAsks s nodes₀ lookup₀ words₀ b n) {k : ℕ} {f : Fill} {nodes lookup words : List ℕ} (I : Turns s nodes₀ lookup₀ words₀ b n k f nodes lookup words) where
   -- a local book that is its last family's own keeps to a limit where that family does
   last_tops : (C : List Family) → Local C n b words₀ → place start (at C (n + 1)) ≡ C → {limit : ℕ} → top (at C (n + 1)) ≤ limit → Tops limit C
   last_tops C L own m = own_tops (at C (n + 1)) (within L (n + 1) (omega arith)).ordered own m
@@ -145,7 +146,7 @@ module _ {s : Fill} {nodes₀ lookup₀ words₀ : List ℕ} {b n : ℕ} (A : Pa
         }
 
     -- what the turn asks
-    pub turns_asks : PartAsks (fill_of s.capacity count) nodes lookup words b k
+    pub turns_asks : PartAsks f nodes lookup words b k
     turns_asks =
         record {
           roomy = kept_roomy I.kept A.roomy;
@@ -155,14 +156,14 @@ module _ {s : Fill} {nodes₀ lookup₀ words₀ : List ℕ} {b n : ℕ} (A : Pa
           below = omega (arith, A.few);
         }
 
-    module _ {m : ℕ} (coded : ℕ) {nodes₁ lookup₁ : List ℕ}
-        (P : NodeIt (fill_of s.capacity count) nodes lookup (get_or words (3 * k) 0) (handle_in b words (get_or words (3 * k + 1) 0)) (handle_in b words (get_or words (3 * k + 2) 0)) (reached_as s.capacity m coded) nodes₁ lookup₁) where
-      kept_on : Kept s nodes₀ lookup₀ (fill_of s.capacity m) nodes₁ lookup₁
+    module _ {f₁ : Fill} (a : Result ℕ Refusal) {nodes₁ lookup₁ : List ℕ}
+        (P : NodeIt f nodes lookup (get_or words (3 * k) 0) (handle_in b words (get_or words (3 * k + 1) 0)) (handle_in b words (get_or words (3 * k + 2) 0)) (reached f₁ a) nodes₁ lookup₁) where
+      kept_on : Kept s nodes₀ lookup₀ f₁ nodes₁ lookup₁
       kept_on = kept_trans I.kept P.kept
 
       -- what the turn gives, in the book so far
       module _ {limit : ℕ} (B C : List Family) (t : Tops limit C) (H : Holds limit B s.count nodes₀ lookup₀) (L : Local C n b words₀) where
-        S : Stored limit B C k b words count nodes lookup
+        S : Stored limit B C k b words f.count nodes lookup
         S = I.sound B C t H L
 
         zero_is : at (upto B C k) (handle_in b words (get_or words (3 * k + 1) 0)) ≡ at C (get_or words₀ (3 * k + 1) 0)
@@ -180,10 +181,10 @@ module _ {s : Fill} {nodes₀ lookup₀ words₀ : List ℕ} {b n : ℕ} (A : Pa
         item_low : get_or words (3 * k) 0 ≤ limit
         item_low = omega (arith, ap top family_is, t.each (at C (k + 2)) (held L (k + 2) (omega arith)))
 
-        turn_answer : Outcome limit (add (upto B C k) (at C (k + 2))) (at C (k + 2)) s.capacity m nodes₁ lookup₁ (answer_of coded)
+        turn_answer : Outcome limit (add (upto B C k) (at C (k + 2))) (at C (k + 2)) s.capacity f₁.count nodes₁ lookup₁ a
         turn_answer =
             let o = is_within.ordered in
-            rw family_is
+            rw (family_is, ← I.kept.same_capacity)
             (rw (
               mk_node (get_or words (3 * k) 0) (at (upto B C k) (handle_in b words (get_or words (3 * k + 1) 0))) (at (upto B C k) (handle_in b words (get_or words (3 * k + 2) 0))) o.2,
               made_inhabited (upto B C k) (get_or words (3 * k) 0) (at (upto B C k) (handle_in b words (get_or words (3 * k + 1) 0))) (at (upto B C k) (handle_in b words (get_or words (3 * k + 2) 0))) o.2,
@@ -193,58 +194,54 @@ module _ {s : Fill} {nodes₀ lookup₀ words₀ : List ℕ} {b n : ℕ} (A : Pa
         inside_local : k + 2 < length C
         inside_local = omega (arith, L.size)
 
-      module _ (low : coded < full_number) {words₁ : List ℕ} (put : words₁ ≡ set words (5 * b + k) coded) where
-        e : answer_of coded ≡ Handle coded
-        e = coded_handle coded low
-
+      module _ {h : ℕ} (e : a ≡ Ok h) {words₁ : List ℕ} (put : words₁ ≡ set words (5 * b + k) h) where
         size : 5 * b + k < length words
         size = omega (arith, A.few, A.room, I.long)
 
-        next : Handles (k + 1) b m words₁
+        next : Handles (k + 1) b f₁.count words₁
         next =
             record {
               each = λ p m. rw put (by_eq p (k + 2)
-                  (λ q t. rw (q, handle_new b words k coded size) (P.handle coded e))
-                  (λ d t. rw (handle_old b words k coded p (omega arith)) (omega (arith, I.handles.each p (omega arith), P.kept.grows))));
+                  (λ q t. rw (q, handle_new b words k h size) (P.handle h e))
+                  (λ d t. rw (handle_old b words k h p (omega arith)) (omega (arith, I.handles.each p (omega arith), P.kept.grows))));
             }
 
-        stored : {limit : ℕ} (B C : List Family) → Tops limit C → Holds limit B s.count nodes₀ lookup₀ → Local C n b words₀ → Stored limit B C (k + 1) b words₁ m nodes₁ lookup₁
+        stored : {limit : ℕ} (B C : List Family) → Tops limit C → Holds limit B s.count nodes₀ lookup₀ → Local C n b words₀ → Stored limit B C (k + 1) b words₁ f₁.count nodes₁ lookup₁
         stored B C t H L =
             let G = handed_of e (turn_answer B C t H L) in
             let old = S B C t H L in
             rw put record {
               holds = rw (upto_next B C k (inside_local B C t H L)) G.holds;
               means = λ p m. rw (upto_next B C k (inside_local B C t H L)) (by_eq p (k + 2)
-                  (λ q t. rw (q, handle_new b words k coded size) G.means)
-                  (λ d t. rw (handle_old b words k coded p (omega arith))
+                  (λ q t. rw (q, handle_new b words k h size) G.means)
+                  (λ d t. rw (handle_old b words k h p (omega arith))
                   (grown_at (add_grown (upto B C k) (at C (k + 2))) (handle_in b words p) (omega (arith, I.handles.each p (omega arith), old.holds.size)) ∙ old.means p (omega arith))));
             }
 
-        pub turns_next : Turns s nodes₀ lookup₀ words₀ b n (k + 1) m nodes₁ lookup₁ words₁
+        pub turns_next : Turns s nodes₀ lookup₀ words₀ b n (k + 1) f₁ nodes₁ lookup₁ words₁
         turns_next =
             record {
-              long = ap length put ∙ length-set words (5 * b + k) coded ∙ I.long;
-              table = λ j m. ap (λ x. get_or x j 0) put ∙ get_or-set_other words (5 * b + k) j coded 0 (omega (arith, A.few)) ∙ I.table j m;
-              rest = λ j m. ap (λ x. get_or x j 0) put ∙ get_or-set_other words (5 * b + k) j coded 0 (omega (arith, A.few)) ∙ I.rest j m;
+              long = ap length put ∙ length-set words (5 * b + k) h ∙ I.long;
+              table = λ j m. ap (λ x. get_or x j 0) put ∙ get_or-set_other words (5 * b + k) j h 0 (omega (arith, A.few)) ∙ I.table j m;
+              rest = λ j m. ap (λ x. get_or x j 0) put ∙ get_or-set_other words (5 * b + k) j h 0 (omega (arith, A.few)) ∙ I.rest j m;
               most = omega arith;
               kept = kept_on;
               handles = next;
               sound = stored;
             }
 
-      pub turns_refused : full_number ≤ coded → PlacedOf s nodes₀ lookup₀ words₀ b n (reached_as s.capacity m coded) nodes₁ lookup₁ words
-      turns_refused l =
-          let q = coded_refused coded l in
+      pub turns_refused : {x : Refusal} → a ≡ Err x → PlacedOf s nodes₀ lookup₀ words₀ b n (reached f₁ a) nodes₁ lookup₁ words
+      turns_refused {x} q =
           record {
             long = I.long;
             rest = I.rest;
             kept = kept_on;
             ran = λ C L own. record {
               kept = kept_on;
-              handle = λ h d. not_both h q.0 d q.1;
+              handle = λ h d. not_both h x d q;
               sound = λ B m H.
                   let t = last_tops C L own m in
-                  refused_on q.0 q.1 (longer C L own B t H) (turn_answer B C t H L);
+                  refused_on x q (longer C L own B t H) (turn_answer B C t H L);
             };
           }
         where
@@ -257,25 +254,24 @@ module _ {s : Fill} {nodes₀ lookup₀ words₀ : List ℕ} {b n : ℕ} (A : Pa
     all : k ≡ n
     all = omega (arith, I.most)
 
-    pub turns_done : (h : ℕ) → h ≡ handle_in b words (n + 1) → PlacedOf s nodes₀ lookup₀ words₀ b n (reached_as s.capacity count h) nodes lookup words
+    pub turns_done : (h : ℕ) → h ≡ handle_in b words (n + 1) → PlacedOf s nodes₀ lookup₀ words₀ b n (reached f (Ok h)) nodes lookup words
     turns_done h eh =
-        let held = coded_held {n = count} h A.roomy I.kept.fits (omega (arith, last)) in
         record {
           long = I.long;
           rest = I.rest;
           kept = I.kept;
           ran = λ C L own. record {
             kept = I.kept;
-            handle = λ g e. omega (arith, handle_is (sym held ∙ e), last);
-            sound = λ B m H. rw (held, eh) (gave {h = handle_in b words (n + 1)} (handed C L own B (last_tops C L own m) H));
+            handle = λ g e. omega (arith, handle_is e, last);
+            sound = λ B m H. rw eh (gave {h = handle_in b words (n + 1)} (handed C L own B (last_tops C L own m) H));
           };
         }
       where
-        last : handle_in b words (n + 1) ≤ count + 1
+        last : handle_in b words (n + 1) ≤ f.count + 1
         last = I.handles.each (n + 1) (omega (arith, all))
 
         handed : (C : List Family) → Local C n b words₀ → place start (at C (n + 1)) ≡ C → {limit : ℕ} (B : List Family) → Tops limit C → Holds limit B s.count nodes₀ lookup₀
-            → Handed limit (place B (at C (n + 1))) (at C (n + 1)) (handle_in b words (n + 1)) count nodes lookup
+            → Handed limit (place B (at C (n + 1))) (at C (n + 1)) (handle_in b words (n + 1)) f.count nodes lookup
         handed C L own B t H =
             let S = I.sound B C t H L in
             let e : place B (at C (n + 1)) ≡ upto B C k = sym (place_own B (at C (n + 1)) H.book) ∙ ap (λ X. foldl add B (drop 2 X)) own ∙ sym (upto_all B C n L.size) ∙ ap (λ j. upto B C j) (sym all) in

@@ -2,7 +2,8 @@
 use Rattle.std.specs.Prelude.{ℕ, ◌+◌, ◌*◌, ◌-◌, ◌≤◌, ◌<◌, ◌≡◌, cond, List, ltb, length, get_or}
 use Rattle.family.specs.Family.{Family, top}
 use Rattle.family.specs.Book.{start, at, place}
-use Rattle.store.specs.Inner.{Fill, Reached, Roomy, Kept, RanPlain}
+use Rattle.store.specs.declared.record.Fill.{Fill}
+use Rattle.store.specs.Inner.{Reached, Roomy, Kept, RanPlain}
 use Rattle.file_table.specs.Inner.{Local, LocalNode, LocalNodes}
 
 -- the handle in the store of a local number

@@ -14,9 +14,8 @@ use Rattle.family.specs.Book.{at, number}
 use Rattle.family.specs.File.{and_then, order}
 use Rattle.store.specs.Inner.{Holds}
 use Rattle.store.proofs.Held.{handle_of, at_node, within}
-use Rattle.file_read.specs.declared.order.Order.{Order}
-use Rattle.file_read.specs.declared.order.Order.TheVariants.{Upto, Broken}
-use Rattle.file_read.specs.Inner.{Walking, went, broken, OrderOf}
+use Rattle.std.proofs.Common.{Some, None}
+use Rattle.file_read.specs.Inner.{OrderOf}
 use Rattle.file_table.specs.Inner.{LocalNodes}
 
 -- a family that is placed already
@@ -30,25 +29,6 @@ order_node : (B : List Family) (i : ℕ) (a b : Family) (n : ℕ) → n ≤ numb
     → order B (node i a b) n ≡ and_then (order B a n) (λ n₁. and_then (order B b n₁) (λ n₂. cond (eqb n₂ (number B (node i a b))) (some (suc n₂)) none))
 order_node B i a b n l = rw (le-ltb (number B (node i a b)) n l)
 
--- what a walk said
-pub went_of : {B : List Family} {p last : ℕ} {x : Order} (m : ℕ) → x ≡ Upto m → Walking B p last x → order B (at B p) (suc last) ≡ some (suc m)
-went_of m e A = out (rw e at A)
-  where
-    out : {B : List Family} {p last m : ℕ} → Walking B p last (Upto m) → order B (at B p) (suc last) ≡ some (suc m)
-    out (went is) = is
-
-pub broken_of : {B : List Family} {p last : ℕ} {x : Order} → x ≡ Broken → Walking B p last x → order B (at B p) (suc last) ≡ none
-broken_of e A = out (rw e at A)
-  where
-    out : {B : List Family} {p last : ℕ} → Walking B p last Broken → order B (at B p) (suc last) ≡ none
-    out (broken is) = is
-
-upto_is : {m n : ℕ} → Upto m ≡ Upto n → m ≡ n
-upto_is e = cc
-
-never : {A : Type 0} {m : ℕ} → Broken ≡ Upto m → A
-never e = absurd (let z : ◌≡◌ {A = ℕ} 0 1 = cc in omega arith)
-
 -- the children of p
 abbrev zero_at : List ℕ → ℕ → ℕ
 zero_at nodes p = get_or nodes (3 * (p - 2) + 1) 0
@@ -57,46 +37,39 @@ abbrev one_at : List ℕ → ℕ → ℕ
 one_at nodes p = get_or nodes (3 * (p - 2) + 2) 0
 
 module _ (nodes : List ℕ) (n p last : ℕ) (lp : p ≤ n + 1) (some' : 1 ≤ last) where
-  pub walk_placed : p ≤ last → OrderOf nodes n p last (Upto last)
-  walk_placed l =
-      record {
-        low = λ m e. omega (arith, upto_is e);
-        sound = λ B lookup H. went (order_placed B (at B p) (suc last) (omega (arith, handle_of H p (omega arith))));
-      }
-
-  module _ (later : last < p) {x : Order} (A : OrderOf nodes n (zero_at nodes p) last x) where
+  module _ (later : last < p) where
     -- the walk of p by its children: each case of `in_order` is one of its cases
     walk_node : {limit : ℕ} {B : List Family} {lookup : List ℕ} → Holds limit B n nodes lookup
         → order B (at B p) (suc last)
         ≡ and_then (order B (at B (zero_at nodes p)) (suc last)) (λ n₁. and_then (order B (at B (one_at nodes p)) n₁) (λ n₂. cond (eqb n₂ p) (some (suc n₂)) none))
-    walk_node {B} H =
+    walk_node {B = B} H =
         let is : at B p ≡ node (get_or nodes (3 * (p - 2)) 0) (at B (zero_at nodes p)) (at B (one_at nodes p)) = at_node H p (omega arith) (omega arith) in
         let number_is = ap (λ X. number B X) (sym is) ∙ handle_of H p (omega arith) in
         ap (λ X. order B X (suc last)) is ∙ order_node B _ _ _ (suc last) (omega (arith, number_is))
         ∙ ap (λ k. and_then (order B (at B (zero_at nodes p)) (suc last)) (λ n₁. and_then (order B (at B (one_at nodes p)) n₁) (λ n₂. cond (eqb n₂ k) (some (suc n₂)) none))) number_is
 
-    walk_broken : ((limit : ℕ) (B : List Family) (lookup : List ℕ) → Holds limit B n nodes lookup → order B (at B p) (suc last) ≡ none) → OrderOf nodes n p last Broken
-    walk_broken f = record { low = λ m d. never d; sound = λ B lookup H. broken (f _ B lookup H) }
+    walk_broken : ((limit : ℕ) (B : List Family) (lookup : List ℕ) → Holds limit B n nodes lookup → order B (at B p) (suc last) ≡ none) → OrderOf nodes n p last None
+    walk_broken f = record { low = tt; sound = λ B lookup H. f _ B lookup H }
 
-    pub walk_first : x ≡ Broken → OrderOf nodes n p last Broken
-    walk_first e = walk_broken (λ l B lookup H. walk_node H ∙ rw (broken_of e (A.sound B lookup H)))
+    pub walk_first : OrderOf nodes n (zero_at nodes p) last None → OrderOf nodes n p last None
+    walk_first A = walk_broken (λ l B lookup H. walk_node H ∙ rw (A.sound B lookup H))
 
-    module _ (first : ℕ) (e₁ : x ≡ Upto first) {y : Order} (A' : OrderOf nodes n (one_at nodes p) first y) where
-      pub walk_second : y ≡ Broken → OrderOf nodes n p last Broken
-      walk_second e = walk_broken (λ l B lookup H. walk_node H ∙ rw (went_of first e₁ (A.sound B lookup H), broken_of e (A'.sound B lookup H)))
+    module _ {first : ℕ} (A : OrderOf nodes n (zero_at nodes p) last (Some first)) where
+      pub walk_second : OrderOf nodes n (one_at nodes p) first None → OrderOf nodes n p last None
+      walk_second Q = walk_broken (λ l B lookup H. walk_node H ∙ rw (A.sound B lookup H, Q.sound B lookup H))
 
-      module _ (second : ℕ) (e₂ : y ≡ Upto second) where
-        pub walk_other : (p - 1 ≡ second → ⊥) → OrderOf nodes n p last Broken
+      module _ {second : ℕ} (Q : OrderOf nodes n (one_at nodes p) first (Some second)) where
+        pub walk_other : (p - 1 ≡ second → ⊥) → OrderOf nodes n p last None
         walk_other d =
             walk_broken (λ l B lookup H. walk_node H
-            ∙ rw (went_of first e₁ (A.sound B lookup H), went_of second e₂ (A'.sound B lookup H), ne_eqb (suc second) p (λ q. d (omega arith))))
+            ∙ rw (A.sound B lookup H, Q.sound B lookup H, ne_eqb (suc second) p (λ q. d (omega arith))))
 
-        pub walk_next : p - 1 ≡ second → OrderOf nodes n p last (Upto p)
+        pub walk_next : p - 1 ≡ second → OrderOf nodes n p last (Some p)
         walk_next d =
             record {
-              low = λ m e. omega (arith, upto_is e);
-              sound = λ B lookup H. let e : suc second ≡ p = omega arith in went {m = p} (walk_node H
-                  ∙ rw (went_of first e₁ (A.sound B lookup H), went_of second e₂ (A'.sound B lookup H), eq-eqb (suc second) p e) (ap (λ m. some (suc m)) e));
+              low = omega arith;
+              sound = λ B lookup H. let e : suc second ≡ p = omega arith in walk_node H
+                  ∙ rw (A.sound B lookup H, Q.sound B lookup H, eq-eqb (suc second) p e) (ap (λ m. some (suc m)) e);
             }
 
 -- a local book's nodes

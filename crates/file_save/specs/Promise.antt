@@ -1,18 +1,17 @@
 -- The promise of Save: document 01, 'Calls', 'The file' and 'Numbers and trade words'.
-use Rattle.std.specs.Prelude.{ℕ, ◌≡◌, false, cond, List, [], ◌++◌, eqb, ltb, length, drop}
+use Rattle.std.specs.Prelude.{ℕ, ◌≡◌, false, cond, List, [], ◌++◌, eqb, ltb, length, drop, Result, Ok, Err}
 use Rattle.family.specs.Family.{Family}
 use Rattle.family.specs.Book.{at}
 use Rattle.family.specs.File.{file_of}
 use Rattle.store.specs.declared.record.Store.{Store}
+use Rattle.store.specs.declared.record.Refusal.{Refusal}
 use Rattle.store.specs.declared.record.Refusal.TheVariants.{Damaged}
+use Rattle.store.specs.declared.record.Answered.{Answered}
 use Rattle.store.specs.Capacity.{fitting}
 use Rattle.store.specs.Refusals.{refusal_number}
 use Rattle.store.specs.Scratch.{scratch_tests}
 use Rattle.store.specs.Words.{book_of}
 use Rattle.store.specs.Sound.{Sound}
-use Rattle.file_save.specs.declared.SaveAnswer.{SaveAnswer}
-use Rattle.file_save.specs.declared.SaveAnswer.TheVariants.{Length, Refused}
-use Rattle.file_save.specs.declared.Saved.{Saved}
 
 -- what Save gives besides the record and the bytes: the refusal's number, 0 where there is none, and the file's
 -- length, 0 where it is refused
@@ -21,9 +20,9 @@ pub record SaveGiven : Type 0 where
   pub file_length : ℕ
 
 -- the same of an answer
-abbrev pub save_given_by : SaveAnswer → SaveGiven
-save_given_by (Length n) = record { refusal = 0; file_length = n }
-save_given_by (Refused r) = record { refusal = refusal_number r; file_length = 0 }
+abbrev pub save_given_by : Result ℕ Refusal → SaveGiven
+save_given_by (Ok n) = record { refusal = 0; file_length = n }
+save_given_by (Err r) = record { refusal = refusal_number r; file_length = 0 }
 
 -- 4 and 7, "one 32-bit word per node held", then 8: "output shorter than the file"
 unfoldable pub save_refusal : List Family → ℕ → ℕ → ℕ → ℕ
@@ -40,9 +39,9 @@ save_output B p words out = cond (eqb (save_refusal B p words (length out)) 0) (
 
 -- Save's promise. It changes no store word, and hands the record back as it came. "Needed scratch words are left
 -- free, later ones untouched": of the scratch it says which words stay.
-pub record SaveCall (s : Store) (nodes lookup : List ℕ) (p : ℕ) (scratch out : List ℕ) (r : Saved) (scratch' out' : List ℕ) : Type 0 where
+pub record SaveCall (s : Store) (nodes lookup : List ℕ) (p : ℕ) (scratch out : List ℕ) (r : Answered ℕ) (scratch' out' : List ℕ) : Type 0 where
   -- a certain 10
-  pub misfit : fitting s (length nodes) (length lookup) ≡ false → (r.answer ≡ Refused Damaged) × (scratch' ≡ scratch) × (out' ≡ out)
+  pub misfit : fitting s (length nodes) (length lookup) ≡ false → (r.answer ≡ Err Damaged) × (scratch' ≡ scratch) × (out' ≡ out)
   -- a sound store; no cache is lent
   pub answer_is : Sound s nodes lookup [] → save_given_by r.answer ≡ save_answer (book_of nodes s.count) p (length scratch) (length out)
   pub out_is : Sound s nodes lookup [] → out' ≡ save_output (book_of nodes s.count) p (length scratch) out

@@ -12,26 +12,12 @@ ghost use Rattle.file_save.specs.Inner.{LeafOf, FileOf, SavePartsAsks, PartsOf};
 
 use file_record::write::put_field;
 use file_trail::trail::Trail;
-use file_trail::walk::{Walked, walk};
+use file_trail::walk::walk;
 use file_write::write_parts;
-use store::record::{Refusal, Store};
-use store::tests::{Test, tested};
+use store::record::{Answered, Refusal, Store};
+use store::tests::tested;
 use store_sides::top_of;
 use words::zero;
-
-// What Save answers.
-#[derive(Clone, Copy)]
-pub enum SaveAnswer {
-    Length(usize),
-    Refused(Refusal),
-}
-
-// What Save gives back.
-#[derive(Clone, Copy)]
-pub struct Saved {
-    pub store: Store,
-    pub answer: SaveAnswer,
-}
 
 // The byte of {} or {{}}.
 fn leaf_byte(p: u32) -> u8
@@ -40,21 +26,15 @@ fn leaf_byte(p: u32) -> u8
     if p == 0 { 0 } else { 2 }
 }
 
-// The file of {} or {{}}.
-fn save_leaf(store: Store, p: u32, out: &mut [u8]) -> Saved
-    ensures { LeafOf store p out.old result out.new }
+// Writes the file of {} or {{}}, and gives its length.
+fn save_leaf(p: u32, out: &mut [u8]) -> Result<usize, Refusal>
+    ensures { LeafOf p out.old result out.new }
 {
-    if 0 < out.len() {
-        out[0] = leaf_byte(p);
-        return Saved {
-            store: store,
-            answer: SaveAnswer::Length(1),
-        };
+    if out.is_empty() {
+        return Err(Refusal::Output);
     }
-    Saved {
-        store: store,
-        answer: SaveAnswer::Refused(Refusal::Output),
-    }
+    out[0] = leaf_byte(p);
+    Ok(1)
 }
 
 // Writes the first five bytes: 01 and the number of parts.
@@ -66,8 +46,14 @@ fn put_header(out: &mut [u8], parts: u32)
     put_field(out, 1, 4, true, parts);
 }
 
-// Writes the file of the parts of a trail; false on words that no sound store has.
-fn write_file(trail: Trail, nodes: &[u32], count: u32, links: &mut [u32], out: &mut [u8]) -> bool
+// Writes the file of the parts of a trail; None on words that no sound store has.
+fn write_file(
+    trail: Trail,
+    nodes: &[u32],
+    count: u32,
+    links: &mut [u32],
+    out: &mut [u8],
+) -> Option<()>
     requires lent { Lent nodes.now count links.old }
     requires head_room { HeadRoom trail.parts out.old }
     ensures { FileOf trail nodes.now count links.old out.old result links.new out.new }
@@ -76,18 +62,21 @@ fn write_file(trail: Trail, nodes: &[u32], count: u32, links: &mut [u32], out: &
     write_parts(trail.first, trail.parts, nodes, count, links, out)
 }
 
-// The file of a family with parts.
-fn save_parts(store: Store, nodes: &[u32], p: u32, links: &mut [u32], out: &mut [u8]) -> Saved
+// Writes the file of a family with parts, and gives its length.
+fn save_parts(
+    store: Store,
+    nodes: &[u32],
+    p: u32,
+    links: &mut [u32],
+    out: &mut [u8],
+) -> Result<usize, Refusal>
     requires { SavePartsAsks store nodes.now p links.old }
     ensures { PartsOf store p nodes.now links.old out.old result links.new out.new }
 {
     let count = store.count;
     let top = top_of(nodes, count, p);
     if store.limit < top {
-        return Saved {
-            store: store,
-            answer: SaveAnswer::Refused(Refusal::Damaged),
-        };
+        return Err(Refusal::Damaged);
     }
     zero(links, 0, count as usize);
     let start = Trail {
@@ -97,29 +86,40 @@ fn save_parts(store: Store, nodes: &[u32], p: u32, links: &mut [u32], out: &mut 
         parts: 0,
         bytes: 5,
     };
-    let Walked::Went(trail) = walk(start, p, top, nodes, count, links) else {
-        return Saved {
-            store: store,
-            answer: SaveAnswer::Refused(Refusal::Damaged),
-        };
-    };
-    let bytes = trail.bytes;
-    if out.len() < bytes {
-        return Saved {
-            store: store,
-            answer: SaveAnswer::Refused(Refusal::Output),
-        };
+    let trail = walk(start, p, top, nodes, count, links).ok_or(Refusal::Damaged)?;
+    if out.len() < trail.bytes {
+        return Err(Refusal::Output);
     }
-    if !write_file(trail, nodes, count, links, out) {
-        return Saved {
-            store: store,
-            answer: SaveAnswer::Refused(Refusal::Damaged),
-        };
+    write_file(trail, nodes, count, links, out).ok_or(Refusal::Damaged)?;
+    Ok(trail.bytes)
+}
+
+// What Save answers: the length of the file that it wrote, or a refusal.
+fn saved(
+    store: Store,
+    nodes: &[u32],
+    lookup: &[u32],
+    p: u32,
+    links: &mut [u32],
+    out: &mut [u8],
+) -> Result<usize, Refusal>
+    ensures { SaveCall store nodes.now lookup.now p links.old out.old (record { store = store; answer = result }) links.new out.new }
+{
+    let need = store.count as usize;
+    tested(
+        store,
+        nodes.len(),
+        lookup.len(),
+        p,
+        0,
+        Ok(()),
+        links.len(),
+        need,
+    )?;
+    if p < 2 {
+        return save_leaf(p, out);
     }
-    Saved {
-        store: store,
-        answer: SaveAnswer::Length(bytes),
-    }
+    save_parts(store, nodes, p, links, out)
 }
 
 // Writes the file of p to the front of the output, and gives its length.
@@ -130,27 +130,8 @@ pub fn save(
     p: u32,
     links: &mut [u32],
     out: &mut [u8],
-) -> Saved
+) -> Answered<usize>
     ensures { SaveCall store nodes.now lookup.now p links.old out.old result links.new out.new }
 {
-    let found = tested(
-        store,
-        nodes.len(),
-        lookup.len(),
-        p,
-        0,
-        Test::Clear,
-        links.len(),
-        store.count as usize,
-    );
-    if let Test::Refuses(refusal) = found {
-        return Saved {
-            store: store,
-            answer: SaveAnswer::Refused(refusal),
-        };
-    }
-    if p < 2 {
-        return save_leaf(store, p, out);
-    }
-    save_parts(store, nodes, p, links, out)
+    store.answered(saved(store, nodes, lookup, p, links, out))
 }

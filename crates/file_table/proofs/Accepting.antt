@@ -3,13 +3,16 @@
 -- table's answer.
 use Prim.Native.Nat.{ℕ, ◌+◌, ◌≤◌, ◌<◌}
 use mathlib.Core.Path.{◌≡◌, refl}
-use mathlib.Core.Bool.{Bool, true, false}
+use mathlib.Core.Bool.{true, false}
 use mathlib.Core.List.{List}
+use Rattle.std.specs.Prelude.{⊤, MatchOption, IfSome}
+use Rattle.std.proofs.Common.{Option, Some, None}
+use lib.ListN.{length}
 use native.Mathlib.Omega.{arith}
-use lib.Dec.{ltb, leb}
-use borrow.Author.Tests.{lt-ltb, le-ltb, le-leb, lt-leb, ltb-true, leb-true}
+use lib.Dec.{leb}
+use borrow.Author.Tests.{lt-ltb, le-leb, ltb-true, leb-true}
 use Rattle.family.specs.Family.{Family, node, top, Within, largest_item}
-use Rattle.family.specs.Book.{at}
+use Rattle.family.specs.Book.{at, number, Held}
 use Rattle.family.specs.Record.{triple}
 use Rattle.family.specs.File.{fits}
 use Rattle.family.proofs.Reading.{Next, fits_next, next_fits}
@@ -17,7 +20,7 @@ use Rattle.words.proofs.Cases.{by_test, clash, and_inv}
 use Rattle.store.specs.Words.{top_at}
 use Rattle.store.proofs.Held.{top_at_lem, within, positive_one}
 use Rattle.file_record.specs.declared.field.Part.{Part}
-use Rattle.file_table.specs.Inner.{Local, follows, Entering, new, old, EnterOf, PartTaken, fit, unfit, TakeOf}
+use Rattle.file_table.specs.Inner.{Local, follows, Entered, EnterOf, PartTaken, TakeOf}
 
 -- what the tests say
 pub record CanFollow (words : List ℕ) (k i z o : ℕ) : Type 0 where
@@ -54,35 +57,6 @@ module _ (words : List ℕ) (k i z o : ℕ) where
         lt-ltb (top_at words o) i f.one_low,
       )
 
-  -- the tests in their order
-  pub next_item : largest_item < i → false ≡ follows words k i z o
-  unfolding follows
-  next_item h = rw (lt-leb i largest_item h)
-
-  module _ (h₁ : i ≤ largest_item) where
-    pub next_zero : k + 1 < z → false ≡ follows words k i z o
-    unfolding follows
-    next_zero h = rw (le-leb i largest_item h₁, lt-leb z (k + 1) h)
-
-    module _ (h₂ : z ≤ k + 1) where
-      pub next_one : k + 1 < o → false ≡ follows words k i z o
-      unfolding follows
-      next_one h = rw (le-leb i largest_item h₁, le-leb z (k + 1) h₂, lt-leb o (k + 1) h)
-
-      module _ (h₃ : o ≤ k + 1) where
-        pub next_none : o ≡ 0 → false ≡ follows words k i z o
-        unfolding follows
-        next_none h = rw (le-leb i largest_item h₁, le-leb z (k + 1) h₂, le-leb o (k + 1) h₃, le-ltb 0 o (omega arith))
-
-        module _ (h₄ : o ≡ 0 → ⊥) where
-          pub next_top : i ≤ top_at words z → false ≡ follows words k i z o
-          unfolding follows
-          next_top h = rw (le-leb i largest_item h₁, le-leb z (k + 1) h₂, le-leb o (k + 1) h₃, lt-ltb 0 o (omega arith), le-ltb (top_at words z) i h)
-
-          pub next_last : top_at words z < i → ltb (top_at words o) i ≡ follows words k i z o
-          unfolding follows
-          next_last h = rw (le-leb i largest_item h₁, le-leb z (k + 1) h₂, le-leb o (k + 1) h₃, lt-ltb 0 o (omega arith), lt-ltb (top_at words z) i h)
-
 -- the tests are those of the definition, but for whether the node is held
 module _ (words : List ℕ) (b k : ℕ) (part : Part) where
   module _ {C : List Family} (H : Local C k b words) where
@@ -117,9 +91,9 @@ module _ (words : List ℕ) (b k : ℕ) (part : Part) where
             low = f.item;
           }
 
-      taken : {r : Bool} {words' : List ℕ} → Entering C (node part.item (at C part.zero) (at C part.one)) k b words' r → PartTaken C part k b words' r
-      taken (new l L) =
-          fit (next_fits largest_item C part.item part.zero part.one (record {
+      next : length C ≤ number C (node part.item (at C part.zero) (at C part.one)) → Next largest_item C part.item part.zero part.one
+      next l =
+          record {
             item = f.item;
             zero_in = omega (arith, f.zero_in, H.size);
             one_in = omega (arith, f.one_in, H.size);
@@ -127,27 +101,35 @@ module _ (words : List ℕ) (b k : ℕ) (part : Part) where
             zero_low = zero_top;
             one_low = one_top;
             new = l;
-          })) L
-      taken (old h) =
-          unfit (by_test (fits largest_item C (triple part.item part.zero part.one))
-          (λ e. absurd (omega (arith, h, (fits_next largest_item C part.item part.zero part.one e).new))) (λ e. e))
+          }
 
-  pub take_unfit : follows words k part.item part.zero part.one ≡ false → TakeOf words b k part false words
+      taken : (r : Option ⊤) (words' : List ℕ) → MatchOption r (Held C (node part.item (at C part.zero) (at C part.one))) (λ _. Entered C (node part.item (at C part.zero) (at C part.one)) k b words')
+          → MatchOption r (fits largest_item C (triple part.item part.zero part.one) ≡ false) (λ _. PartTaken C part k b words')
+      taken (Some u) words' E = record { fit = next_fits largest_item C part.item part.zero part.one (next E.new); table = E.table }
+      taken None words' h =
+          by_test (fits largest_item C (triple part.item part.zero part.one))
+          (λ e. absurd (omega (arith, h, (fits_next largest_item C part.item part.zero part.one e).new))) (λ e. e)
+
+  pub take_unfit : follows words k part.item part.zero part.one ≡ false → TakeOf words b k part None words
   take_unfit e =
       record {
         long = refl;
         rest = λ j h. refl;
-        low = λ d. clash d refl;
-        sound = λ C H. unfit (by_test (fits largest_item C (triple part.item part.zero part.one))
-            (λ d. clash (is_follows words k part.item part.zero part.one (next_follows H (fits_next largest_item C part.item part.zero part.one d))) e) (λ d. d));
+        low = tt;
+        sound = λ C H. by_test (fits largest_item C (triple part.item part.zero part.one))
+            (λ d. clash (is_follows words k part.item part.zero part.one (next_follows H (fits_next largest_item C part.item part.zero part.one d))) e) (λ d. d);
       }
 
-  pub take_entered : follows words k part.item part.zero part.one ≡ true → (r : Bool) {words' : List ℕ} → EnterOf words b k part.item part.zero part.one r words' → TakeOf words b k part r words'
-  take_entered e r E =
+  pub take_entered : follows words k part.item part.zero part.one ≡ true → (r : Option ⊤) {words' : List ℕ} → EnterOf words b k part.item part.zero part.one r words' → TakeOf words b k part r words'
+  take_entered e r {words'} E =
       let f = follows_is words k part.item part.zero part.one e in
       record {
         long = E.long;
         rest = E.rest;
-        low = λ d. f.item;
-        sound = λ C H. taken H f (E.sound C H (omega (arith, f.zero_in)) (omega (arith, f.one_in)) (is_within H f));
+        low = item_low r f.item;
+        sound = λ C H. taken H f r words' (E.sound C H (omega (arith, f.zero_in)) (omega (arith, f.one_in)) (is_within H f));
       }
+    where
+      item_low : (r : Option ⊤) → part.item ≤ largest_item → IfSome r (λ _. part.item ≤ largest_item)
+      item_low (Some u) h = h
+      item_low None h = tt

@@ -1,6 +1,6 @@
 -- The local table in Load's scratch, and what its functions promise each other. A reader of the promise can pass
 -- this page over.
-use Rattle.std.specs.Prelude.{ℕ, ◌+◌, ◌*◌, ◌≤◌, ◌<◌, ◌≡◌, Bool, true, false, ◌&&◌, List, [], ◌∷◌, ◌++◌, ltb, leb, length, get_or, take, drop}
+use Rattle.std.specs.Prelude.{ℕ, ◌+◌, ◌*◌, ◌≤◌, ◌<◌, ◌≡◌, Bool, true, false, ◌&&◌, Option, MatchOption, IfSome, ⊤, List, [], ◌∷◌, ◌++◌, ltb, leb, length, get_or, take, drop}
 use Rattle.family.specs.Family.{Family, node, Within, largest_item}
 use Rattle.family.specs.Book.{at, number, Held}
 use Rattle.family.specs.Record.{triple}
@@ -34,28 +34,29 @@ pub record EnterAsks (words : List ℕ) (b k item : ℕ) : Type 0 where
 unfoldable pub follows : List ℕ → ℕ → ℕ → ℕ → ℕ → Bool
 follows words k i z o = leb i largest_item && (leb z (k + 1) && (leb o (k + 1) && (ltb 0 o && (ltb (top_at words z) i && ltb (top_at words o) i))))
 
--- a node entered: new at the end of the local book, or held there
-pub data Entering (C : List Family) (F : Family) (k b : ℕ) (words : List ℕ) : Bool → Type 0 where
-  new : length C ≤ number C F → Local (C ++ (F ∷ [])) (k + 1) b words → Entering C F k b words true
-  old : Held C F → Entering C F k b words false
+-- a node entered at the end of the local book
+pub record Entered (C : List Family) (F : Family) (k b : ℕ) (words : List ℕ) : Type 0 where
+  pub new : length C ≤ number C F
+  pub table : Local (C ++ (F ∷ [])) (k + 1) b words
 
 -- what `enter` does: the words after the scratch of the file stay
-pub record EnterOf (words : List ℕ) (b k i z o : ℕ) (r : Bool) (words' : List ℕ) : Type 0 where
+pub record EnterOf (words : List ℕ) (b k i z o : ℕ) (r : Option ⊤) (words' : List ℕ) : Type 0 where
   pub long : length words' ≡ length words
   pub rest : (j : ℕ) → 6 * b ≤ j → get_or words' j 0 ≡ get_or words j 0
-  pub sound : (C : List Family) → Local C k b words → z < k + 2 → o < k + 2 → Within largest_item (node i (at C z) (at C o)) → Entering C (node i (at C z) (at C o)) k b words' r
+  pub sound : (C : List Family) → Local C k b words → z < k + 2 → o < k + 2 → Within largest_item (node i (at C z) (at C o))
+      → MatchOption r (Held C (node i (at C z) (at C o))) (λ _. Entered C (node i (at C z) (at C o)) k b words')
 
--- a part taken as the next node of the local book, or one that does not fit
-pub data PartTaken (C : List Family) (part : Part) (k b : ℕ) (words : List ℕ) : Bool → Type 0 where
-  fit : fits largest_item C (triple part.item part.zero part.one) ≡ true → Local (C ++ (node part.item (at C part.zero) (at C part.one) ∷ [])) (k + 1) b words → PartTaken C part k b words true
-  unfit : fits largest_item C (triple part.item part.zero part.one) ≡ false → PartTaken C part k b words false
+-- a part taken as the next node of the local book
+pub record PartTaken (C : List Family) (part : Part) (k b : ℕ) (words : List ℕ) : Type 0 where
+  pub fit : fits largest_item C (triple part.item part.zero part.one) ≡ true
+  pub table : Local (C ++ (node part.item (at C part.zero) (at C part.one) ∷ [])) (k + 1) b words
 
 -- what `take_part` does: the words after the scratch of the file stay
-pub record TakeOf (words : List ℕ) (b k : ℕ) (part : Part) (r : Bool) (words' : List ℕ) : Type 0 where
+pub record TakeOf (words : List ℕ) (b k : ℕ) (part : Part) (r : Option ⊤) (words' : List ℕ) : Type 0 where
   pub long : length words' ≡ length words
   pub rest : (j : ℕ) → 6 * b ≤ j → get_or words' j 0 ≡ get_or words j 0
-  pub low : r ≡ true → part.item ≤ largest_item
-  pub sound : (C : List Family) → Local C k b words → PartTaken C part k b words' r
+  pub low : IfSome r (λ _. part.item ≤ largest_item)
+  pub sound : (C : List Family) → Local C k b words → MatchOption r (fits largest_item C (triple part.item part.zero part.one) ≡ false) (λ _. PartTaken C part k b words')
 
 -- the words of a local node
 pub record LocalNode (words : List ℕ) (k : ℕ) : Type 0 where

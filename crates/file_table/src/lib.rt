@@ -11,31 +11,22 @@ use table::probe::probe;
 
 // Whether a part can come after k others: an item up to 512, children that stand before it and have smaller
 // tops, one child not 0.
+#[tactic(auto, unfolding(crate::specs::Inner::follows))]
 fn is_next(words: &[u32], k: u32, part: Part) -> bool
     requires k_in_bounds { 3 * k ≤ length words.now }
     requires k_bound { k < 4294967295 }
     ensures { result ≡ follows words.now k part.item part.zero part.one }
 {
-    if 512 < part.item {
-        return false;
-    }
-    if k + 1 < part.zero {
-        return false;
-    }
-    if k + 1 < part.one {
-        return false;
-    }
-    if part.one == 0 {
-        return false;
-    }
-    if part.item <= top_of(words, k, part.zero) {
-        return false;
-    }
-    top_of(words, k, part.one) < part.item
+    part.item <= 512
+        && part.zero <= k + 1
+        && part.one <= k + 1
+        && 0 < part.one
+        && top_of(words, k, part.zero) < part.item
+        && top_of(words, k, part.one) < part.item
 }
 
-// Enters a part behind k others; false where its words stand there already.
-fn enter(words: &mut [u32], bytes: usize, k: u32, part: Part) -> bool
+// Enters a part behind k others; None where its words stand there already.
+fn enter(words: &mut [u32], bytes: usize, k: u32, part: Part) -> Option<()>
     requires { EnterAsks words.old bytes k part.item }
     ensures { EnterOf words.old bytes k part.item part.zero part.one result words.new }
 {
@@ -46,29 +37,26 @@ fn enter(words: &mut [u32], bytes: usize, k: u32, part: Part) -> bool
         part.item,
         part.zero,
         part.one,
-    );
-    if 2 * bytes <= slot {
-        return false;
-    }
+    )?;
     let at = 3 * bytes + slot;
     if words[at] != 0 {
-        return false;
+        return None;
     }
     let base = 3 * k as usize;
     words[base] = part.item;
     words[base + 1] = part.zero;
     words[base + 2] = part.one;
     words[at] = k + 2;
-    true
+    Some(())
 }
 
-// Takes a part behind k others; false where it can not come next.
-pub fn take_part(words: &mut [u32], bytes: usize, k: u32, part: Part) -> bool
+// Takes a part behind k others; None where it can not come next.
+pub fn take_part(words: &mut [u32], bytes: usize, k: u32, part: Part) -> Option<()>
     requires { TableRoom words.old bytes k }
     ensures { TakeOf words.old bytes k part result words.new }
 {
     if !is_next(words, k, part) {
-        return false;
+        return None;
     }
     enter(words, bytes, k, part)
 }

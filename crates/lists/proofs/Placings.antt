@@ -11,7 +11,8 @@ use Rattle.family.specs.Family.{Family}
 use Rattle.family.specs.Book.{number, place, Grown}
 use Rattle.family.proofs.Books.{grown_self}
 use Rattle.family.proofs.Placing.{place_grown, book_place}
-use Rattle.store.specs.declared.record.Placed.{Placed}
+use Rattle.store.specs.declared.record.Placement.{Placement}
+use Rattle.store.specs.declared.record.Answered.{Answered}
 use Rattle.store.specs.Refusals.{Given, refused_by, given_by}
 use Rattle.store.specs.Words.{book_of, nodes_with}
 use Rattle.store.specs.Placing.{cost_of, too_large, place_answer}
@@ -49,7 +50,7 @@ module _ {bounds : Bounds} {B : List Family} {call : Call} {n : ℕ} {F : Family
   unfolding book_answer book_effect place_answer
   book_placed e t = record { answers = rw (K.act, e, t); does = rw (K.act, e, t) }
 
-  module _ {slots : ℕ} {x : State} (I : Inv bounds slots B x) (lent : ℕ) {r : Placed} {nodes lookup part : List ℕ}
+  module _ {slots : ℕ} {x : State} (I : Inv bounds slots B x) (lent : ℕ) {r : Answered Placement} {nodes lookup part : List ℕ}
       (P : PlaceCall n F x.store x.nodes x.lookup (take lent x.cache) r nodes lookup part) where
     promised : PlacedSound n F x.store x.nodes x.lookup (take lent x.cache) r nodes lookup part
     promised = P.on_sound (sound_with (take lent x.cache) I.sound (lent_true x.cache lent I.sound.cached))

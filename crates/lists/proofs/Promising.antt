@@ -3,7 +3,7 @@
 -- cache that was true stays so as the book grows, and one of zeros is true of every book.
 use Prim.Native.Nat.{ℕ, ◌*◌, ◌-◌, ◌/◌, ◌≤◌}
 use mathlib.Core.Path.{◌≡◌, refl, sym}
-use mathlib.Core.Bool.{true, false}
+use mathlib.Core.Bool.{Bool, true, false}
 use mathlib.Core.List.{List, []}
 use native.Mathlib.Omega.{arith}
 use lib.ListN.{length}
@@ -16,9 +16,11 @@ use Rattle.family.specs.Book.{at, number, place}
 use Rattle.family.specs.File.{file_of}
 use Rattle.family.proofs.Placing.{place_grown, book_place}
 use Rattle.store.specs.declared.record.Store.{Store}
+use Rattle.std.proofs.Common.{Result, Ok, Err}
+use Rattle.store.specs.declared.record.Refusal.{Refusal}
 use Rattle.store.specs.declared.record.Refusal.TheVariants.{Full}
-use Rattle.store.specs.declared.record.PlaceAnswer.TheVariants.{Handle, Refused}
-use Rattle.store.specs.declared.record.Placed.{Placed}
+use Rattle.store.specs.declared.record.Placement.{Placement}
+use Rattle.store.specs.declared.record.Answered.{Answered}
 use Rattle.store.specs.Capacity.{counting}
 use Rattle.store.specs.Refusals.{refusal_number}
 use Rattle.store.specs.Words.{book_of, nodes_with, lookup_of}
@@ -30,22 +32,10 @@ use Rattle.store.proofs.Ways.{way_full, way_placed}
 use Rattle.store.proofs.Decoding.{sound_holds}
 use Rattle.store.proofs.Sounds.{zeroed_true, sound_with}
 use Rattle.store.proofs.Cached.{true_grown}
-use Rattle.query_size.specs.declared.Measured.{Measured}
-use Rattle.query_size.specs.declared.SizeAnswer.{SizeAnswer}
-use Rattle.query_size.specs.declared.SizeAnswer.TheVariants.{Members, Refused as SizeRefused}
 use Rattle.query_size.specs.Promise.{SizeEntry, by_node, by_part, size_given_by, size_answer, size_scratch, SizeCall}
 use Rattle.query_size_compact.specs.Promise.{CompactCall}
-use Rattle.query_has.specs.declared.Asked.{Asked}
-use Rattle.query_has.specs.declared.HasAnswer.{HasAnswer}
-use Rattle.query_has.specs.declared.HasAnswer.TheVariants.{Yes, No, Refused as HasRefused}
 use Rattle.query_has.specs.Promise.{has_given_by, has_answer, HasCall}
-use Rattle.query_weight.specs.declared.answer.Weighed.{Weighed}
-use Rattle.query_weight.specs.declared.answer.WeightAnswer.{WeightAnswer}
-use Rattle.query_weight.specs.declared.answer.WeightAnswer.TheVariants.{Sum, Refused as WeightRefused}
 use Rattle.query_weight.specs.Promise.{Way, sum_by, weight_given_by, weight_answer, WeightCall}
-use Rattle.file_save.specs.declared.Saved.{Saved}
-use Rattle.file_save.specs.declared.SaveAnswer.{SaveAnswer}
-use Rattle.file_save.specs.declared.SaveAnswer.TheVariants.{Length, Refused as SaveRefused}
 use Rattle.file_save.specs.Promise.{save_given_by, save_answer, save_output, SaveCall}
 use Rattle.store_audit.specs.Promise.{AuditCall}
 use Rattle.lists.proofs.Numbers.{Refusing, nothing, refuses, has_refusing, by_refusing, size_refusing, weight_refusing, save_refusing, size_long, save_long}
@@ -53,7 +43,7 @@ use Rattle.lists.proofs.Laying.{looked_long, laid_long, laid_sound}
 
 -- a call that places
 pub record PlacesKept (n : ℕ) (F : Family) (s : Store) (nodes lookup cache : List ℕ) : Type 0 where
-  pub r : Placed
+  pub r : Answered Placement
   pub nodes' : List ℕ
   pub lookup' : List ℕ
   pub cache' : List ℕ
@@ -66,7 +56,7 @@ module _ (F : Family) {s : Store} {nodes lookup cache : List ℕ} (S : Sound s n
   kept_full f =
       let long = zeroed_length 0 (length cache / 4 * 4) cache (omega arith) (omega arith) in
       record {
-        r = record { store = s; answer = Refused Full };
+        r = record { store = s; answer = Err Full };
         nodes' = nodes;
         lookup' = lookup;
         cache' = zeroed 0 (length cache / 4 * 4) cache;
@@ -101,7 +91,7 @@ module _ (F : Family) {s : Store} {nodes lookup cache : List ℕ} (S : Sound s n
         let K = (book_place B F (sound_holds S).book w).0 in
         let room : 3 * s.capacity ≤ length nodes = omega (arith, S.capacity_is) in
         record {
-          r = record { store = counting s (length C - 2); answer = Handle (number C F) (cost_of B F) };
+          r = record { store = counting s (length C - 2); answer = Ok (record { handle = number C F; added = cost_of B F }) };
           nodes' = nodes_with s.capacity C nodes;
           lookup' = lookup_of (length lookup) C;
           cache' = cache;
@@ -125,29 +115,29 @@ module _ (F : Family) {s : Store} {nodes lookup cache : List ℕ} (S : Sound s n
   place_kept nothing w = by_test (too_large s.capacity (book_of nodes s.count) F) (λ f. kept_full f) (λ f. kept_placed (w refl) f)
   place_kept (refuses x five) w =
       record {
-        r = record { store = s; answer = Refused x };
+        r = record { store = s; answer = Err x };
         nodes' = nodes;
         lookup' = lookup;
         cache' = cache;
-        call = call_refused s nodes lookup cache (refusal_number x) F (record { store = s; answer = Refused x }) x (sound_fits S) refl five refl refl;
+        call = call_refused s nodes lookup cache (refusal_number x) F (record { store = s; answer = Err x }) x (sound_fits S) refl five refl refl;
       }
 
 -- what either entry of Size answers
 record SizeAnswered (entry : SizeEntry) (B : List Family) (p words : ℕ) : Type 0 where
-  answer : SizeAnswer
+  answer : Result ℕ Refusal
   is : size_given_by answer ≡ size_answer entry B p words
 
 size_answered : (entry : SizeEntry) (B : List Family) (p words : ℕ) → SizeAnswered entry B p words
 unfolding size_answer
 size_answered entry B p words =
     by_refusing (size_refusing entry B p words)
-    (λ z. record { answer = Members (size (at B p)); is = rw z })
-    (λ x d f. record { answer = SizeRefused x; is = rw (d, f) })
+    (λ z. record { answer = Ok (size (at B p)); is = rw z })
+    (λ x d f. record { answer = Err x; is = rw (d, f) })
 
 -- the calls that write no store word
 module _ {s : Store} {nodes lookup : List ℕ} (S : Sound s nodes lookup []) where
   pub record HasKept (p : ℕ) (c : List ℕ) : Type 0 where
-    pub r : Asked
+    pub r : Answered Bool
     pub call : HasCall s nodes lookup p c r
 
   pub has_kept : (p : ℕ) (c : List ℕ) → HasKept p c
@@ -156,11 +146,11 @@ module _ {s : Store} {nodes lookup : List ℕ} (S : Sound s nodes lookup []) whe
       let B = book_of nodes s.count in
       by_refusing (has_refusing B p)
       (λ z. by_test (has (at B p) c)
-      (λ h. record { r = record { store = s; answer = Yes }; call = says Yes (rw (z, h)) })
-      (λ h. record { r = record { store = s; answer = No }; call = says No (rw (z, h)) }))
-      (λ x d f. record { r = record { store = s; answer = HasRefused x }; call = says (HasRefused x) (rw (d, f)) })
+      (λ h. record { r = record { store = s; answer = Ok true }; call = says (Ok true) (rw (z, h)) })
+      (λ h. record { r = record { store = s; answer = Ok false }; call = says (Ok false) (rw (z, h)) }))
+      (λ x d f. record { r = record { store = s; answer = Err x }; call = says (Err x) (rw (d, f)) })
     where
-      says : (a : HasAnswer) → has_given_by a ≡ has_answer (book_of nodes s.count) p c → HasCall s nodes lookup p c (record { store = s; answer = a })
+      says : (a : Result Bool Refusal) → has_given_by a ≡ has_answer (book_of nodes s.count) p c → HasCall s nodes lookup p c (record { store = s; answer = a })
       says a e = record { misfit = λ d. clash (sound_fits S) d; answer_is = λ T. e; store_is = refl }
 
   -- Audit zeroes the cache lent to it, and says yes
@@ -174,7 +164,7 @@ module _ {s : Store} {nodes lookup : List ℕ} (S : Sound s nodes lookup []) whe
       }
 
   pub record SizeKept (p : ℕ) (scratch : List ℕ) : Type 0 where
-    pub r : Measured
+    pub r : Answered ℕ
     pub scratch' : List ℕ
     pub call : SizeCall s nodes lookup p scratch r scratch'
 
@@ -195,7 +185,7 @@ module _ {s : Store} {nodes lookup : List ℕ} (S : Sound s nodes lookup []) whe
       }
 
   pub record CompactKept (p : ℕ) (scratch : List ℕ) : Type 0 where
-    pub r : Measured
+    pub r : Answered ℕ
     pub call : CompactCall s nodes lookup p scratch r scratch
 
   -- the second entry may leave its scratch as it came
@@ -214,19 +204,19 @@ module _ {s : Store} {nodes lookup : List ℕ} (S : Sound s nodes lookup []) whe
       }
 
   pub record WeightKept (way : Way) (p : ℕ) (weights scratch : List ℕ) : Type 0 where
-    pub r : Weighed
+    pub r : Answered ℕ
     pub call : WeightCall way s nodes lookup p weights scratch r scratch
 
   -- either sum may leave its scratch as it came
   pub weight_kept : (way : Way) (p : ℕ) (weights scratch : List ℕ) → WeightKept way p weights scratch
   unfolding weight_answer
   weight_kept way p weights scratch =
-      by_refusing (weight_refusing way B p weights (length scratch)) (λ z. says (Sum (sum_by way weights (at B p))) (rw z)) (λ x d f. says (WeightRefused x) (rw (d, f)))
+      by_refusing (weight_refusing way B p weights (length scratch)) (λ z. says (Ok (sum_by way weights (at B p))) (rw z)) (λ x d f. says (Err x) (rw (d, f)))
     where
       B : List Family
       B = book_of nodes s.count
 
-      says : (a : WeightAnswer) → weight_given_by a ≡ weight_answer way B p weights (length scratch) → WeightKept way p weights scratch
+      says : (a : Result ℕ Refusal) → weight_given_by a ≡ weight_answer way B p weights (length scratch) → WeightKept way p weights scratch
       says a e =
           record {
             r = record { store = s; answer = a };
@@ -241,19 +231,19 @@ module _ {s : Store} {nodes lookup : List ℕ} (S : Sound s nodes lookup []) whe
           }
 
   pub record SaveKept (p : ℕ) (scratch out : List ℕ) : Type 0 where
-    pub r : Saved
+    pub r : Answered ℕ
     pub out' : List ℕ
     pub call : SaveCall s nodes lookup p scratch out r scratch out'
 
   pub save_kept : (p : ℕ) (scratch out : List ℕ) → SaveKept p scratch out
   unfolding save_answer
   save_kept p scratch out =
-      by_refusing (save_refusing B p (length scratch) (length out)) (λ z. says (Length (length (file_of (at B p)))) (rw z)) (λ x d f. says (SaveRefused x) (rw (d, f)))
+      by_refusing (save_refusing B p (length scratch) (length out)) (λ z. says (Ok (length (file_of (at B p)))) (rw z)) (λ x d f. says (Err x) (rw (d, f)))
     where
       B : List Family
       B = book_of nodes s.count
 
-      says : (a : SaveAnswer) → save_given_by a ≡ save_answer B p (length scratch) (length out) → SaveKept p scratch out
+      says : (a : Result ℕ Refusal) → save_given_by a ≡ save_answer B p (length scratch) (length out) → SaveKept p scratch out
       says a e =
           record {
             r = record { store = s; answer = a };

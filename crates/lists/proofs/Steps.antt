@@ -16,7 +16,8 @@ use Rattle.family.specs.Book.{at}
 use Rattle.family.specs.File.{file_of}
 use Rattle.family.proofs.Books.{grown_self}
 use Rattle.store.specs.declared.record.Store.{Store}
-use Rattle.store.specs.declared.record.Placed.{Placed}
+use Rattle.store.specs.declared.record.Placement.{Placement}
+use Rattle.store.specs.declared.record.Answered.{Answered}
 use Rattle.store.specs.Refusals.{given_by}
 use Rattle.store.specs.Words.{book_of}
 use Rattle.store.specs.Cache.{True}
@@ -24,12 +25,9 @@ use Rattle.store.specs.Sound.{Sound}
 use Rattle.store.proofs.Sounds.{zeroed_true, sound_with, bare}
 use Rattle.op_promise.specs.Promise.{OperationCall, number_of}
 use Rattle.op_parity.specs.Promise.{ParityCall}
-use Rattle.query_has.specs.declared.Asked.{Asked}
 use Rattle.query_size.specs.Promise.{SizeGiven, SizeEntry, by_node, by_part, size_answer}
 use Rattle.query_has.specs.Promise.{has_given_by, has_answer, HasCall}
-use Rattle.query_weight.specs.declared.answer.Weighed.{Weighed}
 use Rattle.query_weight.specs.Promise.{Way, weight_given_by, weight_answer, WeightCall}
-use Rattle.file_save.specs.declared.Saved.{Saved}
 use Rattle.file_save.specs.Promise.{save_given_by, save_refusal, save_answer, save_output, SaveCall}
 use Rattle.file_load.specs.Promise.{LoadCall}
 use Rattle.store_audit.specs.declared.audit.Audited.{Audited}
@@ -53,17 +51,17 @@ save_answers capacity B p words out =
     (λ t. rw t)
 
 module _ {bounds : Bounds} {slots : ℕ} {B : List Family} {x : State} (I : Inv bounds slots B x) where
-  operate_step : (lent : ℕ) {op : Operation} {p q : ℕ} {r : Placed} {nodes lookup part : List ℕ}
+  operate_step : (lent : ℕ) {op : Operation} {p q : ℕ} {r : Answered Placement} {nodes lookup part : List ℕ}
       → OperationCall (number_of op) p q x.store x.nodes x.lookup (take lent x.cache) r nodes lookup part
       → BookStep bounds slots B (Operate op p q) (place_returns (given_by r.answer)) (with_part x lent r.store nodes lookup part)
   operate_step lent P = place_step (record { act = rw (← count_is I, ← I.limit_is) refl }) I lent (rw I.book_is at P)
 
-  parity_step : (lent : ℕ) {even : Bool} {p : ℕ} {r : Placed} {nodes lookup part : List ℕ}
+  parity_step : (lent : ℕ) {even : Bool} {p : ℕ} {r : Answered Placement} {nodes lookup part : List ℕ}
       → ParityCall even p x.store x.nodes x.lookup (take lent x.cache) r nodes lookup part
       → BookStep bounds slots B (Parity even p) (place_returns (given_by r.answer)) (with_part x lent r.store nodes lookup part)
   parity_step lent P = place_step (record { act = rw (← count_is I) refl }) I lent (rw I.book_is at P)
 
-  load_step : (lent : ℕ) {file scratch : List ℕ} {r : Placed} {nodes lookup part scratch' : List ℕ}
+  load_step : (lent : ℕ) {file scratch : List ℕ} {r : Answered Placement} {nodes lookup part scratch' : List ℕ}
       → LoadCall x.store x.nodes x.lookup (take lent x.cache) file scratch r nodes lookup part scratch'
       → BookStep bounds slots B (Load file (length scratch)) (place_returns (given_by r.answer)) (with_part x lent r.store nodes lookup part)
   load_step lent P = place_step (record { act = rw (← I.limit_is) refl }) I lent P.places
@@ -83,19 +81,19 @@ module _ {bounds : Bounds} {slots : ℕ} {B : List Family} {x : State} (I : Inv 
   unfolding book_answer book_effect
   size_step entry {p} {scratch} a e = query_step (Size entry p scratch) (λ X. size_returns (size_answer entry X p scratch)) refl refl (ap size_returns a) e
 
-  has_step : {p : ℕ} (w : List ℕ) {r : Asked} → HasCall x.store x.nodes x.lookup p (items_of w) r
+  has_step : {p : ℕ} (w : List ℕ) {r : Answered Bool} → HasCall x.store x.nodes x.lookup p (items_of w) r
       → BookStep bounds slots B (Has p w) (has_returns (has_given_by r.answer)) (same_words x r.store)
   unfolding book_answer book_effect
   has_step {p} w P = query_step (Has p w) (λ X. has_returns (has_answer X p (items_of w))) refl refl (ap has_returns (P.answer_is no_cache)) P.store_is
 
-  weigh_step : {way : Way} {p : ℕ} {weights scratch scratch' : List ℕ} {r : Weighed} → WeightCall way x.store x.nodes x.lookup p weights scratch r scratch'
+  weigh_step : {way : Way} {p : ℕ} {weights scratch scratch' : List ℕ} {r : Answered ℕ} → WeightCall way x.store x.nodes x.lookup p weights scratch r scratch'
       → BookStep bounds slots B (Weigh way p weights (length scratch)) (weight_returns (weight_given_by r.answer)) (same_words x r.store)
   unfolding book_answer book_effect
   weigh_step {way} {p} {weights} {scratch} P =
       query_step (Weigh way p weights (length scratch)) (λ X. weight_returns (weight_answer way X p weights (length scratch))) refl refl
       (ap weight_returns (P.answer_is no_cache)) P.store_is
 
-  save_step : {p : ℕ} {scratch out scratch' out' : List ℕ} {r : Saved} → SaveCall x.store x.nodes x.lookup p scratch out r scratch' out'
+  save_step : {p : ℕ} {scratch out scratch' out' : List ℕ} {r : Answered ℕ} → SaveCall x.store x.nodes x.lookup p scratch out r scratch' out'
       → BookStep bounds slots B (Save p (length scratch) (length out)) (save_returns (save_given_by r.answer) out') (same_words x r.store)
   unfolding book_answer book_effect
   save_step {p} {scratch} {out} {out' = out'} P =

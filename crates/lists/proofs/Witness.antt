@@ -16,7 +16,7 @@ use Rattle.store.specs.Words.{book_of}
 use Rattle.store.specs.Operations.{named}
 use Rattle.store.specs.Sound.{Sound}
 use Rattle.store.proofs.Decoding.{sound_holds}
-use Rattle.store_fresh.specs.declared.FreshAnswer.TheVariants.{Done}
+use Rattle.std.proofs.Common.{Ok}
 use Rattle.store_fresh.specs.Promise.{fresh_leaves, fresh_of}
 use Rattle.file_load.specs.Promise.{load_family}
 use Rattle.op_promise.specs.Promise.{number_of}
@@ -101,9 +101,9 @@ module _ (o : Opening) where
       rw (append_assoc done (call ∷ []) more) at onward
 
   begun : (fresh_of o.limit o.nodes o.lookup o.cache).refusal ≡ 0 → (x : State) × Runs o [] [] x
-  begun e = (_, fresh {r = record { store = (fresh_of o.limit o.nodes o.lookup o.cache).store; answer = Done }} (record { leaves_is = left }) refl)
+  begun e = (_, fresh {r = record { store = (fresh_of o.limit o.nodes o.lookup o.cache).store; answer = Ok tt }} (record { leaves_is = left }) refl)
     where
-      left : fresh_leaves (record { store = (fresh_of o.limit o.nodes o.lookup o.cache).store; answer = Done }) (fresh_of o.limit o.nodes o.lookup o.cache).nodes (fresh_of o.limit o.nodes o.lookup o.cache).lookup (fresh_of o.limit o.nodes o.lookup o.cache).cache
+      left : fresh_leaves (record { store = (fresh_of o.limit o.nodes o.lookup o.cache).store; answer = Ok tt }) (fresh_of o.limit o.nodes o.lookup o.cache).nodes (fresh_of o.limit o.nodes o.lookup o.cache).lookup (fresh_of o.limit o.nodes o.lookup o.cache).cache
           ≡ fresh_of o.limit o.nodes o.lookup o.cache
       left =
           let l = fresh_of o.limit o.nodes o.lookup o.cache in

@@ -1,23 +1,19 @@
 -- Lists of calls on a store, in which each step is the promise of its call and nothing else: document 01, 'The store',
 -- the cache, and 'Calls'.
-use Rattle.std.specs.Prelude.{ℕ, ◌≡◌, Bool, List, [], ◌∷◌, ◌++◌, length, take, drop}
+use Rattle.std.specs.Prelude.{ℕ, ◌≡◌, ⊤, Bool, List, [], ◌∷◌, ◌++◌, length, take, drop}
 use Rattle.family.specs.Combination.{items_of}
 use Rattle.store.specs.declared.record.Store.{Store}
-use Rattle.store.specs.declared.record.Placed.{Placed}
-use Rattle.store_fresh.specs.declared.Freshened.{Freshened}
+use Rattle.store.specs.declared.record.Placement.{Placement}
+use Rattle.store.specs.declared.record.Answered.{Answered}
 use Rattle.store.specs.Capacity.{capacity_of}
 use Rattle.store.specs.Refusals.{given_by}
 use Rattle.store_fresh.specs.Promise.{fresh_number, FreshCall}
 use Rattle.op_promise.specs.Promise.{OperationCall, number_of}
 use Rattle.op_parity.specs.Promise.{ParityCall}
-use Rattle.query_size.specs.declared.Measured.{Measured}
-use Rattle.query_has.specs.declared.Asked.{Asked}
 use Rattle.query_size.specs.Promise.{by_node, by_part, size_given_by, SizeCall}
 use Rattle.query_size_compact.specs.Promise.{CompactCall}
 use Rattle.query_has.specs.Promise.{has_given_by, HasCall}
-use Rattle.query_weight.specs.declared.answer.Weighed.{Weighed}
 use Rattle.query_weight.specs.Promise.{Way, weight_given_by, WeightCall}
-use Rattle.file_save.specs.declared.Saved.{Saved}
 use Rattle.file_save.specs.Promise.{save_given_by, SaveCall}
 use Rattle.file_load.specs.Promise.{LoadCall}
 use Rattle.store_audit.specs.declared.audit.Audited.{Audited}
@@ -46,28 +42,28 @@ with_part x lent s nodes lookup part = record { store = s; nodes = nodes; lookup
 -- words whole, and any leading part of its cache, none included". The six operations, Even, Odd, Load and Audit are lent
 -- a part of the cache, as many words as `lent` says.
 pub data Step (x : State) : Call → Answer → State → Type 0 where
-  operates : (lent : ℕ) {op : Operation} {p q : ℕ} {r : Placed} {nodes lookup part : List ℕ}
+  operates : (lent : ℕ) {op : Operation} {p q : ℕ} {r : Answered Placement} {nodes lookup part : List ℕ}
       → OperationCall (number_of op) p q x.store x.nodes x.lookup (take lent x.cache) r nodes lookup part
       → Step x (Operate op p q) (place_returns (given_by r.answer)) (with_part x lent r.store nodes lookup part)
-  parts : (lent : ℕ) {even : Bool} {p : ℕ} {r : Placed} {nodes lookup part : List ℕ}
+  parts : (lent : ℕ) {even : Bool} {p : ℕ} {r : Answered Placement} {nodes lookup part : List ℕ}
       → ParityCall even p x.store x.nodes x.lookup (take lent x.cache) r nodes lookup part
       → Step x (Parity even p) (place_returns (given_by r.answer)) (with_part x lent r.store nodes lookup part)
-  sizes : {p : ℕ} {scratch scratch' : List ℕ} {r : Measured}
+  sizes : {p : ℕ} {scratch scratch' : List ℕ} {r : Answered ℕ}
       → SizeCall x.store x.nodes x.lookup p scratch r scratch'
       → Step x (Size by_node p (length scratch)) (size_returns (size_given_by r.answer)) (same_words x r.store)
-  sizes_by_part : {p : ℕ} {scratch scratch' : List ℕ} {r : Measured}
+  sizes_by_part : {p : ℕ} {scratch scratch' : List ℕ} {r : Answered ℕ}
       → CompactCall x.store x.nodes x.lookup p scratch r scratch'
       → Step x (Size by_part p (length scratch)) (size_returns (size_given_by r.answer)) (same_words x r.store)
-  asks : {p : ℕ} {combination : List ℕ} {r : Asked}
+  asks : {p : ℕ} {combination : List ℕ} {r : Answered Bool}
       → HasCall x.store x.nodes x.lookup p (items_of combination) r
       → Step x (Has p combination) (has_returns (has_given_by r.answer)) (same_words x r.store)
-  weighs : {way : Way} {p : ℕ} {weights scratch scratch' : List ℕ} {r : Weighed}
+  weighs : {way : Way} {p : ℕ} {weights scratch scratch' : List ℕ} {r : Answered ℕ}
       → WeightCall way x.store x.nodes x.lookup p weights scratch r scratch'
       → Step x (Weigh way p weights (length scratch)) (weight_returns (weight_given_by r.answer)) (same_words x r.store)
-  saves : {p : ℕ} {scratch out scratch' out' : List ℕ} {r : Saved}
+  saves : {p : ℕ} {scratch out scratch' out' : List ℕ} {r : Answered ℕ}
       → SaveCall x.store x.nodes x.lookup p scratch out r scratch' out'
       → Step x (Save p (length scratch) (length out)) (save_returns (save_given_by r.answer) out') (same_words x r.store)
-  loads : (lent : ℕ) {file scratch : List ℕ} {r : Placed} {nodes lookup part scratch' : List ℕ}
+  loads : (lent : ℕ) {file scratch : List ℕ} {r : Answered Placement} {nodes lookup part scratch' : List ℕ}
       → LoadCall x.store x.nodes x.lookup (take lent x.cache) file scratch r nodes lookup part scratch'
       → Step x (Load file (length scratch)) (place_returns (given_by r.answer)) (with_part x lent r.store nodes lookup part)
   audits : (lent : ℕ) {r : Audited} {part : List ℕ}
@@ -88,7 +84,7 @@ bounds_of o = record { capacity = capacity_of (length o.nodes); limit = o.limit 
 -- A list of calls with its answers and the state after it, built call by call: each beginning of it is such a list.
 -- "Such a list starts from what a Fresh that wasn't refused left and gave."
 pub data Runs (o : Opening) : List Call → List Answer → State → Type 0 where
-  fresh : {r : Freshened} {nodes lookup cache : List ℕ}
+  fresh : {r : Answered ⊤} {nodes lookup cache : List ℕ}
       → FreshCall o.limit o.nodes o.lookup o.cache r nodes lookup cache → fresh_number r.answer ≡ 0
       → Runs o [] [] (record { store = r.store; nodes = nodes; lookup = lookup; cache = cache })
   next : {calls : List Call} {answers : List Answer} {x y : State} {call : Call} {answer : Answer}

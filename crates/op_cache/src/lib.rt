@@ -5,6 +5,7 @@ ghost use Rattle.std.specs.Prelude.{◌/◌, ◌<◌, ◌≤◌};
 ghost use Rattle.op_cache.specs.Inner.{RecallOf, Remembered};
 
 // An operation by its number, with its two operands.
+// Kept: the operation is a number here, as the words of a group have it, and C lends those.
 #[derive(Clone, Copy)]
 pub struct Call {
     pub op: u32,

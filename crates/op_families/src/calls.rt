@@ -33,6 +33,7 @@ fn of_families(
     finish(store, fill.count, answer, nodes, lookup, cache)
 }
 
+// Kept: these three differ in the operation alone, since C calls each by its name (include/zdd.h).
 // The combinations in p or in q.
 pub fn union(
     store: Store,

@@ -38,6 +38,7 @@ fn of_item(
     finish(store, fill.count, answer, nodes, lookup, cache)
 }
 
+// Kept: these three differ in the operation alone, since C calls each by its name (include/zdd.h).
 // The members of p with the item, the item taken out.
 pub fn subset1(
     store: Store,

@@ -34,6 +34,7 @@ fn of_parity(
     finish(store, fill.count, answer, nodes, lookup, cache)
 }
 
+// Kept: these two differ in the parity alone, since C calls each by its name (include/zdd.h).
 // The members of p with an even number of items.
 pub fn even(
     store: Store,

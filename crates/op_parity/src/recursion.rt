@@ -11,6 +11,8 @@ use store::record::{Fill, Refusal};
 use store_node::getnode::node_of;
 use store_sides::sides_at;
 
+// Kept: a parity is a bool, true for even, as in the definitions (`parity`, `ParityCall`); an enum of two would be turned
+// into it in each clause.
 // The number of a parity, as the cache has it.
 fn number_of(even: bool) -> u32
     ensures { result ≡ parity_number even }

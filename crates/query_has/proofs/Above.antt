@@ -2,7 +2,7 @@
 -- No item of a member is above the top of its family, and no top of a sound store is above the store's limit.
 use Prim.Native.Nat.{ℕ, ◌<◌}
 use mathlib.Core.Path.{◌≡◌, sym, ◌∙◌}
-use mathlib.Core.Bool.{true, false}
+use mathlib.Core.Bool.{Bool, true, false}
 use mathlib.Core.List.{List, []}
 use native.Mathlib.Omega.{arith}
 use Rattle.family.specs.Family.{Family, Within, has}
@@ -17,7 +17,7 @@ use Rattle.store.specs.Sound.{Sound}
 use Rattle.store.proofs.Decoding.{sound_holds}
 use Rattle.store.proofs.Held.{within}
 use Rattle.store.proofs.Testing.{passes}
-use Rattle.query_has.specs.declared.Asked.{Asked}
+use Rattle.store.specs.declared.record.Answered.{Answered}
 use Rattle.query_has.specs.Promise.{has_given_by, has_refusal, has_answer, HasCall}
 use Rattle.query_has.proofs.Asking.{tests_are}
 
@@ -30,7 +30,7 @@ above_no F c v w e l =
 
 -- The answer of a call that keeps Has's promise, for a combination with such an item: it is never yes, and where no
 -- test refuses the call it is no.
-pub has_above : (s : Store) (nodes lookup : List ℕ) (p : ℕ) (c : List ℕ) (r : Asked) (v : ℕ) → HasCall s nodes lookup p c r → Sound s nodes lookup [] → holds v c ≡ true → s.limit < v
+pub has_above : (s : Store) (nodes lookup : List ℕ) (p : ℕ) (c : List ℕ) (r : Answered Bool) (v : ℕ) → HasCall s nodes lookup p c r → Sound s nodes lookup [] → holds v c ≡ true → s.limit < v
     → has_given_by r.answer ≡ record { refusal = has_refusal (book_of nodes s.count) p; member = false }
 unfolding has_answer
 has_above s nodes lookup p c r v C S e l =

@@ -4,6 +4,9 @@
 use Prim.Native.Nat.{ℕ, ◌+◌, ◌*◌, ◌-◌, ◌≤◌, ◌<◌}
 use mathlib.Core.Path.{◌≡◌, refl, sym, ap, ◌∙◌}
 use mathlib.Core.Bool.{Bool, true, false}
+use mathlib.Core.Logic.{◌⊎◌, ⊎_elim}
+use lib.Dec.{eqb}
+use borrow.Author.Tests.{ne_eqb}
 use mathlib.Core.List.{List, [], ◌∷◌}
 use native.Mathlib.Omega.{arith}
 use lib.ListN.{get_or}
@@ -50,13 +53,14 @@ module _ (nodes : List ℕ) (n p : ℕ) (c : List ℕ) where
   along_start l = record { same = λ B lookup H. (l, refl, omega (arith, (within H p (omega arith)).low, H.limit_low)) }
 
   module _ (at' : ℕ) (rest : List ℕ) (left : ℕ) (A : Along nodes n p c at' rest left) where
-    pub along_ends : at' < 2 → (r : Bool) → (at' ≡ 1 → r ≡ is_none rest) × ((at' ≡ 1 → ⊥) → r ≡ false) → Memberly nodes n p c r
-    along_ends l r q =
-        record {
-          is = λ B lookup H. by_eq at' 1
-              (λ e d. q.0 e ∙ sym (has_base rest) ∙ sym (ap (λ F. has F rest) (ap (λ k. at B k) e ∙ at_1 H)) ∙ (A.same B lookup H).1)
-              (λ e d. q.1 e ∙ sym (ap (λ F. has F rest) (ap (λ k. at B k) (let z : at' ≡ 0 = omega arith in z) ∙ at_0 H)) ∙ (A.same B lookup H).1);
-        }
+    -- the way ends at {{}}, where no item may be left
+    pub along_base : at' ≡ 1 → (r : Bool) → r ≡ is_none rest → Memberly nodes n p c r
+    along_base e r q =
+        record { is = λ B lookup H. q ∙ sym (has_base rest) ∙ sym (ap (λ F. has F rest) (ap (λ k. at B k) e ∙ at_1 H)) ∙ (A.same B lookup H).1 }
+
+    -- or at {}
+    along_empty : at' ≡ 0 → Memberly nodes n p c false
+    along_empty e = record { is = λ B lookup H. sym (ap (λ F. has F rest) (ap (λ k. at B k) e ∙ at_0 H)) ∙ (A.same B lookup H).1 }
 
     pub along_outside : n + 1 < at' → Memberly nodes n p c false
     along_outside l = record { is = λ B lookup H. absurd (omega (arith, (A.same B lookup H).0)) }
@@ -77,11 +81,11 @@ module _ (nodes : List ℕ) (n p : ℕ) (c : List ℕ) where
       falls : {limit : ℕ} {B : List Family} {lookup : List ℕ} → Holds limit B n nodes lookup → Ordered (node i (at B z) (at B o))
       falls {B} {lookup} H = rw (is_node H) at (within H at' (omega (arith, (A.same B lookup H).0))).ordered
 
-      pub along_end : left ≡ 0 → Memberly nodes n p c false
+      along_end : left ≡ 0 → Memberly nodes n p c false
       along_end e = record { is = λ B lookup H. absurd (let f = falls H in omega (arith, (A.same B lookup H).2, ap top (is_node H), f.0)) }
 
-      pub along_step : Falling rest → (next : ℕ) (rest' : List ℕ) → Stepped nodes (3 * (at' - 2)) rest next rest' → Along nodes n p c next rest' (left - 1)
-      along_step fall next rest' S =
+      pub along_step : Falling rest → (next : ℕ) (rest' : List ℕ) → Stepped nodes (3 * (at' - 2)) rest next rest' → (left' : ℕ) → left ≤ left' + 1 → Along nodes n p c next rest' left'
+      along_step fall next rest' S left' down =
           by_test (holds i rest)
           (λ e.
           let q = S.met e in
@@ -108,10 +112,12 @@ module _ (nodes : List ℕ) (n p : ℕ) (c : List ℕ) where
                 );
           })
 
+    -- a way that is at its end, or has no step left, and is not at {{}}
+    pub along_else : (at' ≡ 1 → ⊥) → (at' < 2) ⊎ (left ≡ 0) → Memberly nodes n p c (eqb at' 1)
+    along_else d out =
+        rw (ne_eqb at' 1 d) (by_lt at' 2 (λ l e. along_empty (omega arith)) (λ l e. along_end l (⊎_elim (λ m. absurd (omega arith)) (λ z. z) out)))
+
 -- one step, from what taking its item out of the combination says
 module _ (nodes : List ℕ) (from : ℕ) (c : List ℕ) (next : ℕ) (rest : List ℕ) {x : Bool} (t : (x ≡ holds (get_or nodes from 0) c) × (rest ≡ remove (get_or nodes from 0) c)) where
-  pub step_met : x ≡ true → next ≡ get_or nodes (from + 2) 0 → Stepped nodes from c next rest
-  step_met d p = record { met = λ m. (p, t.1); passed = λ m. clash (sym t.0 ∙ d) m }
-
   pub step_passed : x ≡ false → next ≡ get_or nodes (from + 1) 0 → Stepped nodes from c next rest
   step_passed d p = record { met = λ m. clash m (sym t.0 ∙ d); passed = λ m. (p, t.1 ∙ remove_absent (get_or nodes from 0) c m) }

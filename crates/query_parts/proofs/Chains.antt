@@ -2,11 +2,11 @@
 -- A chain goes down from place to place, so that one step along it comes nearer and places above it do not matter.
 use Prim.Native.Nat.{ℕ, suc, ◌+◌, ◌-◌, ◌%◌, ◌≤◌, ◌<◌}
 use mathlib.Core.Path.{◌≡◌, refl, sym, ap, ◌∙◌}
-use mathlib.Core.List.{List}
 use Rattle.std.specs.Prelude.{None, Some}
 use native.Mathlib.Omega.{arith}
 use native.Mathlib.Nat.{mod-lt}
-use Rattle.query_parts.specs.Inner.{handle_at, next_at, head_at, Leads, here, on, Table, Found}
+use Rattle.query_parts.specs.declared.entries.Parts.{Parts}
+use Rattle.query_parts.specs.Inner.{handle_at, next_at, head_at, Leads, here, on, FindAsks, Found}
 
 -- a chain leads where it did, as long as the places below it stay
 pub leads_same : {next next' : ℕ → ℕ} (n : ℕ) → ((k : ℕ) → k < n → next k ≤ k) → ((k : ℕ) → k < n → next' k ≡ next k) → {a b : ℕ} → a ≤ n → Leads next a b → Leads next' a b
@@ -25,44 +25,36 @@ module _ {next : ℕ → ℕ} where
   leads_none (on w) e l = omega arith
 
 -- what is left of the search: the chain from here leads to the place of the handle
-pub record Sought (words : List ℕ) (places handle at : ℕ) : Type 0 where
-  pub low : (n : ℕ) → Table places n words → at ≤ n
-  pub leads : (n : ℕ) → Table places n words → (e : ℕ) → e < n → handle_at words e ≡ handle → Leads (λ k. next_at words k) at (suc e)
+pub record Sought (t : Parts) (handle at : ℕ) : Type 0 where
+  pub low : at ≤ t.entered
+  pub leads : (e : ℕ) → e < t.entered → handle_at t.words.now e ≡ handle → Leads (λ k. next_at t.words.now k) at (suc e)
 
-module _ (words : List ℕ) (places handle at : ℕ) where
-  pub sought_head : 0 < places → at ≡ head_at words (handle % places) → Sought words places handle at
-  sought_head some e =
-      record {
-        low = λ n T. rw e (T.heads (handle % places) (mod-lt handle some));
-        leads = λ n T k l d. rw e (rw d at (T.leads k l));
-      }
+module _ (t : Parts) (handle at : ℕ) (A : FindAsks t) where
+  pub sought_head : at ≡ head_at t.words.now (handle % t.places) → Sought t handle at
+  sought_head e = record { low = rw e (A.table.heads (handle % t.places) (mod-lt handle A.some)); leads = λ k l d. rw e (rw d at (A.table.leads k l)) }
 
-  pub sought_none : Sought words places handle at → at ≡ 0 → Found words places handle None
-  sought_none S e = record { among = λ n T. record { none = λ z k l d. leads_none (S.leads n T k l d) e (omega arith); some = λ k q. cc } }
+  pub sought_none : Sought t handle at → at ≡ 0 → Found t handle None
+  sought_none S e = record { none = λ z k l d. leads_none (S.leads k l d) e (omega arith); some = λ k q. cc }
 
   -- the place that the link leads to, and the handle h that stands there
-  module _ (S : Sought words places handle at) (place h : ℕ) (leads : at ≡ place + 1) (is : h ≡ handle_at words place) where
+  module _ (S : Sought t handle at) (place h : ℕ) (leads : at ≡ place + 1) (is : h ≡ handle_at t.words.now place) where
     -- the place before is lower
-    pub sought_falls : (n : ℕ) → Table places n words → next_at words place < at
-    sought_falls n T = omega (arith, T.links place (omega (arith, S.low n T)))
+    pub sought_falls : next_at t.words.now place < at
+    sought_falls = omega (arith, A.table.links place (omega (arith, S.low)))
 
-    pub sought_here : h ≡ handle → Found words places handle (Some place)
+    pub sought_here : h ≡ handle → Found t handle (Some place)
     sought_here e =
         record {
-          among = λ n T. record {
-            none = λ z. cc;
-            some = λ k q.
-                let same : k ≡ place = cc in
-                (omega (arith, S.low n T), ap (λ j. handle_at words j) same ∙ sym is ∙ e);
-          };
+          none = λ z. cc;
+          some = λ k q. let same : k ≡ place = cc in (omega (arith, S.low), ap (λ j. handle_at t.words.now j) same ∙ sym is ∙ e);
         }
 
-    pub sought_on : (h ≡ handle → ⊥) → (at' : ℕ) → at' ≡ next_at words place → Sought words places handle at'
+    pub sought_on : (h ≡ handle → ⊥) → (at' : ℕ) → at' ≡ next_at t.words.now place → Sought t handle at'
     sought_on d at' e =
         record {
-          low = λ n T. omega (arith, S.low n T, sought_falls n T);
-          leads = λ n T k l same.
-              let apart : at ≡ suc k → ⊥ = λ q. d (is ∙ ap (λ j. handle_at words j) (omega arith) ∙ same) in
+          low = omega (arith, S.low, sought_falls);
+          leads = λ k l same.
+              let apart : at ≡ suc k → ⊥ = λ q. d (is ∙ ap (λ j. handle_at t.words.now j) (omega arith) ∙ same) in
               let before : at - 1 ≡ place = omega arith in
-              rw (e, ← before) (leads_on (S.leads n T k l same) (omega arith) apart);
+              rw (e, ← before) (leads_on (S.leads k l same) (omega arith) apart);
         }

@@ -1,4 +1,3 @@
 -- The laws of `query_parts`.
-pub mod Filled
 pub mod Chains
 pub mod Tables

@@ -1,38 +1,17 @@
--- Tables: an empty one, and one with a handle more, whose chains lead to every handle again.
+-- A table with a handle more, whose chains lead to every handle again.
 -- The new place is the head of its chain and leads on to the old head; no old chain goes through it.
-use Prim.Native.Nat.{ℕ, suc, ◌+◌, ◌%◌, ◌≤◌, ◌<◌}
+use Prim.Native.Nat.{ℕ, suc, ◌+◌, ◌%◌, ◌<◌}
 use mathlib.Core.Path.{◌≡◌, ap, ◌∙◌}
-use mathlib.Core.List.{List, ◌++◌}
+use mathlib.Core.List.{List}
 use native.Mathlib.Omega.{arith}
 use native.Mathlib.Nat.{mod-lt}
 use native.Mathlib.Numerals.{add-one}
-use lib.ListN.{length, get_or, set, take, drop, replicate, length-set}
+use lib.ListN.{length, get_or, set, length-set}
 use lib.Seq.{get_or-set_same, get_or-set_other}
 use Rattle.words.proofs.Cases.{by_eq}
-use Rattle.query_parts.specs.Inner.{handle_in, next_in, head_in, handle_at, next_at, head_at, Linked, Headed, Leads, here, on, Table, ClearAsks, Cleared, EnterAsks, Entered}
-use Rattle.query_parts.proofs.Filled.{filled_length, filled_zero}
+use Rattle.query_parts.specs.declared.entries.Parts.{Parts}
+use Rattle.query_parts.specs.Inner.{size_at, handle_in, next_in, head_in, handle_at, next_at, head_at, Linked, Headed, Leads, here, on, Table, EnterAsks, Entered}
 use Rattle.query_parts.proofs.Chains.{leads_same}
-
--- a table whose tags are all 0
-pub cleared : (words : List ℕ) (places : ℕ) → ClearAsks words places → (front : List ℕ) → front ≡ replicate (length (take places words)) 0 → Cleared places words (front ++ drop places words)
-cleared words places asks front filled =
-    record {
-      long = same;
-      table = record {
-        long = omega (arith, same, asks.long);
-        few = omega arith;
-        small = asks.small;
-        heads = λ k l. rw (filled_zero places words front inside filled k l) (omega arith);
-        links = λ e l. absurd (omega arith);
-        leads = λ e l. absurd (omega arith);
-      };
-    }
-  where
-    inside : places ≤ length words
-    inside = omega (arith, asks.long)
-
-    same : length (front ++ drop places words) ≡ length words
-    same = filled_length places words front inside filled
 
 -- the tags of a table after its new place is linked and is the head of its chain
 record Chained (places n handle : ℕ) (words words' : List ℕ) : Type 0 where
@@ -82,8 +61,17 @@ stays f words i v l e k =
     (λ q d. rw q (ap f (get_or-set_same words i v 0 l) ∙ e))
     (λ q d. ap f (get_or-set_other words i k v 0 q))
 
-module _ (words : List ℕ) (places n handle size next x y : ℕ) (asks : EnterAsks words places n handle) (is : next ≡ head_at words (handle % places))
-    (L : Linked (get_or words n 0) handle next x) (H : Headed (get_or (set words n x) (handle % places) 0) (n + 1) y) where
+module _ (t : Parts) (handle size next x y : ℕ) (asks : EnterAsks t handle) (is : next ≡ head_at t.words.now (handle % t.places)) (L : Linked (get_or t.words.now t.entered 0) handle next x)
+    (H : Headed (get_or (set t.words.now t.entered x) (handle % t.places) 0) (t.entered + 1) y) where
+  abbrev words : List ℕ
+  words = t.words.now
+
+  abbrev places : ℕ
+  places = t.places
+
+  abbrev n : ℕ
+  n = t.entered
+
   abbrev start : ℕ
   start = handle % places
 
@@ -138,16 +126,19 @@ module _ (words : List ℕ) (places n handle size next x y : ℕ) (asks : EnterA
         heads_stay = λ k l d. ap head_in (tag_stays k l ∙ get_or-set_other first start k y 0 d) ∙ stays head_in words n x first_in L.head_stays k;
       }
 
-  pub entered : Entered places n handle size words last
-  entered =
+  pub entered : (t' : Parts) → t'.places ≡ places → t'.entered ≡ n + 1 → t'.words.now ≡ last → Entered handle size t t'
+  entered t' same more w =
       record {
-        long = same_long;
-        table = table_entered asks.table asks.room same_long chained;
-        handle_is = chained.handle_is;
-        size_is = get_or-set_same second (places + n) size 0 last_in;
-        handles_stay = chained.handles_stay;
+        places_stay = same;
+        one_more = more;
+        long = ap length w ∙ same_long;
+        table = rw (same, more, w) (table_entered asks.table asks.room same_long chained);
+        handle_is = ap (λ l. handle_at l n) w ∙ chained.handle_is;
+        size_is = ap (λ l. size_at places l n) w ∙ get_or-set_same second (places + n) size 0 last_in;
+        handles_stay = λ e l. ap (λ l'. handle_at l' e) w ∙ chained.handles_stay e l;
         sizes_stay = λ e l.
-            get_or-set_other second (places + n) (places + e) size 0 (λ q. omega arith)
+            ap (λ l'. size_at places l' e) w
+            ∙ get_or-set_other second (places + n) (places + e) size 0 (λ q. omega arith)
             ∙ get_or-set_other first start (places + e) y 0 (λ q. omega (arith, start_in))
             ∙ get_or-set_other words n (places + e) x 0 (λ q. omega (arith, asks.room));
       }

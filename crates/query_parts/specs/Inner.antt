@@ -1,6 +1,7 @@
 -- The table of parts, and what its functions promise each other and their callers. A reader of the promise can pass this
 -- page over.
 use Rattle.std.specs.Prelude.{ℕ, suc, ◌+◌, ◌*◌, ◌/◌, ◌%◌, ◌≤◌, ◌<◌, ◌≡◌, List, length, get_or, Option, None, Some}
+use Rattle.query_parts.specs.declared.entries.Parts.{Parts}
 
 -- the three numbers of a tag: a handle, a place before it in its chain, and the head of a chain
 abbrev pub handle_in : ℕ → ℕ
@@ -62,42 +63,45 @@ pub record Table (places n : ℕ) (words : List ℕ) : Type 0 where
   pub links : (e : ℕ) → e < n → next_at words e ≤ e
   pub leads : (e : ℕ) → e < n → Leads (λ k. next_at words k) (head_at words (handle_at words e % places)) (suc e)
 
+-- the same of the table that is held
+abbrev pub TableOf : Parts → Type 0
+TableOf t = Table t.places t.entered t.words.now
+
 -- words for so many places
-pub record ClearAsks (words : List ℕ) (places : ℕ) : Type 0 where
+pub record OpenAsks (words : List ℕ) (places : ℕ) : Type 0 where
   pub long : 2 * places ≤ length words
   pub small : places ≤ 1000000
 
--- an empty table
-pub record Cleared (places : ℕ) (words words' : List ℕ) : Type 0 where
-  pub long : length words' ≡ length words
-  pub table : Table places 0 words'
+-- an empty table of so many places
+pub record Opened (places : ℕ) (words : List ℕ) (t : Parts) : Type 0 where
+  pub places_are : t.places ≡ places
+  pub none_yet : t.entered ≡ 0
+  pub long : length t.words.now ≡ length words
+  pub table : TableOf t
 
 -- a table of at least one place
-pub record FindAsks (words : List ℕ) (places : ℕ) : Type 0 where
-  pub some : 0 < places
-  pub entered : ℕ
-  pub table : Table places entered words
+pub record FindAsks (t : Parts) : Type 0 where
+  pub some : 0 < t.places
+  pub table : TableOf t
 
--- where the handle stands in a table of n, if it does
-pub record FoundAmong (n : ℕ) (words : List ℕ) (handle : ℕ) (r : Option ℕ) : Type 0 where
-  pub none : r ≡ None → (e : ℕ) → e < n → handle_at words e ≡ handle → ⊥
-  pub some : (e : ℕ) → r ≡ Some e → (e < n) × (handle_at words e ≡ handle)
-
--- the same, however many it has
-pub record Found (words : List ℕ) (places handle : ℕ) (r : Option ℕ) : Type 0 where
-  pub among : (n : ℕ) → Table places n words → FoundAmong n words handle r
+-- where the handle stands, if it does
+pub record Found (t : Parts) (handle : ℕ) (r : Option ℕ) : Type 0 where
+  pub none : r ≡ None → (e : ℕ) → e < t.entered → handle_at t.words.now e ≡ handle → ⊥
+  pub some : (e : ℕ) → r ≡ Some e → (e < t.entered) × (handle_at t.words.now e ≡ handle)
 
 -- a table with a place left, and a handle that fits a tag
-pub record EnterAsks (words : List ℕ) (places n handle : ℕ) : Type 0 where
-  pub table : Table places n words
-  pub room : n < places
+pub record EnterAsks (t : Parts) (handle : ℕ) : Type 0 where
+  pub table : TableOf t
+  pub room : t.entered < t.places
   pub handle_low : handle < 1048576
 
 -- the handle stands behind the others, with its size
-pub record Entered (places n handle size : ℕ) (words words' : List ℕ) : Type 0 where
-  pub long : length words' ≡ length words
-  pub table : Table places (n + 1) words'
-  pub handle_is : handle_at words' n ≡ handle
-  pub size_is : size_at places words' n ≡ size
-  pub handles_stay : (e : ℕ) → e < n → handle_at words' e ≡ handle_at words e
-  pub sizes_stay : (e : ℕ) → e < n → size_at places words' e ≡ size_at places words e
+pub record Entered (handle size : ℕ) (t t' : Parts) : Type 0 where
+  pub places_stay : t'.places ≡ t.places
+  pub one_more : t'.entered ≡ t.entered + 1
+  pub long : length t'.words.now ≡ length t.words.now
+  pub table : TableOf t'
+  pub handle_is : handle_at t'.words.now t.entered ≡ handle
+  pub size_is : size_at t.places t'.words.now t.entered ≡ size
+  pub handles_stay : (e : ℕ) → e < t.entered → handle_at t'.words.now e ≡ handle_at t.words.now e
+  pub sizes_stay : (e : ℕ) → e < t.entered → size_at t.places t'.words.now e ≡ size_at t.places t.words.now e

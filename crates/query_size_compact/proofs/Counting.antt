@@ -11,7 +11,7 @@ use Rattle.std.specs.Prelude.{Option, None, Some, Result, Ok, Err, ok_or}
 use borrow.Author.Tests.{lt-ltb, le-ltb}
 use Rattle.words.specs.Words.{most}
 use Rattle.words.proofs.Cases.{by_eq}
-use Rattle.family.specs.Family.{Family, empty, base, top, size}
+use Rattle.family.specs.Family.{Family, empty, base, size}
 use Rattle.family.specs.Book.{start, at, number, Held, place, Book}
 use Rattle.family.specs.Parts.{part_count}
 use Rattle.family.proofs.Books.{book_start, number_at, held_at, grown_held}
@@ -22,7 +22,8 @@ use Rattle.store.specs.declared.record.Refusal.{Refusal}
 use Rattle.store.specs.declared.record.Refusal.TheVariants.{Large, Scratch}
 use Rattle.store.specs.Inner.{Holds}
 use Rattle.store.proofs.Held.{at_0, at_1, held, within}
-use Rattle.query_parts.specs.Inner.{Cleared}
+use Rattle.query_parts.specs.declared.entries.Parts.{Parts}
+use Rattle.query_parts.specs.Inner.{Opened}
 use Rattle.query_walk.specs.Inner.{told, size_of, Listed, Came, New, Walked}
 use Rattle.query_walk.proofs.Sums.{told_none, told_some}
 use Rattle.query_walk.proofs.Listing.{has_item, past_two, list_start, number_told}
@@ -93,34 +94,35 @@ module _ (nodes : List ℕ) (count p : ℕ) (scratch : List ℕ) where
     pub counted_none : places ≡ 0 → Counted nodes count p scratch (Err Scratch) scratch
     counted_none z = record { long = refl; is = λ B lookup H. sym (told_short (at B p) (length scratch) (short_of H (omega (arith, one_part H p (omega arith) h)))) }
 
-    module _ {cleared words : List ℕ} (K : Cleared places scratch cleared) {n : ℕ} {r : Option ℕ} (D : Walked New p 513 nodes count places cleared 0 words n r) where
-      long : length words ≡ length scratch
-      long = D.went.long ∙ K.long
+    module _ {t t' : Parts} (K : Opened places scratch t) {r : Option ℕ} (D : Walked New p 513 nodes count t t' r) where
+      as_many : t'.places ≡ places
+      as_many = D.went.same ∙ K.places_are
 
-      came : {limit : ℕ} {B : List Family} {lookup : List ℕ} → Holds limit B count nodes lookup → Came limit B (place start (at B p)) (at B p) places n words r
+      came : {limit : ℕ} {B : List Family} {lookup : List ℕ} → Holds limit B count nodes lookup → Came limit B (place start (at B p)) (at B p) t' r
       came {limit} {B} {lookup} H =
           D.sound B start lookup H (omega arith) (omega (arith, (within H p (omega arith)).low, H.limit_low))
-          (λ q. omega (arith, q, past_two (book_start limit) (number start (at B p)) (at B p) (has_item H p h (omega arith)) (number_at start (at B p) q))) (list_start B places cleared)
+          (λ q. omega (arith, q, past_two (book_start limit) (number start (at B p)) (at B p) (has_item H p h (omega arith)) (number_at start (at B p) q))) (list_start B t K.none_yet)
 
-      pub counted_short : r ≡ None → Counted nodes count p scratch (Err Scratch) words
-      counted_short e =
-          record { long = long; is = λ B lookup H. sym (told_short (at B p) (length scratch) (short_of H (omega (arith, (came H).short e, own_length (at B p))))) }
+      pub counted_short : r ≡ None → {words : List ℕ} → length words ≡ length scratch → Counted nodes count p scratch (Err Scratch) words
+      counted_short e long =
+          record { long = long; is = λ B lookup H. sym (told_short (at B p) (length scratch) (short_of H (omega (arith, (came H).short e, as_many, own_length (at B p))))) }
 
       module _ {number : ℕ} (some : r ≡ Some number) where
         module _ {limit : ℕ} {B : List Family} {lookup : List ℕ} (H : Holds limit B count nodes lookup) where
-          listed : Listed limit B (place start (at B p)) places n words × ((number < length (place start (at B p))) × (at (place start (at B p)) number ≡ at B p))
+          listed : Listed limit B (place start (at B p)) t' × ((number < length (place start (at B p))) × (at (place start (at B p)) number ≡ at B p))
           listed = (came H).listed number some
 
           enough : 2 * part_count (at B p) ≤ length scratch
-          enough = omega (arith, listed.0.long, own_length (at B p), D.went.table.few)
+          enough = omega (arith, listed.0.long, own_length (at B p), D.went.table.few, as_many)
 
-          told_is : size_of words places number ≡ told (size (at B p))
+          told_is : size_of t' number ≡ told (size (at B p))
           told_is = number_told listed.0 number listed.1.0 ∙ ap (λ F. told (size F)) listed.1.1
 
-        pub counted_told : {r : Result ℕ Refusal} (members : Option ℕ) → members ≡ size_of words places number → r ≡ ok_or members Large → Counted nodes count p scratch r words
-        counted_told None e f =
+        pub counted_told : {result : Result ℕ Refusal} (members : Option ℕ) → members ≡ size_of t' number → result ≡ ok_or members Large → {words : List ℕ} → length words ≡ length scratch
+            → Counted nodes count p scratch result words
+        counted_told None e f long =
             record { long = long; is = λ B lookup H. rw f (sym (told_large (at B p) (length scratch) (enough H) (told_none (size (at B p)) (e ∙ told_is H)))) }
-        counted_told (Some m) e f =
+        counted_told (Some m) e f long =
             record {
               long = long;
               is = λ B lookup H.

@@ -3,7 +3,7 @@ ghost use Rattle.store.specs.Inner.{HandleAsks};
 ghost use Rattle.query_size_compact.specs.Inner.{Counted};
 ghost use Rattle.query_size_compact.specs.Promise.{CompactCall};
 
-use query_parts::entries::{clear, places_in};
+use query_parts::entries::{Parts, places_in};
 use query_walk::sizes::size_of;
 use query_walk::walk::descend;
 use store::record::{Answered, Refusal, Store};
@@ -21,12 +21,11 @@ fn counted(nodes: &[u32], count: u32, p: u32, scratch: &mut [u64]) -> Result<u64
     if places == 0 {
         return Err(Refusal::Scratch);
     }
-    clear(scratch, places);
-    let mut entered: u32 = 0;
-    let Some(number) = descend(p, 513, nodes, count, scratch, places, &mut entered) else {
+    let mut parts = Parts::new(scratch, places);
+    let Some(number) = descend(p, 513, nodes, count, &mut parts) else {
         return Err(Refusal::Scratch);
     };
-    size_of(scratch, places, number).ok_or(Refusal::Large)
+    size_of(&parts, number).ok_or(Refusal::Large)
 }
 
 // The number of members of p, in scratch of two words for each part of p.

@@ -36,7 +36,7 @@ pub fn exceeds(nodes: &[u32], sizes: &[u64], count: u32, p: u32) -> bool
     ensures { Exceeding nodes.now sizes.now count p result }
 {
     let mut at = p;
-    for step in 0..512u32 {
+    for _step in 0..512u32 {
         if at < 2 {
             return false;
         }

@@ -11,7 +11,8 @@ pub struct Both<T> {
     pub sum: T,
 }
 
-// The words of a handle; {} and {{}} have none, and their sums are 0.
+// The words of a handle; {} and {{}} have none, and their sums are 0. So are both numbers of a handle past the nodes,
+// which only words that hold no book have.
 pub fn pair_at(words: &[u64], count: u32, p: u32) -> Both<u64>
     requires { WordsAsk words.now count }
     ensures { Paired words.now count p result }
@@ -47,6 +48,7 @@ fn mark_at(words: &[u64], count: u32, p: u32) -> u64
 }
 
 // The mark that tells which of two numbers is above the largest word: 1 for the size, 2 for the sum, 3 for both.
+// Kept: it is a number and no enum, since it stands in a word of the scratch that the caller lends.
 fn mark_of(size: bool, sum: bool) -> u64
     ensures { result ≡ mark_of size sum }
 {

@@ -2,30 +2,30 @@
 -- A size of at least 1 is its word, or is above the largest and has the word 0; a sum is above it where a side is.
 use Prim.Native.Nat.{ℕ, ◌+◌, ◌-◌, ◌≤◌, ◌<◌}
 use mathlib.Core.Path.{◌≡◌, ◌∙◌}
-use mathlib.Core.List.{List}
 use native.Mathlib.Omega.{arith}
 use lib.ListN.{get_or}
 use borrow.Author.Tests.{lt-ltb, le-ltb, eq-eqb, ne_eqb}
 use Rattle.std.specs.Prelude.{None, Some, unwrap_or}
 use Rattle.words.specs.Words.{most}
+use Rattle.query_parts.specs.declared.entries.Parts.{Parts}
 use Rattle.words.proofs.Cases.{by_lt}
 use Rattle.query_walk.specs.Inner.{as_word, told, word_told, size_of}
 
-module _ (words : List ℕ) (places number : ℕ) where
-  pub size_leaf : number < 2 → Some number ≡ size_of words places number
+module _ (t : Parts) (number : ℕ) where
+  pub size_leaf : number < 2 → Some number ≡ size_of t number
   unfolding size_of
   size_leaf l = rw (lt-ltb number 2 l)
 
-  pub size_read : 2 ≤ number → size_of words places number ≡ word_told (get_or words (places + (number - 2)) 0)
+  pub size_read : 2 ≤ number → size_of t number ≡ word_told (get_or t.words.now (t.places + (number - 2)) 0)
   unfolding size_of
   size_read l = rw (le-ltb number 2 l)
 
-  module _ (w : ℕ) (l : 2 ≤ number) (is : w ≡ get_or words (places + (number - 2)) 0) where
-    pub size_none : w ≡ 0 → None ≡ size_of words places number
+  module _ (w : ℕ) (l : 2 ≤ number) (is : w ≡ get_or t.words.now (t.places + (number - 2)) 0) where
+    pub size_none : w ≡ 0 → None ≡ size_of t number
     unfolding size_of
     size_none e = rw (le-ltb number 2 l, ← is, eq-eqb w 0 e)
 
-    pub size_some : (w ≡ 0 → ⊥) → Some w ≡ size_of words places number
+    pub size_some : (w ≡ 0 → ⊥) → Some w ≡ size_of t number
     unfolding size_of
     size_some n = rw (le-ltb number 2 l, ← is, ne_eqb w 0 n)
 

@@ -2,17 +2,19 @@
 ghost use Rattle.std.specs.Prelude.{◌≡◌};
 ghost use Rattle.query_walk.specs.Inner.{size_of, SizeAsks, Summed};
 
+use query_parts::entries::Parts;
+
 // The size of a number, where it is at most 2^64 - 1: {} is 0, {{}} is 1, and the parts entered follow.
 // Kept: a size is one lent word (no heap, memory lent by the caller). No part is without members, so the word 0 is free
 // to tell a size above 2^64 - 1.
-pub fn size_of(table: &[u64], places: u32, number: u32) -> Option<u64>
-    requires { SizeAsks table.now places number }
-    ensures { result ≡ size_of table.now places number }
+pub fn size_of(parts: &Parts<'_>, number: u32) -> Option<u64>
+    requires { SizeAsks parts.now number }
+    ensures { result ≡ size_of parts.now number }
 {
     if number < 2 {
         return Some(u64::from(number));
     }
-    match table[places as usize + (number - 2) as usize] {
+    match parts.words[parts.places as usize + (number - 2) as usize] {
         0 => None,
         size => Some(size),
     }

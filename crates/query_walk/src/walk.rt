@@ -4,41 +4,26 @@
 ghost use Rattle.query_walk.specs.Inner.{AppendAsks, Appended, DescendAsks, WalkAsks, Any, New, Walked};
 
 use crate::sizes::{size_of, sum_of};
-use query_parts::entries::{enter, find};
+use query_parts::entries::Parts;
 
 // Enters p with its size, where there is a place.
-fn append(
-    table: &mut [u64],
-    places: u32,
-    entered: &mut u32,
-    p: u32,
-    size: Option<u64>,
-) -> Option<u32>
-    requires { AppendAsks table.old places entered.old p }
-    ensures { Appended places p size table.old entered.old table.new entered.new result }
+fn append(parts: &mut Parts<'_>, p: u32, size: Option<u64>) -> Option<u32>
+    requires { AppendAsks parts.old p }
+    ensures { Appended p size parts.old parts.new result }
 {
-    let n = *entered;
-    if n == places {
+    let place = parts.entered;
+    if place == parts.places {
         return None;
     }
-    enter(table, places, n, p, size.unwrap_or(0));
-    *entered = n + 1;
-    Some(n + 2)
+    parts.enter(p, size.unwrap_or(0));
+    Some(place + 2)
 }
 
 // Enters the parts of p, whose top is below the bound, that were not entered yet, p the last of them.
 #[cycle(descend_reach)]
-pub fn descend(
-    p: u32,
-    bound: u32,
-    nodes: &[u32],
-    count: u32,
-    table: &mut [u64],
-    places: u32,
-    entered: &mut u32,
-) -> Option<u32>
-    requires { DescendAsks p nodes.now count table.old places entered.old }
-    ensures { Walked New p bound nodes.now count places table.old entered.old table.new entered.new result }
+pub fn descend(p: u32, bound: u32, nodes: &[u32], count: u32, parts: &mut Parts<'_>) -> Option<u32>
+    requires { DescendAsks p nodes.now count parts.old }
+    ensures { Walked New p bound nodes.now count parts.old parts.new result }
 {
     if count + 1 < p {
         return None;
@@ -48,32 +33,24 @@ pub fn descend(
     if bound <= item {
         return None;
     }
-    let zero = reach(nodes[base + 1], item, nodes, count, table, places, entered)?;
-    let one = reach(nodes[base + 2], item, nodes, count, table, places, entered)?;
-    let without = size_of(table, places, zero);
-    let with = size_of(table, places, one);
-    append(table, places, entered, p, sum_of(without, with))
+    let zero = reach(nodes[base + 1], item, nodes, count, parts)?;
+    let one = reach(nodes[base + 2], item, nodes, count, parts)?;
+    let without = size_of(parts, zero);
+    let with = size_of(parts, one);
+    append(parts, p, sum_of(without, with))
 }
 
 // The same, where p may be {}, {{}} or a part that was entered. It is inlined: these cost no call.
 #[cycle(descend_reach)]
-pub fn reach(
-    p: u32,
-    bound: u32,
-    nodes: &[u32],
-    count: u32,
-    table: &mut [u64],
-    places: u32,
-    entered: &mut u32,
-) -> Option<u32>
-    requires { WalkAsks nodes.now count table.old places entered.old }
-    ensures { Walked Any p bound nodes.now count places table.old entered.old table.new entered.new result }
+pub fn reach(p: u32, bound: u32, nodes: &[u32], count: u32, parts: &mut Parts<'_>) -> Option<u32>
+    requires { WalkAsks nodes.now count parts.old }
+    ensures { Walked Any p bound nodes.now count parts.old parts.new result }
 {
     if p < 2 {
         return Some(p);
     }
-    if let Some(place) = find(table, places, p) {
+    if let Some(place) = parts.find(p) {
         return Some(place + 2);
     }
-    descend(p, bound, nodes, count, table, places, entered)
+    descend(p, bound, nodes, count, parts)
 }

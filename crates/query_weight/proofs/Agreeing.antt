@@ -10,7 +10,7 @@ use Rattle.family.proofs.Weights.{sums_agree}
 use Rattle.store.specs.declared.record.Store.{Store}
 use Rattle.store.specs.Sound.{Sound}
 use Rattle.store.specs.Words.{book_of}
-use Rattle.query_weight.specs.declared.answer.Weighed.{Weighed}
+use Rattle.store.specs.declared.record.Answered.{Answered}
 use Rattle.query_weight.specs.Promise.{Way, by_members, by_nodes, sum_by, weight_given_by, weight_refusal, weight_answer, WeightCall}
 
 pub ways_agree : (way other : Way) (weights : List ℕ) (F : Family) → sum_by way weights F ≡ sum_by other weights F
@@ -24,7 +24,7 @@ unfolding weight_answer weight_refusal
 answers_agree way other B p weights words = rw (ways_agree way other weights (at B p))
 
 -- over the promises: on a sound store two calls with equal arguments give one answer, whatever the way of each
-pub calls_agree : (way other : Way) {s : Store} {nodes lookup : List ℕ} {p : ℕ} {weights scratch scratch' scratch'' : List ℕ} {r t : Weighed} → Sound s nodes lookup []
+pub calls_agree : (way other : Way) {s : Store} {nodes lookup : List ℕ} {p : ℕ} {weights scratch scratch' scratch'' : List ℕ} {r t : Answered ℕ} → Sound s nodes lookup []
     → WeightCall way s nodes lookup p weights scratch r scratch' → WeightCall other s nodes lookup p weights scratch t scratch''
     → weight_given_by r.answer ≡ weight_given_by t.answer
 calls_agree way other {s} {nodes} {lookup} {p} {weights} {scratch} S C D =

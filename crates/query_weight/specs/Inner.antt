@@ -1,12 +1,10 @@
--- What the walk over the members promises, and what an answer is made of. A reader of the promise can pass this page
--- over.
-use Rattle.std.specs.Prelude.{ℕ, ◌+◌, ◌*◌, ◌≤◌, ◌<◌, ◌≡◌, Bool, true, false, List, length}
+-- What the walk over the members promises. A reader of the promise can pass this page over.
+use Rattle.std.specs.Prelude.{ℕ, ◌+◌, ◌*◌, ◌≤◌, ◌<◌, ◌≡◌, ⊤, Option, MatchOption, List, length}
 use Rattle.words.specs.Words.{most}
 use Rattle.family.specs.Family.{Family, empty, base, node, top}
 use Rattle.family.specs.Book.{at}
 use Rattle.family.specs.Weights.{item_weight}
 use Rattle.store.specs.Inner.{Holds}
-use Rattle.query_sums.specs.declared.kept.Kept.{Kept}
 
 -- the sum over the members of a family, each with n more: what a walk adds up below items of that weight
 abbrev pub sum_below : List ℕ → ℕ → Family → ℕ
@@ -22,18 +20,12 @@ pub record WalkAsks (nodes : List ℕ) (n bound carried : ℕ) : Type 0 where
   pub light : carried + 4294967296 * bound ≤ 4294967296 * 513
 
 -- a sum has grown by a number, or would be above the largest number with it
-pub record Grown (sum n sum' : ℕ) (r : Bool) : Type 0 where
-  pub fits : r ≡ true → sum' ≡ sum + n
-  pub above : r ≡ false → most < sum + n
+pub record Grown (sum n sum' : ℕ) (r : Option ⊤) : Type 0 where
+  pub is : MatchOption r (most < sum + n) (λ _. sum' ≡ sum + n)
   pub inside : sum ≤ most → sum' ≤ most
 
 -- the sum so far has grown by that below p
-pub record Walked (nodes weights : List ℕ) (n p bound carried sum sum' : ℕ) (r : Bool) : Type 0 where
+pub record Walked (nodes weights : List ℕ) (n p bound carried sum sum' : ℕ) (r : Option ⊤) : Type 0 where
   pub inside : sum ≤ most → sum' ≤ most
   pub is : {limit : ℕ} (B : List Family) (lookup : List ℕ) → Holds limit B n nodes lookup → p < n + 2 → top (at B p) < bound
-      → (r ≡ true → sum' ≡ sum + sum_below weights carried (at B p)) × (r ≡ false → most < sum + sum_below weights carried (at B p))
-
--- a sum is told: as it is, or as above the largest number
-pub record SumTold (x : ℕ) (k : Kept) : Type 0 where
-  pub exact : k.above ≡ false → (x ≤ most) × (k.low ≡ x)
-  pub over : k.above ≡ true → most < x
+      → MatchOption r (most < sum + sum_below weights carried (at B p)) (λ _. sum' ≡ sum + sum_below weights carried (at B p))

@@ -1,28 +1,22 @@
 -- The promise of the two sums of weights, by members and by nodes: document 02, No. 1.
-use Rattle.std.specs.Prelude.{ℕ, ◌*◌, ◌-◌, ◌≡◌, Bool, true, false, cond, List, [], eqb, ltb, length, drop}
+use Rattle.std.specs.Prelude.{ℕ, ◌*◌, ◌-◌, ◌≡◌, false, cond, List, [], eqb, ltb, length, drop, Result, Ok, Err}
 use Rattle.words.specs.Words.{most}
 use Rattle.family.specs.Family.{Family, largest_item}
 use Rattle.family.specs.Book.{at}
 use Rattle.family.specs.Weights.{sum_by_members, sum_by_nodes}
 use Rattle.store.specs.declared.record.Store.{Store}
+use Rattle.store.specs.declared.record.Answered.{Answered}
+use Rattle.store.specs.declared.record.Refusal.{Refusal}
 use Rattle.store.specs.declared.record.Refusal.TheVariants.{Damaged}
 use Rattle.store.specs.Capacity.{fitting}
 use Rattle.store.specs.Refusals.{refusal_number}
 use Rattle.store.specs.Tests.{tests_of}
 use Rattle.store.specs.Words.{book_of}
 use Rattle.store.specs.Sound.{Sound}
-use Rattle.query_weight.specs.declared.answer.WeightAnswer.{WeightAnswer}
-use Rattle.query_weight.specs.declared.answer.WeightAnswer.TheVariants.{Sum, Refused}
-use Rattle.query_weight.specs.declared.answer.Weighed.{Weighed}
 
 -- the two ways of adding: "Some planners add member by member, others node by node from the smallest number up"
 pub data Way : Type 0 where
   by_members by_nodes : Way
-
--- the way by nodes where the parameter is true, else that by members
-abbrev pub way_of : Bool → Way
-way_of true = by_nodes
-way_of false = by_members
 
 -- the sum by either way
 abbrev pub sum_by : Way → List ℕ → Family → ℕ
@@ -35,9 +29,9 @@ pub record WeightGiven : Type 0 where
   pub refusal : ℕ
   pub sum : ℕ
 
-abbrev pub weight_given_by : WeightAnswer → WeightGiven
-weight_given_by (Sum n) = record { refusal = 0; sum = n }
-weight_given_by (Refused r) = record { refusal = refusal_number r; sum = 0 }
+abbrev pub weight_given_by : Result ℕ Refusal → WeightGiven
+weight_given_by (Ok n) = record { refusal = 0; sum = n }
+weight_given_by (Err r) = record { refusal = refusal_number r; sum = 0 }
 
 -- "11, the weight list isn't 512 long", whatever the store's limit
 abbrev pub weights_test : ℕ → ℕ
@@ -59,9 +53,9 @@ weight_answer way B p weights words =
 
 -- The promise of either call, by its way of adding. It changes no word but its scratch, and hands the record back as it
 -- came. The scratch is "left free in those words also after a 6": of it the promise says which words stay.
-pub record WeightCall (way : Way) (s : Store) (nodes lookup : List ℕ) (p : ℕ) (weights scratch : List ℕ) (r : Weighed) (scratch' : List ℕ) : Type 0 where
+pub record WeightCall (way : Way) (s : Store) (nodes lookup : List ℕ) (p : ℕ) (weights scratch : List ℕ) (r : Answered ℕ) (scratch' : List ℕ) : Type 0 where
   -- a certain 10
-  pub misfit : fitting s (length nodes) (length lookup) ≡ false → (r.answer ≡ Refused Damaged) × (scratch' ≡ scratch)
+  pub misfit : fitting s (length nodes) (length lookup) ≡ false → (r.answer ≡ Err Damaged) × (scratch' ≡ scratch)
   -- a sound store; no cache is lent
   pub answer_is : Sound s nodes lookup [] → weight_given_by r.answer ≡ weight_answer way (book_of nodes s.count) p weights (length scratch)
   -- after 4, 11 and 7

@@ -2,30 +2,7 @@
 use crate::words::Words;
 use op_families::calls::union;
 use op_items::calls::change;
-use store::record::{PlaceAnswer, Placed, Refusal, Store};
-
-// Until the store has these.
-#[derive(Clone, Copy)]
-pub struct Placement {
-    pub handle: u32,
-    pub added: u32,
-}
-
-#[derive(Clone, Copy)]
-struct Answered<T> {
-    store: Store,
-    answer: Result<T, Refusal>,
-}
-
-fn made(placed: Placed) -> Answered<Placement> {
-    Answered {
-        store: placed.store,
-        answer: match placed.answer {
-            PlaceAnswer::Handle(handle, added) => Ok(Placement { handle, added }),
-            PlaceAnswer::Refused(refusal) => Err(refusal),
-        },
-    }
-}
+use store::record::{Answered, Placement, Refusal, Store};
 
 // What the calls of a phase are.
 #[derive(Clone, Copy)]
@@ -107,14 +84,14 @@ impl Progress {
 
     // The change that makes a combination from its lower item's, or from the empty one.
     fn change(self, pair: Pair, words: &mut Words) -> Progress {
-        self.with(made(change(
+        self.with(change(
             self.store,
             &mut words.nodes,
             &mut words.lookup,
             &mut words.cache,
             pair.low.wrapping_add(1),
             pair.high,
-        )))
+        ))
     }
 
     // The change that makes the next combination.
@@ -127,14 +104,14 @@ impl Progress {
 
     // The union with the next single item.
     fn united(self, words: &mut Words) -> Progress {
-        let answered = made(union(
+        let answered = union(
             self.store,
             &mut words.nodes,
             &mut words.lookup,
             &mut words.cache,
             self.singles,
             self.item.wrapping_add(1),
-        ));
+        );
         let singles = answered.answer.map_or(0, |placement| placement.handle);
         Progress {
             singles,

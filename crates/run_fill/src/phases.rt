@@ -60,7 +60,7 @@ impl Progress {
         print!(rt; "{what}: ")?;
         match self.answer {
             Ok(placement) => print!(rt; "{}", placement.handle)?,
-            Err(refusal) => print!(rt; "refused {}", c_records::number(refusal))?,
+            Err(refusal) => print!(rt; "refused {}", u32::from(refusal))?,
         }
         println!(rt;
             ", added {added}, held {} of {}",

@@ -72,15 +72,13 @@ impl Replay<'_> {
     fn audited(&mut self, rt: &impl Print, lent: Lent) -> io::Result<()> {
         let slots = lent.slots.min(self.lookup.len());
         let part = lent.cache.min(self.cache.len());
-        let audited = audit(
-            lent.record,
-            self.nodes,
-            &self.lookup[..slots],
-            &mut self.cache[..part],
-        );
+        let nodes = &mut *self.nodes;
+        let lookup = &mut self.lookup[..slots];
+        let cache = &mut self.cache[..part];
+        let audited = audit(lent.record, nodes, lookup, cache);
         print!(rt; " lent {slots} {part}: {}", told(audited.sound))?;
         record(rt, audited.store)?;
-        println!(rt; " cleared {}", told(cleared(&self.cache[..part])))
+        println!(rt; " cleared {}", told(cleared(cache)))
     }
 
     // Audits the store as it is or with a drawn change, which is then undone.

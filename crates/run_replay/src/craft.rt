@@ -5,6 +5,7 @@ use crate::replay::Replay;
 use std::io;
 
 // A record's three numbers, and its bit map byte.
+// Kept: no three Options, since drawn bits go over those that the numbers ask for.
 #[derive(Clone, Copy)]
 pub struct Fields {
     pub bits: u32,

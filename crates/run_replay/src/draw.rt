@@ -1,4 +1,5 @@
 // What is drawn for a call.
+// Kept: a way is a drawn number, here and in the other files, and its arms say how often each case comes.
 
 // One step of the 32-bit xorshift with shifts 13, 17 and 5.
 pub fn step(x: u32) -> u32 {

@@ -1,12 +1,12 @@
 // The lists: Fresh, then so many drawn calls.
 use crate::draw::draw;
-use crate::old::fresh;
 use crate::output::{record, refused, told};
 use crate::replay::Replay;
 use crate::settings::{Opening, Setting, drawn_setting, first, last};
 use crate::sums::{MARK, cleared, spare};
 use std::io;
 use store::record::Store;
+use store_fresh::fresh;
 
 // Writes some words, after what they are.
 fn words_line(rt: &impl Print, name: &str, words: &[u32]) -> io::Result<()> {
@@ -97,19 +97,27 @@ struct Lists {
 impl Lists {
     // A list on parts of the words.
     fn list(&mut self, rt: &impl Print, setting: Setting) -> io::Result<()> {
+        let Lists {
+            nodes,
+            lookup,
+            cache,
+            file,
+            draw,
+            length,
+        } = self;
         let mut replay = Replay {
-            draw: self.draw,
+            draw: *draw,
             store: Store::new(0, 0),
             added: 0,
-            nodes: &mut self.nodes[..setting.nodes.min(3010)],
-            lookup: &mut self.lookup[..setting.lookup.min(2060)],
-            cache: &mut self.cache[..setting.cache.min(4100)],
-            file: &mut self.file,
-            length: self.length,
+            nodes: &mut nodes[..setting.nodes.min(3010)],
+            lookup: &mut lookup[..setting.lookup.min(2060)],
+            cache: &mut cache[..setting.cache.min(4100)],
+            file,
+            length: *length,
         };
         replay.list(rt, setting)?;
-        self.draw = replay.draw;
-        self.length = replay.length;
+        *draw = replay.draw;
+        *length = replay.length;
         Ok(())
     }
 }

@@ -1,11 +1,11 @@
 // The line of Load.
 use crate::lend::Lent;
-use crate::old::load;
 use crate::output::told;
 use crate::placing::given;
 use crate::replay::Replay;
 use crate::saves::free_until;
 use crate::sums::{MARK, kept, sum_of};
+use file_load::load;
 use std::io;
 
 // How many bytes are read: mostly the last file's, seldom none, one less, one more, or any number.
@@ -40,21 +40,15 @@ impl Replay<'_> {
         let part = lent.cache.min(self.cache.len());
         let read = bytes.min(self.file.len());
         let room = words.min(12400);
-        let before = sum_of(&self.cache[..part]);
-        let placed = load(
-            lent.record,
-            self.nodes,
-            &mut self.lookup[..slots],
-            &mut self.cache[..part],
-            &self.file[..read],
-            &mut scratch[..room],
-        );
+        let lookup = &mut self.lookup[..slots];
+        let cache = &mut self.cache[..part];
+        let file = &mut self.file[..read];
+        let before = sum_of(cache);
+        let words = &mut scratch[..room];
+        let placed = load(lent.record, self.nodes, lookup, cache, file, words);
         print!(rt; "Load {read} lent {slots} {part} {room}:")?;
         given(rt, placed, &self.cache[..part], before)?;
-        let free = match placed.answer {
-            Ok(_) => needed(read),
-            Err(refusal) => free_until(refusal, needed(read)),
-        };
+        let free = free_until(placed.answer, needed(read));
         println!(rt;
             " sum {:08x} kept {}",
             self.sum(),

@@ -9,7 +9,6 @@ mod lend;
 mod lists;
 mod loads;
 mod members;
-mod old;
 mod output;
 mod parity;
 mod parts;

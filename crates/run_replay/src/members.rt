@@ -1,11 +1,11 @@
 // The line of Has.
 use crate::draw::{Drawn, item};
 use crate::lend::Lent;
-use crate::old::has;
-use crate::output::{record, refused, told};
+use crate::output::{answer, record, told};
 use crate::path::{NONE, member, toggled};
 use crate::replay::Replay;
 use combination::Combination;
+use query_has::has;
 use std::io;
 
 // An item above the limit, up to 512; 513 where there is none.
@@ -54,10 +54,7 @@ impl Replay<'_> {
             }
         }
         print!(rt; " lent {slots}:")?;
-        match asked.answer {
-            Ok(held) => print!(rt; " {}", told(held))?,
-            Err(refusal) => refused(rt, refusal)?,
-        }
+        answer(rt, asked.answer.map(told))?;
         record(rt, asked.store)?;
         println!(rt; "")
     }

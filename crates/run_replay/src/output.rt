@@ -1,5 +1,5 @@
 // Pieces of a line on standard output.
-use std::io;
+use std::{fmt, io};
 use store::record::{Refusal, Store};
 
 // Yes or no.
@@ -19,5 +19,16 @@ pub fn record(rt: &impl Print, store: Store) -> io::Result<()> {
 
 // Writes a refusal.
 pub fn refused(rt: &impl Print, refusal: Refusal) -> io::Result<()> {
-    print!(rt; " refused {}", crate::old::number(refusal))
+    print!(rt; " refused {}", u32::from(refusal))
+}
+
+// Writes an answer, or the refusal.
+pub fn answer<T: fmt::Display + Drop>(
+    rt: &impl Print,
+    given: Result<T, Refusal>,
+) -> io::Result<()> {
+    match given {
+        Ok(value) => print!(rt; " {value}"),
+        Err(refusal) => refused(rt, refusal),
+    }
 }

@@ -1,9 +1,18 @@
 // How many different parts a family has.
 
-// The three words of a node, its item and both sides; none for the handles below 2 and those past the words.
-pub fn node(nodes: &[u32], p: u32) -> Option<[u32; 3]> {
+// The words of a node: its item and the handles of both sides.
+#[derive(Clone, Copy)]
+pub struct Node {
+    pub item: u32,
+    pub zero: u32,
+    pub one: u32,
+}
+
+// The node of a handle; none for the handles below 2 and those past the words.
+pub fn node_at(nodes: &[u32], p: u32) -> Option<Node> {
     let k = p.checked_sub(2)?;
-    nodes.as_chunks::<3>().0.get(k as usize).copied()
+    let [item, zero, one] = *nodes.as_chunks::<3>().0.get(k as usize)?;
+    Some(Node { item, zero, one })
 }
 
 // Marks a handle, if the marks reach so far.
@@ -19,7 +28,8 @@ pub fn needed(p: u32, count: u32, nodes: &[u32]) -> usize {
     let mut marks = [false; 1100];
     mark(&mut marks, p);
     for part in (2..count.saturating_add(2)).rev() {
-        if let (Some(true), Some([_, zero, one])) = (marks.get(part as usize), node(nodes, part)) {
+        let marked = marks.get(part as usize).is_some_and(|mark| *mark);
+        if marked && let Some(Node { zero, one, .. }) = node_at(nodes, part) {
             mark(&mut marks, zero);
             mark(&mut marks, one);
         }

@@ -1,6 +1,6 @@
 // Combinations to ask for.
 use crate::draw::step;
-use crate::parts::node;
+use crate::parts::{Node, node_at};
 use combination::Combination;
 
 // The empty combination.
@@ -22,7 +22,7 @@ pub fn member(nodes: &[u32], p: u32, start: u32) -> Combination {
     let mut items = NONE;
     let mut at = p;
     for _ in 0..512 {
-        let Some([item, zero, one]) = node(nodes, at) else {
+        let Some(Node { item, zero, one }) = node_at(nodes, at) else {
             break;
         };
         draw = step(draw);

@@ -1,12 +1,13 @@
 // The lines of the six operations, Even and Odd.
 use crate::lend::Lent;
-use crate::old::{Answered, Placement, even, odd, operate};
 use crate::output::{record, refused, told};
 use crate::replay::Replay;
 use crate::sums::{cleared, sum_of};
+use op_calls::operate;
+use op_parity::calls::{even, odd};
 use op_promise::Operation;
 use std::{fmt, io};
-use store::record::Refusal;
+use store::record::{Answered, Placement, Refusal};
 
 // An operation and its two operands, or Even or Odd of a family.
 #[derive(Clone, Copy)]
@@ -17,6 +18,7 @@ pub enum Call {
 }
 
 // The name of an operation.
+// Kept: each program has its own: in a library it would be a public function with nothing to promise.
 fn name(op: Operation) -> &'static str {
     match op {
         Operation::Subset1 => "Subset1",
@@ -60,7 +62,7 @@ pub fn given(
 }
 
 impl Replay<'_> {
-    // Runs a call and writes its line; gives the handle, 0 for a refusal.
+    // Runs a call and writes its line; gives the handle, that of {} for a refusal.
     pub fn place(&mut self, rt: &impl Print, call: Call, lent: Lent) -> io::Result<u32> {
         let slots = lent.slots.min(self.lookup.len());
         let part = lent.cache.min(self.cache.len());

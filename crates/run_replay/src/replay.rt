@@ -1,8 +1,7 @@
 // What goes from call to call.
 use crate::lend::{Lent, handed, slots};
-use crate::old::{Answered, Placement};
 use crate::sums::{sum_from, sum_of};
-use store::record::Store;
+use store::record::{Answered, Placement, Store};
 
 // The draw; the record last given back, its words, and the nodes added since Fresh; and a buffer, with the length of the
 // file in it.

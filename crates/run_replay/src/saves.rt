@@ -1,35 +1,18 @@
 // The lines of Save.
 use crate::lend::Lent;
-use crate::old::{Answered, save};
-use crate::output::{record, refused, told};
+use crate::output::{answer, record, told};
 use crate::replay::Replay;
 use crate::sums::{MARK, kept, sum_of};
+use file_save::save;
 use std::io;
 use store::record::Refusal;
 
 // From where on the scratch must be as before: after 10, 4, 11 and 7 all of it, else what is past the needed words.
-pub fn free_until(refusal: Refusal, needed: usize) -> usize {
-    match refusal {
-        Refusal::Damaged | Refusal::Handle | Refusal::Weights | Refusal::Scratch => 0,
+pub fn free_until<T: Copy>(answer: Result<T, Refusal>, needed: usize) -> usize {
+    match answer {
+        Err(Refusal::Damaged | Refusal::Handle | Refusal::Weights | Refusal::Scratch) => 0,
         _ => needed,
     }
-}
-
-// Writes what Save gave, and whether the other scratch words are as before.
-fn given(rt: &impl Print, saved: Answered<usize>, links: &[u32]) -> io::Result<()> {
-    let needed = saved.store.count as usize;
-    let free = match saved.answer {
-        Ok(length) => {
-            print!(rt; " {length}")?;
-            needed
-        }
-        Err(refusal) => {
-            refused(rt, refusal)?;
-            free_until(refusal, needed)
-        }
-    };
-    print!(rt; " kept {}", told(kept(links, free, MARK)))?;
-    record(rt, saved.store)
 }
 
 impl Replay<'_> {
@@ -46,16 +29,15 @@ impl Replay<'_> {
         let slots = lent.slots.min(self.lookup.len());
         let part = words.min(1100);
         let out = bytes.min(self.file.len());
-        let saved = save(
-            lent.record,
-            self.nodes,
-            &self.lookup[..slots],
-            p,
-            &mut links[..part],
-            &mut self.file[..out],
-        );
+        let lookup = &mut self.lookup[..slots];
+        let file = &mut self.file[..out];
+        let nodes = &mut *self.nodes;
+        let saved = save(lent.record, nodes, lookup, p, &mut links[..part], file);
         print!(rt; "Save {p} lent {slots} {part} {out}:")?;
-        given(rt, saved, &links)?;
+        answer(rt, saved.answer)?;
+        let free = free_until(saved.answer, saved.store.count as usize);
+        print!(rt; " kept {}", told(kept(&links, free, MARK)))?;
+        record(rt, saved.store)?;
         println!(rt; " sum {:08x}", sum_of(self.file))?;
         Ok(saved.answer)
     }

@@ -2,7 +2,7 @@
 use crate::craft::Fields;
 use crate::placing::Call;
 use crate::replay::Replay;
-use crate::weighing::By;
+use crate::weighing::{By, Weighing};
 use crate::weights::{Apart, Way, Weights};
 use op_promise::Operation;
 use std::io;
@@ -30,18 +30,22 @@ impl Shape {
 
     // The record of an item's part; the part before it has the item's number.
     fn record(self, item: u32) -> Fields {
-        let single = self.fixed < item && item <= self.single;
-        Fields {
-            bits: if single {
-                6
-            } else if item <= self.free {
-                2
-            } else {
-                0
-            },
+        let plain = Fields {
+            bits: 0,
             item,
             zero: item,
-            one: if single { 1 } else { item },
+            one: item,
+        };
+        if self.fixed < item && item <= self.single {
+            Fields {
+                bits: 6,
+                one: 1,
+                ..plain
+            }
+        } else if item <= self.free {
+            Fields { bits: 2, ..plain }
+        } else {
+            plain
         }
     }
 }
@@ -65,14 +69,24 @@ impl Replay<'_> {
         let lent = self.everything();
         let needed = 3 * self.store.count as usize;
         self.weigh_every(rt, p, item)?;
-        self.weigh_by(rt, &[By::Nodes], p, needed.wrapping_sub(1), EDGE, lent)?;
-        self.weigh_by(rt, by, p, needed, EDGE, lent)
+        let edge = Weighing {
+            p,
+            weights: EDGE,
+            words: needed,
+            lent,
+        };
+        let short = Weighing {
+            words: needed.wrapping_sub(1),
+            ..edge
+        };
+        self.weigh_by(rt, &[By::Nodes], short)?;
+        self.weigh_by(rt, by, edge)
     }
 
     // Loads the family of a shape, and writes its sums.
     fn shape(&mut self, rt: &impl Print, shape: Shape, by: &[By]) -> io::Result<()> {
         self.put_head(1, shape.all);
-        for item in 1..shape.all.wrapping_add(1) {
+        for item in 1..=shape.all {
             self.put_record(shape.record(item));
         }
         self.file_line(rt, "Craft")?;
@@ -105,17 +119,14 @@ impl Replay<'_> {
         for items in 63..=65 {
             self.shape(rt, Shape::subsets(items), nodes)?;
         }
-        let large = self.newest();
-        self.shape(
-            rt,
-            Shape {
-                single: 33,
-                all: 66,
-                ..Shape::subsets(32)
-            },
-            nodes,
-        )?;
-        self.shape_by(rt, Operation::Union, large, self.newest(), 66)?;
+        let uncounted = self.newest();
+        let held = Shape {
+            single: 33,
+            all: 66,
+            ..Shape::subsets(32)
+        };
+        self.shape(rt, held, nodes)?;
+        self.shape_by(rt, Operation::Union, uncounted, self.newest(), 66)?;
         self.shape(
             rt,
             Shape {

@@ -1,12 +1,13 @@
 // The lines of Size by either entry.
 use crate::draw::{Drawn, draw, handle};
 use crate::lend::{Lent, about};
-use crate::old::{Answered, size, size_compact};
-use crate::output::{record, refused, told};
+use crate::output::{answer, record, told};
 use crate::parts::needed;
 use crate::replay::Replay;
 use crate::sums::{WIDE_MARK, kept, sum_of};
-use std::io;
+use query_size::size;
+use query_size_compact::call::size_compact;
+use std::{fmt, io};
 use store::record::Refusal;
 
 // The entries of Size.
@@ -16,13 +17,13 @@ enum Entry {
     Compact,
 }
 
-// Writes what an entry gave.
-fn given(rt: &impl Print, measured: Answered<u64>) -> io::Result<()> {
-    match measured.answer {
-        Ok(members) => print!(rt; " {members}")?,
-        Err(refusal) => refused(rt, refusal)?,
+impl fmt::Display for Entry {
+    fn fmt<W: fmt::Write>(&self, f: &mut fmt::Formatter<W>) -> fmt::Result {
+        match self {
+            Entry::First => write!(f, "Size"),
+            Entry::Compact => write!(f, "Size compact"),
+        }
     }
-    record(rt, measured.store)
 }
 
 // From where on the second entry leaves the scratch as before: after a refusal with 10 and 4 all of it, else what was
@@ -58,18 +59,14 @@ impl Replay<'_> {
         let slots = lent.slots.min(self.lookup.len());
         let lookup = &self.lookup[..slots];
         let part = words.min(scratch.len());
-        let (name, measured) = match entry {
-            Entry::First => (
-                "Size",
-                size(lent.record, self.nodes, lookup, p, &mut scratch[..part]),
-            ),
-            Entry::Compact => (
-                "Size compact",
-                size_compact(lent.record, self.nodes, lookup, p, &mut scratch[..part]),
-            ),
+        let room = &mut scratch[..part];
+        let measured = match entry {
+            Entry::First => size(lent.record, self.nodes, lookup, p, room),
+            Entry::Compact => size_compact(lent.record, self.nodes, lookup, p, room),
         };
-        print!(rt; "{name} {p} lent {slots} {part}:")?;
-        given(rt, measured)?;
+        print!(rt; "{entry} {p} lent {slots} {part}:")?;
+        answer(rt, measured.answer)?;
+        record(rt, measured.store)?;
         match entry {
             Entry::First => println!(rt; " sum {:08x}", sum_of(scratch))?,
             Entry::Compact => {

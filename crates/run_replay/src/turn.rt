@@ -96,6 +96,7 @@ impl Replay<'_> {
         let drawn = draw(self.draw);
         self.draw = drawn.d;
         let lent = self.lend(drawn.d, self.part(drawn.c, items));
+        // Kept: a kind is a drawn number, and the ranges, here and in `drawn_call`, say how often each call comes.
         match drawn.kind % 46 {
             27..=28 => self.drawn_parity(rt, drawn, items),
             29..=30 => self.drawn_size(rt, drawn),

@@ -58,7 +58,8 @@ impl Way {
             Way::Same(weight) => weight,
             Way::BelowTen => x % 10,
             Way::Any => x,
-            Way::Few => { if x % 4 == 0 { x } else { 0 } }
+            Way::Few if x % 4 == 0 => x,
+            Way::Few => 0,
         }
     }
 }

@@ -7,31 +7,15 @@ use store::record::Store;
 
 // The first and the last item, and the numbers beside them.
 const CALLS: [Call; 4] = [
-    Call {
-        op: Operation::Change,
-        p: 1,
-        q: 1,
-    },
-    Call {
-        op: Operation::Change,
-        p: 1,
-        q: 512,
-    },
-    Call {
-        op: Operation::Change,
-        p: 1,
-        q: 0,
-    },
-    Call {
-        op: Operation::Change,
-        p: 1,
-        q: 513,
-    },
+    Call(Operation::Change, 1, 1),
+    Call(Operation::Change, 1, 512),
+    Call(Operation::Change, 1, 0),
+    Call(Operation::Change, 1, 513),
 ];
 
-// Runs an operation; gives the handle, 0 for a refusal.
+// Runs an operation; gives the handle, that of {} for a refusal.
 fn handle(lent: &mut Lent, op: Operation, p: u32, q: u32) -> u32 {
-    lent.operate(Call { op, p, q })
+    lent.operate(Call(op, p, q))
         .map_or(0, |placement| placement.handle)
 }
 

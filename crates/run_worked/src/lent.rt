@@ -1,9 +1,14 @@
 // A store on lent words: the calls on it, each with its line.
 use crate::call::Call;
-use crate::old::{Placement, fresh, has, load, operate, save, size};
 use combination::Combination;
+use file_load::load;
+use file_save::save;
+use op_calls::operate;
+use query_has::has;
+use query_size::size;
 use std::io;
-use store::record::{Refusal, Store};
+use store::record::{Placement, Refusal, Store};
+use store_fresh::fresh;
 
 // The record and the words of a store.
 #[derive(Drop)]
@@ -16,7 +21,15 @@ pub struct Lent<'a> {
 
 // Ends a line with a refusal.
 pub fn refused(rt: &impl Print, refusal: Refusal) -> io::Result<()> {
-    println!(rt; " refused with {}", crate::old::number(refusal))
+    println!(rt; " refused with {}", u32::from(refusal))
+}
+
+// Writes bytes in hexadecimal.
+fn hexadecimal(rt: &impl Print, bytes: &[u8]) -> io::Result<()> {
+    for byte in bytes {
+        print!(rt; " {byte:02x}")?;
+    }
+    Ok(())
 }
 
 impl Lent<'_> {
@@ -29,7 +42,7 @@ impl Lent<'_> {
 
     // Runs an operation.
     pub fn operate(&mut self, call: Call) -> Result<Placement, Refusal> {
-        let Call { op, p, q } = call;
+        let Call(op, p, q) = call;
         let placed = operate(op, self.store, self.nodes, self.lookup, self.cache, p, q);
         self.store = placed.store;
         placed.answer
@@ -77,9 +90,7 @@ impl Lent<'_> {
         match saved.answer {
             Ok(length) => {
                 print!(rt; " = {length} bytes:")?;
-                for byte in out.iter().take(length) {
-                    print!(rt; " {byte:02x}")?;
-                }
+                hexadecimal(rt, &out[..length.min(out.len())])?;
                 println!(rt; "")
             }
             Err(refusal) => refused(rt, refusal),
@@ -102,9 +113,7 @@ impl Lent<'_> {
         if file.is_empty() {
             print!(rt; " no bytes")?;
         }
-        for byte in file {
-            print!(rt; " {byte:02x}")?;
-        }
+        hexadecimal(rt, file)?;
         self.placed(rt, placed.answer)
     }
 

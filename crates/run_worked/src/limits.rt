@@ -8,16 +8,8 @@ use store::record::Store;
 
 // The largest item of the pocket tester and the one above it.
 const CALLS: [Call; 2] = [
-    Call {
-        op: Operation::Change,
-        p: 1,
-        q: 64,
-    },
-    Call {
-        op: Operation::Change,
-        p: 1,
-        q: 65,
-    },
+    Call(Operation::Change, 1, 64),
+    Call(Operation::Change, 1, 65),
 ];
 
 // Fresh with a limit, with its line.

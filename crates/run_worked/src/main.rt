@@ -5,7 +5,6 @@ mod call;
 mod large;
 mod lent;
 mod limits;
-mod old;
 mod small;
 
 use std::io;

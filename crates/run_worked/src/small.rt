@@ -9,61 +9,17 @@ use table::start::start_slot;
 
 // The operations in the order of document 01.
 const CALLS: [Call; 11] = [
-    Call {
-        op: Operation::Change,
-        p: 1,
-        q: 1,
-    },
-    Call {
-        op: Operation::Change,
-        p: 1,
-        q: 2,
-    },
-    Call {
-        op: Operation::Union,
-        p: 2,
-        q: 3,
-    },
-    Call {
-        op: Operation::Union,
-        p: 3,
-        q: 2,
-    },
-    Call {
-        op: Operation::Diff,
-        p: 4,
-        q: 2,
-    },
-    Call {
-        op: Operation::Intsec,
-        p: 4,
-        q: 1,
-    },
-    Call {
-        op: Operation::Subset1,
-        p: 4,
-        q: 2,
-    },
-    Call {
-        op: Operation::Subset0,
-        p: 4,
-        q: 2,
-    },
-    Call {
-        op: Operation::Change,
-        p: 4,
-        q: 1,
-    },
-    Call {
-        op: Operation::Change,
-        p: 1,
-        q: 3,
-    },
-    Call {
-        op: Operation::Change,
-        p: 5,
-        q: 1,
-    },
+    Call(Operation::Change, 1, 1),
+    Call(Operation::Change, 1, 2),
+    Call(Operation::Union, 2, 3),
+    Call(Operation::Union, 3, 2),
+    Call(Operation::Diff, 4, 2),
+    Call(Operation::Intsec, 4, 1),
+    Call(Operation::Subset1, 4, 2),
+    Call(Operation::Subset0, 4, 2),
+    Call(Operation::Change, 4, 1),
+    Call(Operation::Change, 1, 3),
+    Call(Operation::Change, 5, 1),
 ];
 
 // The files that are loaded: those that Save wrote, one with a needless item, one of no parts, and no bytes.

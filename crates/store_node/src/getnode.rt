@@ -25,6 +25,9 @@ fn made_node(
 }
 
 // Its handle, and a new node counted.
+// Kept: how far the store is filled, its nodes and its lookup are three parameters here and in the recursions. As the
+// fields of one struct (tried) the proof does not close: the borrow checker does not cover a call, as that of `probe`,
+// which is lent two slices from behind one reference.
 pub fn node_of(
     fill: &mut Fill,
     nodes: &mut [u32],

@@ -32,6 +32,8 @@ fn enter(
     lookup[slot] = count + 2;
 }
 
+// Kept: a node's item and children are three parameters here and in `table`: each is used by its own name, and a struct
+// would be put together at each call only to be taken apart.
 // The node with these words: found, or new. Refused where there is no room, or on words that no sound store has.
 pub fn make(
     fill: Fill,

@@ -6,7 +6,7 @@ ghost use Rattle.query_size_compact.specs.Promise.{CompactCall};
 ghost use Rattle.c_records.specs.Promise.{measured_of, asked_of};
 ghost use Rattle.zdd_c.specs.Promise.{Exported};
 
-use c_records::{CAsked, CMeasured, asked, measured};
+use c_records::{CAsked, CMeasured};
 use combination::Combination;
 use query_has::has;
 use query_size::size;
@@ -24,7 +24,7 @@ pub extern "C" fn zdd_size(
 ) -> CMeasured
     ensures { Exported measured_of (λ b. SizeCall store nodes.now lookup.now p sizes.old b sizes.new) result }
 {
-    measured(size(store, nodes, lookup, p, sizes))
+    size(store, nodes, lookup, p, sizes).into()
 }
 
 // The same number, in scratch of two words for each part of p.
@@ -38,7 +38,7 @@ pub extern "C" fn zdd_size_compact(
 ) -> CMeasured
     ensures { Exported measured_of (λ b. CompactCall store nodes.now lookup.now p scratch.old b scratch.new) result }
 {
-    measured(size_compact(store, nodes, lookup, p, scratch))
+    size_compact(store, nodes, lookup, p, scratch).into()
 }
 
 // Whether the combination is a member of p.
@@ -52,5 +52,5 @@ pub extern "C" fn zdd_has(
 ) -> CAsked
     ensures { Exported asked_of (λ b. HasCall store nodes.now lookup.now p (items_of combination.words) b) result }
 {
-    asked(has(store, nodes, lookup, p, combination))
+    has(store, nodes, lookup, p, combination).into()
 }

@@ -3,7 +3,7 @@ ghost use Rattle.store_audit.specs.Promise.{AuditCall};
 ghost use Rattle.c_records.specs.Promise.{audited_of};
 ghost use Rattle.zdd_c.specs.Promise.{Exported};
 
-use c_records::{CAudited, audited};
+use c_records::CAudited;
 use store::record::Store;
 use store_audit::audit::audit;
 
@@ -17,5 +17,5 @@ pub extern "C" fn zdd_audit(
 ) -> CAudited
     ensures { Exported audited_of (λ b. AuditCall store nodes.now lookup.now cache.old b cache.new) result }
 {
-    audited(audit(store, nodes, lookup, cache))
+    audit(store, nodes, lookup, cache).into()
 }

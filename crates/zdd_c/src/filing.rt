@@ -4,7 +4,7 @@ ghost use Rattle.file_save.specs.Promise.{SaveCall};
 ghost use Rattle.c_records.specs.Promise.{placed_of, saved_of};
 ghost use Rattle.zdd_c.specs.Promise.{Exported};
 
-use c_records::{CPlaced, CSaved, placed, saved};
+use c_records::{CPlaced, CSaved};
 use file_load::load;
 use file_save::save;
 use store::record::Store;
@@ -21,7 +21,7 @@ pub extern "C" fn zdd_save(
 ) -> CSaved
     ensures { Exported saved_of (λ b. SaveCall store nodes.now lookup.now p scratch.old out.old b scratch.new out.new) result }
 {
-    saved(save(store, nodes, lookup, p, scratch, out))
+    save(store, nodes, lookup, p, scratch, out).into()
 }
 
 // Reads a file and places its family.
@@ -36,5 +36,5 @@ pub extern "C" fn zdd_load(
 ) -> CPlaced
     ensures { Exported placed_of (λ b. LoadCall store nodes.old lookup.old cache.old file.now scratch.old b nodes.new lookup.new cache.new scratch.new) result }
 {
-    placed(load(store, nodes, lookup, cache, file, scratch))
+    load(store, nodes, lookup, cache, file, scratch).into()
 }

@@ -4,7 +4,7 @@ ghost use Rattle.store_fresh.specs.Promise.{FreshCall};
 ghost use Rattle.c_records.specs.Promise.{freshened_of};
 ghost use Rattle.zdd_c.specs.Promise.{Exported};
 
-use c_records::{CFreshened, freshened};
+use c_records::CFreshened;
 use store_fresh::{base, empty, fresh};
 
 // Makes an empty store of the lent words for the items up to the limit.
@@ -17,7 +17,7 @@ pub extern "C" fn zdd_fresh(
 ) -> CFreshened
     ensures { Exported freshened_of (λ b. FreshCall limit nodes.old lookup.old cache.old b nodes.new lookup.new cache.new) result }
 {
-    freshened(fresh(nodes, lookup, cache, limit))
+    fresh(nodes, lookup, cache, limit).into()
 }
 
 // The handle of {}.

@@ -5,7 +5,7 @@ ghost use Rattle.op_parity.specs.Promise.{ParityCall};
 ghost use Rattle.c_records.specs.Promise.{placed_of};
 ghost use Rattle.zdd_c.specs.Promise.{Exported};
 
-use c_records::{CPlaced, placed};
+use c_records::CPlaced;
 use op_families::calls::{diff, intsec, union};
 use op_items::calls::{change, subset0, subset1};
 use op_parity::calls::{even, odd};
@@ -23,7 +23,7 @@ pub extern "C" fn zdd_subset1(
 ) -> CPlaced
     ensures { Exported placed_of (λ b. OperationCall 1 p item store nodes.old lookup.old cache.old b nodes.new lookup.new cache.new) result }
 {
-    placed(subset1(store, nodes, lookup, cache, p, item))
+    subset1(store, nodes, lookup, cache, p, item).into()
 }
 
 // The members of p without the item.
@@ -38,7 +38,7 @@ pub extern "C" fn zdd_subset0(
 ) -> CPlaced
     ensures { Exported placed_of (λ b. OperationCall 2 p item store nodes.old lookup.old cache.old b nodes.new lookup.new cache.new) result }
 {
-    placed(subset0(store, nodes, lookup, cache, p, item))
+    subset0(store, nodes, lookup, cache, p, item).into()
 }
 
 // The members of p with the item put in where absent and taken out where present.
@@ -53,7 +53,7 @@ pub extern "C" fn zdd_change(
 ) -> CPlaced
     ensures { Exported placed_of (λ b. OperationCall 3 p item store nodes.old lookup.old cache.old b nodes.new lookup.new cache.new) result }
 {
-    placed(change(store, nodes, lookup, cache, p, item))
+    change(store, nodes, lookup, cache, p, item).into()
 }
 
 // The combinations in p or in q.
@@ -68,7 +68,7 @@ pub extern "C" fn zdd_union(
 ) -> CPlaced
     ensures { Exported placed_of (λ b. OperationCall 4 p q store nodes.old lookup.old cache.old b nodes.new lookup.new cache.new) result }
 {
-    placed(union(store, nodes, lookup, cache, p, q))
+    union(store, nodes, lookup, cache, p, q).into()
 }
 
 // The combinations in p and in q.
@@ -83,7 +83,7 @@ pub extern "C" fn zdd_intsec(
 ) -> CPlaced
     ensures { Exported placed_of (λ b. OperationCall 5 p q store nodes.old lookup.old cache.old b nodes.new lookup.new cache.new) result }
 {
-    placed(intsec(store, nodes, lookup, cache, p, q))
+    intsec(store, nodes, lookup, cache, p, q).into()
 }
 
 // The combinations in p and not in q.
@@ -98,7 +98,7 @@ pub extern "C" fn zdd_diff(
 ) -> CPlaced
     ensures { Exported placed_of (λ b. OperationCall 6 p q store nodes.old lookup.old cache.old b nodes.new lookup.new cache.new) result }
 {
-    placed(diff(store, nodes, lookup, cache, p, q))
+    diff(store, nodes, lookup, cache, p, q).into()
 }
 
 // The members of p with an even number of items.
@@ -112,7 +112,7 @@ pub extern "C" fn zdd_even(
 ) -> CPlaced
     ensures { Exported placed_of (λ b. ParityCall true p store nodes.old lookup.old cache.old b nodes.new lookup.new cache.new) result }
 {
-    placed(even(store, nodes, lookup, cache, p))
+    even(store, nodes, lookup, cache, p).into()
 }
 
 // The members of p with an odd number of items.
@@ -126,5 +126,5 @@ pub extern "C" fn zdd_odd(
 ) -> CPlaced
     ensures { Exported placed_of (λ b. ParityCall false p store nodes.old lookup.old cache.old b nodes.new lookup.new cache.new) result }
 {
-    placed(odd(store, nodes, lookup, cache, p))
+    odd(store, nodes, lookup, cache, p).into()
 }

@@ -3,7 +3,7 @@ ghost use Rattle.query_weight.specs.Promise.{WeightCall, by_members, by_nodes};
 ghost use Rattle.c_records.specs.Promise.{weighed_of};
 ghost use Rattle.zdd_c.specs.Promise.{Exported};
 
-use c_records::{CWeighed, weighed};
+use c_records::CWeighed;
 use query_weight::calls::{weight_by_members, weight_by_nodes};
 use store::record::Store;
 
@@ -19,7 +19,7 @@ pub extern "C" fn zdd_weight_by_members(
 ) -> CWeighed
     ensures { Exported weighed_of (λ b. WeightCall by_members store nodes.now lookup.now p weights.now scratch.old b scratch.new) result }
 {
-    weighed(weight_by_members(store, nodes, lookup, p, weights, scratch))
+    weight_by_members(store, nodes, lookup, p, weights, scratch).into()
 }
 
 // The same sum, added node by node.
@@ -34,5 +34,5 @@ pub extern "C" fn zdd_weight_by_nodes(
 ) -> CWeighed
     ensures { Exported weighed_of (λ b. WeightCall by_nodes store nodes.now lookup.now p weights.now scratch.old b scratch.new) result }
 {
-    weighed(weight_by_nodes(store, nodes, lookup, p, weights, scratch))
+    weight_by_nodes(store, nodes, lookup, p, weights, scratch).into()
 }

@@ -1,24 +1,26 @@
 -- `enter` probes the local lookup for the part's words, and writes them and the part's number where they are new.
 -- Each way out is one law of the local table.
-use native.Mathlib.Omega.{arith}
-use lib.ListN.{length-set}
-use Rattle.file_table.proofs.Entries.{probed, stored, enter_past, enter_old, enter_new}
+use mathlib.Core.Path.{refl}
+use Rattle.file_table.proofs.Entries.{probed, probed_past, probed_inside, stored, enter_past, enter_old, enter_new}
 use Rattle.file_table.proofs.enter.Goals as goal
 
-pub returns-then-bytes-slot : goal.returns-then-bytes-slot
-returns-then-bytes-slot c = search (enter_past, probed)
+pub returns-in_err-slot : goal.returns-in_err-slot
+returns-in_err-slot c =
+    let a = c.args in
+    let t = c.requires.table in
+    rw c.from_residual.ensures (enter_past a.words.now a.bytes a.k a.part.item a.part.zero a.part.one _ t.room t.below refl
+    (probed_past a.words.now a.bytes a.k a.part.item a.part.zero a.part.one t.room c.in_err-slot.ensures))
 
 pub returns-then-words-at-ne0 : goal.returns-then-words-at-ne0
-returns-then-words-at-ne0 c = search (enter_old, probed)
-
-pub bounds-words-base-2 : goal.bounds-words-base-2
-bounds-words-base-2 c = simp length-set (omega (arith, c.requires.table.room, c.requires.table.below))
-
-pub bounds-words-base-3 : goal.bounds-words-base-3
-bounds-words-base-3 c = simp length-set (omega (arith, c.requires.table.room, c.requires.table.below))
-
-pub bounds-words-at-2 : goal.bounds-words-at-2
-bounds-words-at-2 c = simp length-set (omega (arith, c.requires.table.room, c.if-bytes-slot.false))
+returns-then-words-at-ne0 c =
+    let a = c.args in
+    let t = c.requires.table in
+    enter_old a.words.now a.bytes a.k a.part.item a.part.zero a.part.one _ t.room t.below (probed a.words.now a.bytes a.k a.part.item a.part.zero a.part.one c.in_ok-slot.ensures.is)
+    (probed_inside a.words.now a.bytes _ t.room c.in_ok-slot.ensures.inside) c.if-words-at-ne0.true
 
 pub returns : goal.returns
-returns c = search (enter_new, probed, stored)
+returns c =
+    let a = c.args in
+    let t = c.requires.table in
+    enter_new a.words.now a.bytes a.k a.part.item a.part.zero a.part.one _ t.room t.below (probed a.words.now a.bytes a.k a.part.item a.part.zero a.part.one c.in_ok-slot.ensures.is)
+    (probed_inside a.words.now a.bytes _ t.room c.in_ok-slot.ensures.inside) c.if-words-at-ne0.false (stored a.words.now a.k a.part.item a.part.zero a.part.one _ _)

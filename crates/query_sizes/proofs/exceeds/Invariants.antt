@@ -4,4 +4,4 @@ use Rattle.query_sizes.proofs.Brims.{Down}
 use Rattle.query_sizes.proofs.exceeds.Given as goal
 
 abbrev pub invariant-loop-step : goal.invariant-loop-step
-invariant-loop-step l = Down l.nodes l.sizes l.count l.p l.at l.step
+invariant-loop-step l = Down l.nodes l.sizes l.count l.p l.at l._step

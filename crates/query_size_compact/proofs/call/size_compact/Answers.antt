@@ -1,6 +1,5 @@
 -- `size_compact` tests the record and the handle, and counts.
 -- Each way out is one law of answering.
-use mathlib.Core.Path.{refl}
 use native.Mathlib.Omega.{arith}
 use Rattle.store.proofs.Testing.{tested_clear}
 use Rattle.query_size_compact.proofs.Answering.{compact_refused, compact_counted}

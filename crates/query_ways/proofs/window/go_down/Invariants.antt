@@ -4,4 +4,5 @@ use Rattle.query_ways.proofs.Going.{Goes}
 use Rattle.query_ways.proofs.window.go_down.Given as goal
 
 abbrev pub invariant-loop-left : goal.invariant-loop-left
-invariant-loop-left l = Goes l.p l.nodes l.count l.width l.places l.left l.low l.parts l.entered l.total l.words
+invariant-loop-left l =
+    Goes l.p l.nodes l.count l.width l.left l.passed l.passage.low l.passage.window.now l.passage.parts l.passage.total

@@ -17,11 +17,12 @@ pub returns-then-bound-item : goal.returns-then-bound-item
 returns-then-bound-item t c =
     walked_high _ _ _ _ _ _ _ (omega (arith, c.if-p-eq0.false, c.if-p-eq1.false)) c.if-bound-item.true
 
-pub returns-then-not-add_members : goal.returns-then-not-add_members
-returns-then-not-add_members t c =
-    walked_first _ _ _ _ _ _ _ (omega (arith, c.if-p-eq0.false, c.if-p-eq1.false)) c.add_members.ensures (rw c.if-not-add_members.true)
+pub returns-in_err-add_members : goal.returns-in_err-add_members
+returns-in_err-add_members t c =
+    rw c.from_residual.ensures
+    (walked_first _ _ _ _ _ _ _ (omega (arith, c.if-p-eq0.false, c.if-p-eq1.false)) c.add_members.ensures c.in_err-add_members.was)
 
 pub returns : goal.returns
 returns t c =
-    walked_node _ _ _ _ _ _ _ (omega (arith, c.if-p-eq0.false, c.if-p-eq1.false)) _ c.weight_at.ensures.1 c.add_members.ensures
-    (rw c.if-not-add_members.false) c.add_members-2.ensures
+    walked_node _ _ _ _ _ _ _ (omega (arith, c.if-p-eq0.false, c.if-p-eq1.false)) _ c.weight_at.ensures.is c.add_members.ensures
+    c.in_ok-add_members.was c.add_members-2.ensures

@@ -5,4 +5,4 @@ use Rattle.zdd_c.proofs.asking.zdd_has.Goals as goal
 pub returns : goal.returns
 returns c =
     let b = c.has in
-    record { behind = b.result; keeps = b.ensures; given_is = c.asked.ensures }
+    record { behind = b.result; keeps = b.ensures; given_is = c.into.ensures }

@@ -5,4 +5,4 @@ use Rattle.zdd_c.proofs.asking.zdd_size.Goals as goal
 pub returns : goal.returns
 returns c =
     let b = c.size in
-    record { behind = b.result; keeps = b.ensures; given_is = c.measured.ensures }
+    record { behind = b.result; keeps = b.ensures; given_is = c.into.ensures }

@@ -5,4 +5,4 @@ use Rattle.zdd_c.proofs.auditing.zdd_audit.Goals as goal
 pub returns : goal.returns
 returns c =
     let b = c.audit in
-    record { behind = b.result; keeps = b.ensures; given_is = c.audited.ensures }
+    record { behind = b.result; keeps = b.ensures; given_is = c.into.ensures }

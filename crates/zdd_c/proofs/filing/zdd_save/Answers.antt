@@ -5,4 +5,4 @@ use Rattle.zdd_c.proofs.filing.zdd_save.Goals as goal
 pub returns : goal.returns
 returns c =
     let b = c.save in
-    record { behind = b.result; keeps = b.ensures; given_is = c.saved.ensures }
+    record { behind = b.result; keeps = b.ensures; given_is = c.into.ensures }

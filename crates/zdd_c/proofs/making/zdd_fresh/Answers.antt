@@ -5,4 +5,4 @@ use Rattle.zdd_c.proofs.making.zdd_fresh.Goals as goal
 pub returns : goal.returns
 returns c =
     let b = c.fresh in
-    record { behind = b.result; keeps = b.ensures; given_is = c.freshened.ensures }
+    record { behind = b.result; keeps = b.ensures; given_is = c.into.ensures }

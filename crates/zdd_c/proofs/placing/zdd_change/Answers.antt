@@ -5,4 +5,4 @@ use Rattle.zdd_c.proofs.placing.zdd_change.Goals as goal
 pub returns : goal.returns
 returns c =
     let b = c.change in
-    record { behind = b.result; keeps = b.ensures; given_is = c.placed.ensures }
+    record { behind = b.result; keeps = b.ensures; given_is = c.into.ensures }

@@ -5,4 +5,4 @@ use Rattle.zdd_c.proofs.placing.zdd_even.Goals as goal
 pub returns : goal.returns
 returns c =
     let b = c.even in
-    record { behind = b.result; keeps = b.ensures; given_is = c.placed.ensures }
+    record { behind = b.result; keeps = b.ensures; given_is = c.into.ensures }
