@@ -61,9 +61,6 @@ module _ {capacity : ℕ} {m : Answered Placement} {nodes lookup cache : List �
       by_test a.full (λ t. t)
       (λ t. absurd (refusal_some x (ap (λ y. (given_by y).refusal) (sym e) ∙ ap (λ g. g.refusal) (A.answer_is ∙ going_answer a t))))
 
-next_full : (capacity : ℕ) (f : Family → Family) (a : Added) → a.full ≡ true → next_call capacity f a ≡ a
-next_full capacity f a e = rw e
-
 next_going : (capacity : ℕ) (f : Family → Family) (a : Added) → a.full ≡ false → next_call capacity f a ≡ called capacity a.book (f a.family)
 next_going capacity f a e = rw e
 

@@ -97,12 +97,9 @@ pub fn close(
     ensures { CloseCall t nodes.old lookup.old cache.old sizes.old result.bytes }
 {
     match ending_of(t) {
-        Ending::Going => {
-            match close_sums(t.store, nodes, lookup, cache, t.passed, t.returned, sizes) {
-                Ok(text) => text,
-                Err(_) => full(),
-            }
-        }
+        Ending::Going => close_sums(
+            t.store, nodes, lookup, cache, t.passed, t.returned, sizes,
+        ).unwrap_or_else(|_| full()),
         Ending::Refused => line(t.line_number(), " refused\n"),
         Ending::Full => line(t.line_number(), " full\n"),
     }

@@ -6,9 +6,8 @@ use mathlib.Core.Path.{◌≡◌, refl, sym, ap, subst, ◌∙◌}
 use mathlib.Core.List.{List, [], ◌∷◌, ◌++◌, foldl-append, append_assoc, append-nil}
 use native.Mathlib.Omega.{arith}
 use lib.ListN.{length, take, length-append}
-use lib.Seq.{take_all}
 use Rattle.std.specs.Prelude.{Option, Some, None}
-use Rattle.words.proofs.Cases.{by_lt}
+use Rattle.std.proofs.lemmas.List.{take_min}
 use Rattle.report_tally.specs.declared.Tally.{Tally}
 use Rattle.report_tally.specs.Log.{Log, opening}
 use Rattle.report_tally.specs.Promise.{Keeps}
@@ -17,16 +16,9 @@ use Rattle.report_log.specs.Promise.{TakeCall}
 use Rattle.report_read.specs.declared.Input.{Input}
 use Rattle.report_read.specs.declared.Input.TheVariants.{More, Done, Failed}
 use Rattle.report_read.specs.declared.Fed.{Fed}
-use Rattle.report_read.specs.Answers.{Moved, ReadAnswer, most_reads, brought_by, input_of, behind, input_after, Heard, none_heard, next_heard}
+use Rattle.report_read.specs.Answers.{Moved, ReadAnswer, brought_by, input_of, behind, input_after, Heard, none_heard, next_heard}
 use Rattle.report_read.specs.Promise.{ReadCall, failed, ended, brought, Reads, none, turn, ReadAllCall}
 use Rattle.report_read.specs.Inner.{OneRead}
-
--- a count past the end takes all
-take_clamped : (k : ℕ) (l : List ℕ) → take (min k (length l)) l ≡ take k l
-take_clamped k l =
-    by_lt (length l) k
-    (λ p e. let m : min k (length l) ≡ length l = omega arith in rw m (take_all (length l) l (omega arith) ∙ sym (take_all k l (omega arith))))
-    (λ p e. let m : min k (length l) ≡ k = omega arith in rw m)
 
 -- one read, by what the reader answered
 module _ {t : Tally} {nodes lookup cache buffer : List ℕ} where
@@ -38,7 +30,7 @@ module _ {t : Tally} {nodes lookup cache buffer : List ℕ} where
 
   pub read_brought : {got : Option ℕ} {k n : ℕ} → got ≡ Some k → (k ≡ 0 → ⊥) → n ≡ min k (length buffer) → {t' : Tally} {nodes' lookup' cache' : List ℕ} → TakeCall t nodes lookup cache (take n buffer) t' nodes' lookup' cache'
       → {i : Input} → i ≡ behind t'.ending → ReadCall t nodes lookup cache buffer got (record { tally = t'; input = i }) nodes' lookup' cache'
-  read_brought {k = k} e d en {t'} {nodes'} {lookup'} {cache'} C {i} ei = rw e (go k d (rw (en, take_clamped k buffer) at C))
+  read_brought {k = k} e d en {t'} {nodes'} {lookup'} {cache'} C {i} ei = rw e (go k d (rw (en, take_min k buffer) at C))
     where
       go : (k : ℕ) → (k ≡ 0 → ⊥) → TakeCall t nodes lookup cache (take k buffer) t' nodes' lookup' cache' → ReadCall t nodes lookup cache buffer (Some k) (record { tally = t'; input = i }) nodes' lookup' cache'
       go zero d C = absurd (d refl)
@@ -73,9 +65,6 @@ module _ {t₀ : Tally} {nodes₀ lookup₀ cache₀ nodes lookup cache : List �
         reads = turn I.reads I.more O.answer O.taken;
         made = omega (arith, length-append I.answers (O.answer ∷ []), I.made);
       }
-
-  pub onward_end : turns ≡ most_reads → ReadAllCall t₀ nodes₀ lookup₀ cache₀ f nodes lookup cache
-  onward_end e = record { answers = I.answers; reads = I.reads; all_made = λ m. I.made ∙ e }
 
 -- what a read leaves keeps the log fed with what it brought, and says how the input stands
 read_keeps : {t : Tally} {nodes lookup cache buffer : List ℕ} {got : Option ℕ} {f : Fed} {nodes' lookup' cache' : List ℕ} → ReadCall t nodes lookup cache buffer got f nodes' lookup' cache'

@@ -12,6 +12,7 @@ use std::io;
 use std::io::Read;
 
 // How the input stands: there may be more, no more is needed, or a read failed.
+// Kept: three ways to stand, with a tally in each, so neither Option nor Result is plainer.
 #[derive(Clone, Copy)]
 pub enum Input {
     More,
