@@ -2,9 +2,9 @@
 // for each.
 #![tactic(auto)]
 
+mod lent;
 mod making;
 mod phases;
-mod words;
 
 use std::io;
 

@@ -1,5 +1,5 @@
 // Making many nodes with one call each, and some with unions.
-use crate::words::Words;
+use crate::lent::Words;
 use op_families::calls::union;
 use op_items::calls::change;
 use store::record::{Answered, Placement, Refusal, Store};

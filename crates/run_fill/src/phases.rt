@@ -1,6 +1,6 @@
 // The phases: what is called in each, and the lines on what it left.
+use crate::lent::Words;
 use crate::making::{Kind, Progress};
-use crate::words::Words;
 use std::io;
 use store_fresh::fresh;
 
