@@ -8,6 +8,8 @@ use store::record::{Answered, Placement, Store};
 use store_audit::audit::Audited;
 
 // What Fresh gives back. A refusal is its number, 0 where there is none, here and below.
+// Kept: these records are what C reads (include/zdd.h), so a refusal is a number with 0 for none, the value beside it is 0
+// where it is refused, and those of Size, the sums and Save differ in the name of a field.
 #[repr(C)]
 #[derive(Clone, Copy)]
 pub struct CFreshened {
@@ -76,10 +78,7 @@ impl From<Answered<()>> for CFreshened {
     fn from(behind: Answered<()>) -> CFreshened {
         let store = behind.store;
         match behind.answer {
-            Ok(()) => CFreshened {
-                store,
-                refusal: 0,
-            },
+            Ok(()) => CFreshened { store, refusal: 0 },
             Err(refusal) => CFreshened {
                 store,
                 refusal: refusal.into(),

@@ -17,6 +17,7 @@ use Rattle.words.proofs.Cases.{by_eq, clash, by_lt}
 use Rattle.std.specs.Prelude.{⊤}
 use Rattle.std.proofs.Common.{Some, None, Result, Ok, Err}
 use Rattle.store.specs.declared.record.Refusal.{Refusal}
+use Rattle.store.specs.declared.record.Unplaced.{Unplaced}
 use Rattle.store.specs.Tests.{tests_of, Found}
 use Rattle.store.specs.Refusals.{refusal_number}
 use Rattle.store.proofs.Testing.{tests_short, tests_clear, Tested, placing_refused}
@@ -166,7 +167,7 @@ module _ (s : Store) (nodes lookup cache file words : List ℕ) (r : Answered Pl
             kept (refusal_above s.limit file (length words) room (at A.outcome.book (n + 1)) A.outcome.is (omega (arith, top_is A))) refl
             (call_refused s nodes lookup cache 13 _ r AboveLimit e refl (omega arith) es ea) K
 
-        pub load_parts : {fill : Fill} {answer : Result ℕ Refusal} {handles nodes₁ lookup₁ handles₁ : List ℕ} → PlacedOf (fill_in s) nodes lookup parts₁ handles n (reached fill answer) nodes₁ lookup₁ handles₁
+        pub load_parts : {fill : Fill} {answer : Result ℕ Unplaced} {handles nodes₁ lookup₁ handles₁ : List ℕ} → PlacedOf (fill_in s) nodes lookup parts₁ handles n (reached fill answer) nodes₁ lookup₁ handles₁
             → top_at parts₁ (n + 1) ≤ s.limit → {nodes₂ lookup₂ cache₂ : List ℕ} → Finished s fill.count answer nodes₁ lookup₁ cache r nodes₂ lookup₂ cache₂ → LoadCall s nodes lookup cache file words r nodes₂ lookup₂ cache₂ words'
         load_parts W h E =
             let R = A.outcome in

@@ -16,7 +16,7 @@ use Rattle.family.proofs.Placing.{place_own}
 use Rattle.words.proofs.Cases.{by_lt, by_eq}
 use Rattle.std.proofs.Common.{Result, Ok, Err}
 use Rattle.store.specs.declared.record.Fill.{Fill}
-use Rattle.store.specs.declared.record.Refusal.{Refusal}
+use Rattle.store.specs.declared.record.Unplaced.{Unplaced}
 use Rattle.store.specs.Inner.{Reached, reached, Roomy, Holds, Handed, Outcome, gave, Kept}
 use Rattle.store_node.specs.Inner.{NodeIt}
 use Rattle.store.proofs.Held.{at_0, at_1, held, within}
@@ -126,7 +126,7 @@ module _ {s : Fill} {nodes₀ lookup₀ parts handles₀ : List ℕ} {n : ℕ} (
           below = omega (arith, A.few, I.long);
         }
 
-    module _ {f₁ : Fill} (a : Result ℕ Refusal) {nodes₁ lookup₁ : List ℕ}
+    module _ {f₁ : Fill} (a : Result ℕ Unplaced) {nodes₁ lookup₁ : List ℕ}
         (P : NodeIt f nodes lookup (get_or parts (3 * k) 0) (word_of handles (get_or parts (3 * k + 1) 0)) (word_of handles (get_or parts (3 * k + 2) 0)) (reached f₁ a) nodes₁ lookup₁) where
       kept_on : Kept s nodes₀ lookup₀ f₁ nodes₁ lookup₁
       kept_on = kept_trans I.kept P.kept
@@ -191,7 +191,7 @@ module _ {s : Fill} {nodes₀ lookup₀ parts handles₀ : List ℕ} {n : ℕ} (
         pub turns_next : Turns s nodes₀ lookup₀ parts handles₀ n (k + 1) f₁ nodes₁ lookup₁ (set handles k h)
         turns_next = record { long = length-set handles k h ∙ I.long; most = omega arith; kept = kept_on; handles_held = next; sound = stored }
 
-      pub turns_refused : {x : Refusal} → a ≡ Err x → PlacedOf s nodes₀ lookup₀ parts handles₀ n (reached f₁ a) nodes₁ lookup₁ handles
+      pub turns_refused : {x : Unplaced} → a ≡ Err x → PlacedOf s nodes₀ lookup₀ parts handles₀ n (reached f₁ a) nodes₁ lookup₁ handles
       turns_refused {x} q =
           record {
             long = I.long;

@@ -7,7 +7,7 @@ ghost use Rattle.store.specs.Words.{word_of};
 ghost use Rattle.store_node.specs.Inner.{NodeIt};
 ghost use Rattle.file_place.specs.Inner.{PartAsks, PartsAsks, PlacedOf};
 
-use store::record::{Fill, Refusal};
+use store::record::{Fill, Unplaced};
 use store_node::getnode::node_of;
 
 // The handle in the store of a local number.
@@ -29,7 +29,7 @@ fn place_part(
     parts: &[u32],
     handles: &[u32],
     k: u32,
-) -> Result<u32, Refusal>
+) -> Result<u32, Unplaced>
     requires { PartAsks fill.old nodes.old lookup.old parts.now handles.now k }
     ensures { NodeIt fill.old nodes.old lookup.old (get_or parts.now (3 * k) 0) (word_of handles.now (get_or parts.now (3 * k + 1) 0)) (word_of handles.now (get_or parts.now (3 * k + 2) 0)) (reached fill.new result) nodes.new lookup.new }
 {
@@ -47,7 +47,7 @@ pub fn place_parts(
     parts: &[u32],
     handles: &mut [u32],
     count: u32,
-) -> Result<u32, Refusal>
+) -> Result<u32, Unplaced>
     requires { PartsAsks fill.old nodes.old lookup.old parts.now handles.old count }
     ensures { PlacedOf fill.old nodes.old lookup.old parts.now handles.old count (reached fill.new result) nodes.new lookup.new handles.new }
 {

@@ -1,12 +1,13 @@
 // The parts met so far, in placing order. The link of a part is the handle of the part after it, its own for the
 // last; 0 is no link.
+// Kept: a link is one of the lent words, which are zeroed before, so 0 says that a part was not met yet.
 ghost use Rattle.std.specs.Prelude.{◌≡◌, ◌+◌, ◌≤◌, length};
 ghost use Rattle.file_trail.specs.Inner.{met_in, linked, first_of, VisitAsks, Visited};
 
 use file_record::field::{Last, Part};
 
 // The first part and the last one by their handles, the item of the last, how many there are, and the length of the
-// file so far.
+// file so far. While there are none the first is 0, which nothing reads.
 #[derive(Clone, Copy)]
 pub struct Trail {
     pub first: u32,

@@ -13,6 +13,8 @@ pub struct Call {
     pub q: u32,
 }
 
+// Kept: where there is no group the number is 0: `recall` and `remember` test every number against the cache, on which
+// its bounds hang, so an Option would be a second test.
 // The number of a call's group in a cache of so many words; 0 where there is none. Rising first operands go to groups
 // side by side, and the second operand is spread.
 pub fn group_of(call: Call, words: usize) -> usize

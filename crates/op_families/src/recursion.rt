@@ -9,7 +9,7 @@ ghost use Rattle.op_families.specs.Inner.{ForkAsks, ApplyAsks, FamilyStepAsks, F
 use op_cache::{Call, group_of, recall};
 use op_step::keep;
 use op_terminal::families::{SetOperation, ordered, shortcut};
-use store::record::{Fill, Refusal};
+use store::record::{Fill, Unplaced};
 use store_node::getnode::node_of;
 use store_sides::{Cofactors, cofactors_at, top_of};
 
@@ -60,7 +60,7 @@ fn apply(
     nodes: &mut [u32],
     lookup: &mut [u32],
     cache: &mut [u32],
-) -> Result<u32, Refusal>
+) -> Result<u32, Unplaced>
     requires { ApplyAsks (call_of (set_number op) p q) bound fill.old nodes.old lookup.old }
     ensures { Ran 0 (λ B. named (set_number op) B p q) fill.old nodes.old lookup.old cache.old (reached fill.new result) nodes.new lookup.new cache.new }
 {
@@ -82,12 +82,12 @@ pub fn expand(
     nodes: &mut [u32],
     lookup: &mut [u32],
     cache: &mut [u32],
-) -> Result<u32, Refusal>
+) -> Result<u32, Unplaced>
     requires { FamilyStepAsks (call_of (set_number op) p q) bound fill.old nodes.old lookup.old }
     ensures { Ran 0 (λ B. named (set_number op) B p q) fill.old nodes.old lookup.old cache.old (reached fill.new result) nodes.new lookup.new cache.new }
 {
     let call = Call {
-        op: op.number(),
+        op: op.into(),
         p,
         q,
     };
@@ -96,7 +96,7 @@ pub fn expand(
         return Ok(handle);
     }
     let Some(fork) = fork_at(nodes, fill.count, call, bound) else {
-        return Err(Refusal::Damaged);
+        return Err(Unplaced::Damaged);
     };
     let level = fork.level;
     let zero = apply(op, fork.p0, fork.q0, level, fill, nodes, lookup, cache)?;

@@ -8,7 +8,7 @@ ghost use Rattle.store.specs.Inner.{reached, Ran};
 use op_cache::{Call, group_of, recall};
 use op_step::keep;
 use op_terminal::items::{ItemOperation, leaf};
-use store::record::{Fill, Refusal};
+use store::record::{Fill, Unplaced};
 use store_node::getnode::node_of;
 use store_sides::{Sides, sides_at};
 
@@ -23,7 +23,7 @@ fn restrict(
     nodes: &mut [u32],
     lookup: &mut [u32],
     cache: &mut [u32],
-) -> Result<u32, Refusal>
+) -> Result<u32, Unplaced>
     requires { RestrictAsks (call_of (item_number op) p item) level fill.old nodes.old lookup.old }
     ensures { Ran item (λ B. named (item_number op) B p item) fill.old nodes.old lookup.old cache.old (reached fill.new result) nodes.new lookup.new cache.new }
 {
@@ -52,12 +52,12 @@ pub fn expand(
     nodes: &mut [u32],
     lookup: &mut [u32],
     cache: &mut [u32],
-) -> Result<u32, Refusal>
+) -> Result<u32, Unplaced>
     requires { ItemStepAsks (call_of (item_number op) p item) level fill.old nodes.old lookup.old }
     ensures { Ran item (λ B. named (item_number op) B p item) fill.old nodes.old lookup.old cache.old (reached fill.new result) nodes.new lookup.new cache.new }
 {
     let call = Call {
-        op: op.number(),
+        op: op.into(),
         p,
         q: item,
     };
@@ -66,7 +66,7 @@ pub fn expand(
         return Ok(handle);
     }
     let Some(sides) = sides_at(nodes, fill.count, p, level) else {
-        return Err(Refusal::Damaged);
+        return Err(Unplaced::Damaged);
     };
     let zero = restrict(op, sides.zero, item, sides.ztop, fill, nodes, lookup, cache)?;
     let one = restrict(op, sides.one, item, sides.otop, fill, nodes, lookup, cache)?;

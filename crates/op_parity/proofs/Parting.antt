@@ -1,14 +1,14 @@
 -- Each way out of the step of a part, one law for both parities: recalled, on words that hold no book, with the first or
 -- the second result refused, or with their node.
 -- Each is the step's law of that way, for the split of the part by the two sides.
-use Prim.Native.Nat.{ℕ, ◌≤◌, ◌<◌}
+use Prim.Native.Nat.{ℕ}
 use mathlib.Core.Path.{◌≡◌}
 use mathlib.Core.Bool.{Bool, not}
 use mathlib.Core.List.{List}
 use native.Mathlib.Omega.{arith}
 use Rattle.std.proofs.Common.{Option, Some, None, Ok, Err}
-use Rattle.store.specs.declared.record.Refusal.{Refusal}
-use Rattle.store.specs.declared.record.Refusal.TheVariants.{Damaged}
+use Rattle.store.specs.declared.record.Unplaced.{Unplaced}
+use Rattle.store.specs.declared.record.Unplaced.TheVariants.{Damaged}
 use Rattle.store.specs.declared.record.Fill.{Fill}
 use Rattle.store.specs.Inner.{reached, Reached, Ran}
 use Rattle.store_node.specs.Inner.{NodeAsks, NodeIt}
@@ -31,12 +31,12 @@ module _ (even : Bool) {p level : ℕ} {s : Fill} {nodes lookup cache : List ℕ
     part_broken e = ran_broken 0 s nodes lookup cache E.asks.roomy (part_of even p) (λ l B H. sides_broken e S l B lookup H)
 
     module _ {k : Sides} (e : x ≡ Some k) {m₁ : Reached} {nodes₁ lookup₁ cache₁ : List ℕ} (R : Ran 0 (of (part_of even k.zero)) s nodes lookup cache m₁ nodes₁ lookup₁ cache₁) where
-      pub part_first : {y : Refusal} → m₁.answer ≡ Err y → Ran 0 (of (part_of even p)) s nodes lookup cache m₁ nodes₁ lookup₁ cache₁
+      pub part_first : {y : Unplaced} → m₁.answer ≡ Err y → Ran 0 (of (part_of even p)) s nodes lookup cache m₁ nodes₁ lookup₁ cache₁
       part_first {y} l = step_first (part_of even p) _ _ level s nodes lookup cache (split_part E (sides_two e S) even) R y l
 
       module _ {zero : ℕ} (zero-given : m₁.answer ≡ Ok zero) {m₂ : Reached} {nodes₂ lookup₂ cache₂ : List ℕ}
           (Q : Ran 0 (of (part_of (not even) k.one)) m₁.store nodes₁ lookup₁ cache₁ m₂ nodes₂ lookup₂ cache₂) where
-        pub part_second : {y : Refusal} → m₂.answer ≡ Err y → Ran 0 (of (part_of even p)) s nodes lookup cache m₂ nodes₂ lookup₂ cache₂
+        pub part_second : {y : Unplaced} → m₂.answer ≡ Err y → Ran 0 (of (part_of even p)) s nodes lookup cache m₂ nodes₂ lookup₂ cache₂
         part_second {y} l = step_second (part_of even p) _ _ level s nodes lookup cache (split_part E (sides_two e S) even) R _ zero-given Q y l
 
         module _ {one : ℕ} (one-given : m₂.answer ≡ Ok one) where

@@ -7,7 +7,7 @@ ghost use Rattle.op_parity.specs.Inner.{PartAsks, PartStepAsks};
 
 use op_cache::{Call, group_of, recall};
 use op_step::keep;
-use store::record::{Fill, Refusal};
+use store::record::{Fill, Unplaced};
 use store_node::getnode::node_of;
 use store_sides::sides_at;
 
@@ -37,7 +37,7 @@ fn part(
     nodes: &mut [u32],
     lookup: &mut [u32],
     cache: &mut [u32],
-) -> Result<u32, Refusal>
+) -> Result<u32, Unplaced>
     requires { PartAsks p level fill.old nodes.old lookup.old }
     ensures { Ran 0 (λ B. named (parity_number even) B p 0) fill.old nodes.old lookup.old cache.old (reached fill.new result) nodes.new lookup.new cache.new }
 {
@@ -58,7 +58,7 @@ pub fn expand(
     nodes: &mut [u32],
     lookup: &mut [u32],
     cache: &mut [u32],
-) -> Result<u32, Refusal>
+) -> Result<u32, Unplaced>
     requires { PartStepAsks p level fill.old nodes.old lookup.old }
     ensures { Ran 0 (λ B. named (parity_number even) B p 0) fill.old nodes.old lookup.old cache.old (reached fill.new result) nodes.new lookup.new cache.new }
 {
@@ -72,7 +72,7 @@ pub fn expand(
         return Ok(handle);
     }
     let Some(sides) = sides_at(nodes, fill.count, p, level) else {
-        return Err(Refusal::Damaged);
+        return Err(Unplaced::Damaged);
     };
     let zero = part(even, sides.zero, sides.ztop, fill, nodes, lookup, cache)?;
     let one = part(!even, sides.one, sides.otop, fill, nodes, lookup, cache)?;

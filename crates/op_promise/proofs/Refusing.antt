@@ -13,7 +13,7 @@ use Rattle.store.specs.Capacity.{fitting}
 use Rattle.store.specs.Tests.{item_test, tests_of}
 use Rattle.store.specs.Operations.{named}
 use Rattle.std.proofs.Common.{Result}
-use Rattle.store.specs.declared.record.Refusal.{Refusal}
+use Rattle.store.specs.declared.record.Unplaced.{Unplaced}
 use Rattle.store.specs.declared.record.Fill.{Fill}
 use Rattle.store.specs.Inner.{fill_in, reached, Ran}
 use Rattle.store_undo.specs.Inner.{Finished}
@@ -31,6 +31,6 @@ module _ (op limit n p q : ℕ) where
 
 module _ (op p q : ℕ) (s : Store) (nodes lookup : List ℕ) (fits : fitting s (length nodes) (length lookup) ≡ true) (cache : List ℕ) where
   -- a call that ran to its end
-  pub done : operation_refusal op s.limit s.count p q ≡ 0 → {least : ℕ} → least ≤ s.limit → {fill : Fill} {answer : Result ℕ Refusal} {nodes₁ lookup₁ cache₁ : List ℕ}
+  pub done : operation_refusal op s.limit s.count p q ≡ 0 → {least : ℕ} → least ≤ s.limit → {fill : Fill} {answer : Result ℕ Unplaced} {nodes₁ lookup₁ cache₁ : List ℕ}
       → Ran least (λ B. named op B p q) (fill_in s) nodes lookup cache (reached fill answer) nodes₁ lookup₁ cache₁ → {r : Answered Placement} {nodes₂ lookup₂ cache₂ : List ℕ} → Finished s fill.count answer nodes₁ lookup₁ cache₁ r nodes₂ lookup₂ cache₂ → OperationCall op p q s nodes lookup cache r nodes₂ lookup₂ cache₂
   done none low R E = rw none (call_done s nodes lookup cache (λ B. named op B p q) fits low R E)

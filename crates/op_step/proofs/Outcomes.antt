@@ -3,13 +3,13 @@
 -- Each gives a handle that the book has already, or is refused on words of no sound store; operands in another order
 -- name the same family.
 use Prim.Native.Nat.{ℕ, ◌≤◌}
-use mathlib.Core.Path.{◌≡◌, refl, sym, ◌∙◌}
+use mathlib.Core.Path.{◌≡◌, refl}
 use mathlib.Core.List.{List}
 use native.Mathlib.Omega.{arith}
 use Rattle.family.specs.Family.{Family}
 use Rattle.family.proofs.Placing.{place_grown}
 use Rattle.std.proofs.Common.{Option, Some, Ok, Err}
-use Rattle.store.specs.declared.record.Refusal.TheVariants.{Damaged}
+use Rattle.store.specs.declared.record.Unplaced.TheVariants.{Damaged}
 use Rattle.store.specs.declared.record.Fill.{Fill}
 use Rattle.store.specs.Inner.{reached, Reached, Roomy, Holds, gave, Ran}
 use Rattle.store.proofs.Answers.{handle_is}

@@ -12,7 +12,7 @@ use Rattle.family.specs.Family.{Family, top, mk, largest_item}
 use Rattle.family.specs.Book.{at, place, made, Grown}
 use Rattle.family.proofs.Books.{grown_at, grown_length}
 use Rattle.family.proofs.Placing.{place_grown, place_mk, made_grown, room_first, room_second}
-use Rattle.store.specs.declared.record.Refusal.{Refusal}
+use Rattle.store.specs.declared.record.Unplaced.{Unplaced}
 use Rattle.store.specs.Operations.{named}
 use Rattle.store.specs.Cache.{Truth, True}
 use Rattle.store_node.specs.Inner.{NodeAsks, NodeIt}
@@ -66,7 +66,7 @@ truth_of {B = B} {h = h} call k t H G =
 module _ (call below above : Call) (level : ℕ) {least : ℕ} (s : Fill) (nodes lookup cache : List ℕ) (K : Split least call below above level s.count nodes lookup)
     {m₁ : Reached} {nodes₁ lookup₁ cache₁ : List ℕ} (R : Ran least (of below) s nodes lookup cache m₁ nodes₁ lookup₁ cache₁) where
   -- the first result refused
-  pub step_first : (x : Refusal) → m₁.answer ≡ Err x → Ran least (of call) s nodes lookup cache m₁ nodes₁ lookup₁ cache₁
+  pub step_first : (x : Unplaced) → m₁.answer ≡ Err x → Ran least (of call) s nodes lookup cache m₁ nodes₁ lookup₁ cache₁
   step_first x e =
       record {
         kept = R.kept;
@@ -105,7 +105,7 @@ module _ (call below above : Call) (level : ℕ) {least : ℕ} (s : Fill) (nodes
     chained = kept_trans R.kept S.kept
 
     -- the second result refused
-    pub step_second : (x : Refusal) → m₂.answer ≡ Err x → Ran least (of call) s nodes lookup cache m₂ nodes₂ lookup₂ cache₂
+    pub step_second : (x : Unplaced) → m₂.answer ≡ Err x → Ran least (of call) s nodes lookup cache m₂ nodes₂ lookup₂ cache₂
     step_second x e =
         record {
           kept = chained;
@@ -137,7 +137,7 @@ module _ (call below above : Call) (level : ℕ) {least : ℕ} (s : Fill) (nodes
             cached = λ B l H t h e. true_remembered (true_grown (whole_grown l H t) (second_cache l H t o eo)) (truth_of call l K.taken H (handed_of e (third l H t))) (M.gave h e);
           }
         where
-          lasts : (a : Result ℕ Refusal) → RememberedAnswer cache₂ call a cache₃ → length cache₃ ≡ length cache₂
+          lasts : (a : Result ℕ Unplaced) → RememberedAnswer cache₂ call a cache₃ → length cache₃ ≡ length cache₂
           lasts (Ok h) M = (M.gave h refl).long
           lasts (Err x) M = ap length (M.refused x refl)
 

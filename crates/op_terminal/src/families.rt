@@ -11,12 +11,12 @@ pub enum SetOperation {
     Diff,
 }
 
-impl SetOperation {
-    // Its number, as the cache has it.
-    pub fn number(self) -> u32
-        ensures { result ≡ set_number self }
-    {
-        match self {
+// Its number, as the cache has it.
+impl From<SetOperation> for u32 {
+    ghost from_gives = { λ op number. number ≡ set_number op };
+
+    fn from(op: SetOperation) -> u32 {
+        match op {
             SetOperation::Union => 4,
             SetOperation::Intsec => 5,
             SetOperation::Diff => 6,

@@ -5,7 +5,7 @@ ghost use Rattle.op_cache.specs.Inner.{call_of};
 ghost use Rattle.store.specs.Operations.{named};
 ghost use Rattle.store.specs.Inner.{reached, RanPlain};
 
-use store::record::{Fill, Refusal};
+use store::record::{Fill, Unplaced};
 use store_node::getnode::node_of;
 use store_sides::{Cofactors, cofactors_at};
 
@@ -17,12 +17,12 @@ pub enum ItemOperation {
     Change,
 }
 
-impl ItemOperation {
-    // Its number, as the cache has it.
-    pub fn number(self) -> u32
-        ensures { result ≡ item_number self }
-    {
-        match self {
+// Its number, as the cache has it.
+impl From<ItemOperation> for u32 {
+    ghost from_gives = { λ op number. number ≡ item_number op };
+
+    fn from(op: ItemOperation) -> u32 {
+        match op {
             ItemOperation::Subset1 => 1,
             ItemOperation::Subset0 => 2,
             ItemOperation::Change => 3,
@@ -40,12 +40,12 @@ pub fn leaf(
     fill: &mut Fill,
     nodes: &mut [u32],
     lookup: &mut [u32],
-) -> Result<u32, Refusal>
+) -> Result<u32, Unplaced>
     requires { LeafAsks (call_of (item_number op) p item) level fill.old nodes.old lookup.old }
     ensures { RanPlain item (λ B. named (item_number op) B p item) fill.old nodes.old lookup.old (reached fill.new result) nodes.new lookup.new }
 {
     let Some(Cofactors { zero, one }) = cofactors_at(nodes, fill.count, p, level, item) else {
-        return Err(Refusal::Damaged);
+        return Err(Unplaced::Damaged);
     };
     match op {
         ItemOperation::Subset1 => Ok(one),

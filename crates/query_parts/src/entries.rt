@@ -13,8 +13,8 @@ pub fn places_in(words: usize, count: u32) -> u32
 }
 
 // A table in lent words: how many places it has, and how many parts were entered.
-// Kept: that the words are such a table stands in the contracts and in no ghost field, which would have to hold at each
-// write behind the reference. `enter` writes three words, and only after the last they are a table again.
+// Kept: that the words are such a table stands in the contracts and in no ghost field. It would be no plainer: `enter`
+// writes three words behind the reference, and only after the last are they a table again, so it would write a copy.
 #[derive(Drop)]
 pub struct Parts<'a> {
     pub words: &'a mut [u64],

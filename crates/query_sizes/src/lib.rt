@@ -6,7 +6,9 @@ ghost use Rattle.store.specs.Inner.{HandleAsks};
 ghost use Rattle.store.specs.Words.{word_of};
 ghost use Rattle.query_sizes.specs.Inner.{FillAsks, Filled, Exceeding};
 
-// The size of a handle, from the words of the nodes before; 0 where no word has it.
+// The size of a handle, from the words of the nodes before; 0 where no word has it, as the definition (`word_of`) has it.
+// Kept: `file_write::local` and `file_place::handle_at` read a word for each node too, of 32 bits. One generic over both
+// widths would need a bound for its zero and for the handles 0 and 1, and its proof at the bound: longer than these.
 pub fn size_at(sizes: &[u64], handle: u32) -> u64
     ensures { result ≡ word_of sizes.now handle }
 {

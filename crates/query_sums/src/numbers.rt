@@ -11,6 +11,7 @@ pub struct Both<T> {
     pub sum: T,
 }
 
+// Kept: a handle past the nodes has 0, which no caller tells from a number: such words are no sound store's.
 // The words of a handle; {} and {{}} have none, and their sums are 0. So are both numbers of a handle past the nodes,
 // which only words that hold no book have.
 pub fn pair_at(words: &[u64], count: u32, p: u32) -> Both<u64>

@@ -9,6 +9,7 @@ use report_line::Reading;
 use store::record::Store;
 use store_fresh::{empty, fresh};
 
+// Kept: an ending is no error of a tally, which stays whole beside it and is printed by it, so this is no Result.
 // Whether a log goes on, or ended with a line that was refused or found the store full.
 #[derive(Clone, Copy)]
 pub enum Ending {

@@ -12,6 +12,7 @@ pub struct Words {
 }
 
 // Yes or no.
+// Kept: `run_replay` has its own: in a library it would be a public function with nothing to promise.
 fn told(yes: bool) -> &'static str {
     if yes { "yes" } else { "no" }
 }

@@ -15,6 +15,7 @@ pub enum Kind {
     Unions,
 }
 
+// Kept: a single item is a pair with 0, so that the same step goes on to the next of either kind.
 // A combination of at most two items, the lower one first and 0 where there is one.
 #[derive(Clone, Copy)]
 pub struct Pair {

@@ -8,6 +8,7 @@ use combination::Combination;
 use query_has::has;
 use std::io;
 
+// Kept: 513 is no item, so putting it in changes nothing, as it has to.
 // An item above the limit, up to 512; 513 where there is none.
 fn above(x: u32, limit: u32) -> u32 {
     let room = 512u32.wrapping_sub(limit);

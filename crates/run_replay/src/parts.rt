@@ -22,6 +22,7 @@ fn mark(marks: &mut [bool], p: u32) {
     }
 }
 
+// Kept: 0 is the scratch that a handle not held is asked with.
 // The scratch that the second entry of Size needs for p: two words for each part; 0 where p is not held. A part is marked
 // from the newest node down: the sides of a node stand before it.
 pub fn needed(p: u32, count: u32, nodes: &[u32]) -> usize {

@@ -14,7 +14,7 @@ use Rattle.words.proofs.Cases.{clash}
 use Rattle.store.specs.declared.record.Store.{Store}
 use Rattle.store.specs.declared.record.Refusal.{Refusal}
 use Rattle.store.specs.declared.record.Refusal.TheVariants.{Damaged}
-use Rattle.std.proofs.Common.{Result, Ok, Err}
+use Rattle.std.proofs.Common.{Result, Err}
 use Rattle.store.specs.declared.record.Placement.{Placement}
 use Rattle.store.specs.declared.record.Answered.{Answered}
 use Rattle.store.specs.Capacity.{fitting}

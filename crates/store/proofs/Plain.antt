@@ -2,14 +2,14 @@
 -- the cache alone.
 -- Placing what is held changes nothing, and a cache that is true of a book is true of every book that it grows to.
 use Prim.Native.Nat.{ℕ, ◌+◌, ◌≤◌, ◌<◌}
-use mathlib.Core.Path.{◌≡◌, refl, sym, ◌∙◌}
+use mathlib.Core.Path.{◌≡◌, refl}
 use mathlib.Core.List.{List}
 use native.Mathlib.Omega.{arith}
 use Rattle.family.specs.Family.{Family}
 use Rattle.family.specs.Book.{at, place}
 use Rattle.family.proofs.Placing.{place_grown, place_held}
 use Rattle.std.proofs.Common.{Ok, Err}
-use Rattle.store.specs.declared.record.Refusal.TheVariants.{Damaged}
+use Rattle.store.specs.declared.record.Unplaced.TheVariants.{Damaged}
 use Rattle.store.specs.declared.record.Fill.{Fill}
 use Rattle.store.specs.Inner.{reached, Reached, Roomy, Holds, gave, Ran, RanPlain}
 use Rattle.store.proofs.Held.{held}

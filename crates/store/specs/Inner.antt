@@ -5,22 +5,28 @@ use Rattle.family.specs.Family.{Family, node, largest_item}
 use Rattle.family.specs.Book.{at, place, Book}
 use Rattle.table.specs.Entered.{entered, start_at}
 use Rattle.store.specs.declared.record.Store.{Store}
-use Rattle.store.specs.declared.record.Refusal.{Refusal}
+use Rattle.store.specs.declared.record.Unplaced.{Unplaced}
 use Rattle.store.specs.declared.record.Fill.{Fill}
-use Rattle.store.specs.declared.record.Refusal.TheVariants.{Full}
+use Rattle.store.specs.declared.record.Unplaced.TheVariants.{Full, Damaged}
+use Rattle.store.specs.declared.record.Refusal.{Refusal}
 use Rattle.store.specs.Cache.{True}
 
 -- how far a store is filled, by its record
 abbrev pub fill_in : Store → Fill
 fill_in s = record { capacity = s.capacity; count = s.count }
 
--- What an inner call that places comes to: how far the store is filled, and a handle or a refusal. What it added is the
+-- what a call is refused with that placed nothing
+abbrev pub refusal_of : Unplaced → Refusal
+refusal_of Full = Refusal.Full
+refusal_of Damaged = Refusal.Damaged
+
+-- What an inner call that places comes to: how far the store is filled, and a handle or why there is none. What it added is the
 -- difference of two counts, told where the public call ends.
 pub record Reached : Type 0 where
   pub store : Fill
-  pub answer : Result ℕ Refusal
+  pub answer : Result ℕ Unplaced
 
-abbrev pub reached : Fill → Result ℕ Refusal → Reached
+abbrev pub reached : Fill → Result ℕ Unplaced → Reached
 reached s answer = record { store = s; answer = answer }
 
 -- words that fit
@@ -51,7 +57,7 @@ pub record Handed (limit : ℕ) (B : List Family) (F : Family) (h n : ℕ) (node
   pub means : at B h ≡ F
 
 -- the answer where the book becomes C, which has F: a handle, or full where C has no room; never damaged
-pub data Outcome (limit : ℕ) (C : List Family) (F : Family) (capacity n : ℕ) (nodes lookup : List ℕ) : Result ℕ Refusal → Type 0 where
+pub data Outcome (limit : ℕ) (C : List Family) (F : Family) (capacity n : ℕ) (nodes lookup : List ℕ) : Result ℕ Unplaced → Type 0 where
   gave : {h : ℕ} → Handed limit C F h n nodes lookup → Outcome limit C F capacity n nodes lookup (Ok h)
   full : (D : List Family) → Holds limit D n nodes lookup → capacity + 2 < length C → Outcome limit C F capacity n nodes lookup (Err Full)
 

@@ -1,7 +1,7 @@
 // The store record, the refusals and the answers of a call.
 ghost use Rattle.std.specs.Prelude.{◌≡◌, ◌+◌, leb, Ok, Err};
 ghost use Rattle.store.specs.Capacity.{capacity_of, is_limit, fitting, counting};
-ghost use Rattle.store.specs.Inner.{fill_in};
+ghost use Rattle.store.specs.Inner.{fill_in, refusal_of};
 ghost use Rattle.store.specs.Refusals.{refusal_number};
 
 // The refusals, numbered 1 to 11 in this order, and 13.
@@ -51,6 +51,25 @@ pub struct Store {
     pub capacity: u32,
     pub count: u32,
     pub limit: u32,
+}
+
+// Why the inner functions placed nothing: no room for a node, or words that no sound store has.
+#[derive(Clone, Copy)]
+pub enum Unplaced {
+    Full,
+    Damaged,
+}
+
+// The refusal that it is.
+impl From<Unplaced> for Refusal {
+    ghost from_gives = { λ why refusal. refusal ≡ refusal_of why };
+
+    fn from(why: Unplaced) -> Refusal {
+        match why {
+            Unplaced::Full => Refusal::Full,
+            Unplaced::Damaged => Refusal::Damaged,
+        }
+    }
 }
 
 // How far a store is filled: room for so many nodes, and so many held. It is all that the inner functions are told of

@@ -2,7 +2,7 @@
 -- a new node counted.
 -- Adding the node to the book is what placing the family of the item and the two sides does, once both sides are held.
 use Prim.Native.Nat.{ℕ, ◌+◌, ◌≤◌, ◌<◌}
-use mathlib.Core.Path.{◌≡◌, refl, ap, ◌∙◌}
+use mathlib.Core.Path.{◌≡◌, refl}
 use mathlib.Core.List.{List, [], ◌∷◌, ◌++◌}
 use native.Mathlib.Omega.{arith}
 use lib.Dec.{T}
@@ -13,7 +13,7 @@ use Rattle.family.proofs.Books.{add_same, add_new}
 use Rattle.family.proofs.Diagrams.{mk_node}
 use Rattle.store_node.specs.declared.unique.Made.{Made}
 use Rattle.store_node.specs.declared.unique.Made.TheVariants.{Found, New}
-use Rattle.store.specs.declared.record.Refusal.{Refusal}
+use Rattle.store.specs.declared.record.Unplaced.{Unplaced}
 use Rattle.std.proofs.Common.{Result, Ok, Err}
 use Rattle.store.specs.declared.record.Fill.{Fill}
 use Rattle.store.specs.Inner.{reached, Holds, Outcome, gave, full}
@@ -37,7 +37,7 @@ module _ (s : Fill) (nodes lookup : List ℕ) (i z o : ℕ) (A : NodeAsks s node
         sound = λ B l H tz to. rw (e, at_0 H) (gave {h = z} (record { holds = H; within = omega (arith, A.zero_held); means = refl }));
       }
 
-  module _ (some : o ≡ 0 → ⊥) (m : Result Made Refusal) {nodes' lookup' : List ℕ} (M : MadeIt s nodes lookup i z o m nodes' lookup') where
+  module _ (some : o ≡ 0 → ⊥) (m : Result Made Unplaced) {nodes' lookup' : List ℕ} (M : MadeIt s nodes lookup i z o m nodes' lookup') where
     full_one : {limit : ℕ} {B : List Family} → Holds limit B s.count nodes lookup → T (inhabited (at B o))
     full_one H = positive_one H o (omega (arith, A.one_held)) (omega arith)
 
@@ -49,12 +49,12 @@ module _ (s : Fill) (nodes lookup : List ℕ) (i z o : ℕ) (A : NodeAsks s node
         }
 
     -- the family and the book of an inhabited one side
-    as_node : {limit : ℕ} {B : List Family} → Holds limit B s.count nodes lookup → (C : List Family) {n : ℕ} {a : Result ℕ Refusal} → add B (node i (at B z) (at B o)) ≡ C
+    as_node : {limit : ℕ} {B : List Family} → Holds limit B s.count nodes lookup → (C : List Family) {n : ℕ} {a : Result ℕ Unplaced} → add B (node i (at B z) (at B o)) ≡ C
         → Outcome limit C (node i (at B z) (at B o)) s.capacity n nodes' lookup' a
         → Outcome limit (made B i (at B z) (at B o)) (mk i (at B z) (at B o)) s.capacity n nodes' lookup' a
     as_node {B = B} H C e A = rw (mk_node i (at B z) (at B o) (full_one H), made_inhabited B i (at B z) (at B o) (full_one H), e) A
 
-    outcome : {limit : ℕ} {B : List Family} → Holds limit B s.count nodes lookup → {n : ℕ} {x : Result Made Refusal} → MadeOf limit B (node i (at B z) (at B o)) s.capacity n nodes' lookup' x
+    outcome : {limit : ℕ} {B : List Family} → Holds limit B s.count nodes lookup → {n : ℕ} {x : Result Made Unplaced} → MadeOf limit B (node i (at B z) (at B o)) s.capacity n nodes' lookup' x
         → Outcome limit (made B i (at B z) (at B o)) (mk i (at B z) (at B o)) s.capacity n nodes' lookup' (answer_by x)
     outcome {B = B} H (found {h = h} G) = as_node H B (add_same B (node i (at B z) (at B o)) (rw G.means at (held G.holds h G.within))) (gave G)
     outcome {B = B} H (new l G) = as_node H (B ++ (node i (at B z) (at B o) ∷ [])) (add_new B (node i (at B z) (at B o)) l) (gave G)
@@ -62,7 +62,7 @@ module _ (s : Fill) (nodes lookup : List ℕ) (i z o : ℕ) (A : NodeAsks s node
         as_node H (B ++ (node i (at B z) (at B o) ∷ [])) (add_new B (node i (at B z) (at B o)) l) (full B K (rw length-append (omega arith)))
 
     -- a handle that `make` gave is held
-    given : (x : Result Made Refusal) → m ≡ x → (h : ℕ) → answer_by x ≡ Ok h → h ≤ held_after s.count x + 1
+    given : (x : Result Made Unplaced) → m ≡ x → (h : ℕ) → answer_by x ≡ Ok h → h ≤ held_after s.count x + 1
     given (Ok (Found k)) e h d = omega (arith, (M.found_is k e).0, handle_is d)
     given (Ok (New k)) e h d = omega (arith, M.new_is k e, handle_is d)
     given (Err x) e h d = not_both h x d refl
@@ -77,6 +77,6 @@ module _ (s : Fill) (nodes lookup : List ℕ) (i z o : ℕ) (A : NodeAsks s node
         }
 
 -- the answer handed on, with the count of what is then held
-module _ {s : Fill} {nodes lookup : List ℕ} {i z o : ℕ} {m : Result Made Refusal} {nodes' lookup' : List ℕ} (N : NodeIt s nodes lookup i z o (reached_with s m) nodes' lookup') where
-  pub node_answer : (t : Fill) (r : Result ℕ Refusal) {x : Result Made Refusal} → m ≡ x → t ≡ filled_after s x → r ≡ answer_by x → NodeIt s nodes lookup i z o (reached t r) nodes' lookup'
+module _ {s : Fill} {nodes lookup : List ℕ} {i z o : ℕ} {m : Result Made Unplaced} {nodes' lookup' : List ℕ} (N : NodeIt s nodes lookup i z o (reached_with s m) nodes' lookup') where
+  pub node_answer : (t : Fill) (r : Result ℕ Unplaced) {x : Result Made Unplaced} → m ≡ x → t ≡ filled_after s x → r ≡ answer_by x → NodeIt s nodes lookup i z o (reached t r) nodes' lookup'
   node_answer t r em et er = rw (et, er) (rw em at N)

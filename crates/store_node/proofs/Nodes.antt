@@ -12,10 +12,10 @@ use Rattle.family.specs.Book.{at}
 use Rattle.table.specs.Probe.{probe_of, SlotOf}
 use Rattle.table.specs.Entered.{entered, start_at}
 use Rattle.store_node.specs.declared.unique.Made.TheVariants.{Found, New}
-use Rattle.store.specs.declared.record.Refusal.TheVariants.{Full, Damaged}
+use Rattle.store.specs.declared.record.Unplaced.TheVariants.{Full, Damaged}
 use Rattle.std.proofs.Common.{Option, Some, None, Result, Ok, Err}
 use Rattle.std.specs.Option.{ok_or}
-use Rattle.store.specs.declared.record.Refusal.{Refusal}
+use Rattle.store.specs.declared.record.Unplaced.{Unplaced}
 use Rattle.store_node.specs.declared.unique.Made.{Made}
 use Rattle.store.specs.declared.record.Fill.{Fill}
 use Rattle.store.specs.Inner.{Roomy, Holds, Handed, Kept, put_node}
@@ -48,11 +48,11 @@ module _ {limit : ℕ} {B : List Family} {n : ℕ} {nodes lookup : List ℕ} (H 
       }
 
 -- a search that gives no slot, or one, where an answer is made of it
-pub slot_none : (slots : ℕ) {stop : ℕ} {e x : Refusal} (o : Option ℕ) → SlotOf slots stop o → ◌≡◌ {A = Result ℕ Refusal} (Err x) (ok_or o e) → (stop ≡ slots) × (x ≡ e)
+pub slot_none : (slots : ℕ) {stop : ℕ} {e x : Unplaced} (o : Option ℕ) → SlotOf slots stop o → ◌≡◌ {A = Result ℕ Unplaced} (Err x) (ok_or o e) → (stop ≡ slots) × (x ≡ e)
 slot_none slots None S q = (S, cc)
 slot_none slots (Some k) S q = absurd (let z : ◌≡◌ {A = ℕ} 0 1 = cc in omega arith)
 
-pub slot_some : (slots : ℕ) (e : Refusal) {stop slot : ℕ} (o : Option ℕ) → SlotOf slots stop o → ◌≡◌ {A = Result ℕ Refusal} (Ok slot) (ok_or o e) → slot ≡ stop
+pub slot_some : (slots : ℕ) (e : Unplaced) {stop slot : ℕ} (o : Option ℕ) → SlotOf slots stop o → ◌≡◌ {A = Result ℕ Unplaced} (Ok slot) (ok_or o e) → slot ≡ stop
 slot_some slots e None S q = absurd (let z : ◌≡◌ {A = ℕ} 0 1 = cc in omega arith)
 slot_some slots e (Some k) S q = let same : k ≡ _ = cc in sym same ∙ S.is
 
@@ -94,10 +94,10 @@ module _ (s : Fill) (nodes lookup : List ℕ) (i z o slot : ℕ) (R : Roomy s no
         sound = λ B H w. cases B H (λ p. absurd (omega (arith, p.holds_it))) (λ a. full a.lacks (omega (arith, H.size)) H);
       }
 
-  same_found : {g h : ℕ} → ◌≡◌ {A = Result Made Refusal} (Ok (Found g)) (Ok (Found h)) → g ≡ h
+  same_found : {g h : ℕ} → ◌≡◌ {A = Result Made Unplaced} (Ok (Found g)) (Ok (Found h)) → g ≡ h
   same_found e = cc
 
-  same_new : {g h : ℕ} → ◌≡◌ {A = Result Made Refusal} (Ok (New g)) (Ok (New h)) → g ≡ h
+  same_new : {g h : ℕ} → ◌≡◌ {A = Result Made Unplaced} (Ok (New g)) (Ok (New h)) → g ≡ h
   same_new e = cc
 
   pub made_found : (get_or lookup slot 0 ≡ 0 → ⊥) → get_or lookup slot 0 ≤ s.count + 1 → MadeIt s nodes lookup i z o (Ok (Found (get_or lookup slot 0))) nodes lookup

@@ -2,7 +2,7 @@
 ghost use Rattle.std.specs.Prelude.{◌+◌, ◌*◌, ◌<◌};
 ghost use Rattle.store_node.specs.Inner.{SlotAsks, EnteredIt, NodeAsks, MadeIt};
 
-use store::record::{Fill, Refusal};
+use store::record::{Fill, Unplaced};
 use table::probe::probe;
 
 // How a node was made, by its handle: found among the nodes, or new.
@@ -32,8 +32,8 @@ fn enter(
     lookup[slot] = count + 2;
 }
 
-// Kept: a node's item and children are three parameters here and in `table`: each is used by its own name, and a struct
-// would be put together at each call only to be taken apart.
+// Kept: a node's item and children are three parameters here and in `table`. The recursions have each in a name of its
+// own, so a struct would make every call longer, and `probe` and `enter` would take it apart again.
 // The node with these words: found, or new. Refused where there is no room, or on words that no sound store has.
 pub fn make(
     fill: Fill,
@@ -42,23 +42,23 @@ pub fn make(
     item: u32,
     zero: u32,
     one: u32,
-) -> Result<Made, Refusal>
+) -> Result<Made, Unplaced>
     requires { NodeAsks fill nodes.old lookup.old item zero one }
     ensures { MadeIt fill nodes.old lookup.old item zero one result nodes.new lookup.new }
 {
     let count = fill.count;
-    let slot = probe(nodes, lookup, count, item, zero, one).ok_or(Refusal::Damaged)?;
+    let slot = probe(nodes, lookup, count, item, zero, one).ok_or(Unplaced::Damaged)?;
     let number = lookup[slot];
     if number == 0 {
         if fill.capacity <= count {
-            return Err(Refusal::Full);
+            return Err(Unplaced::Full);
         }
         enter(nodes, lookup, count, slot, item, zero, one);
         let handle = count + 2;
         return Ok(Made::New(handle));
     }
     if number < 2 || count + 1 < number {
-        return Err(Refusal::Damaged);
+        return Err(Unplaced::Damaged);
     }
     Ok(Made::Found(number))
 }

@@ -15,8 +15,8 @@ use Rattle.words.proofs.Cases.{by_lt, clash}
 use Rattle.words.proofs.Zeroed.{rest_drop, zeroed_length, zeroed_inside, zeroed_after, zeroed_drop}
 use Rattle.table.proofs.OwnSlots.{cleared_length}
 use Rattle.store.specs.declared.record.Store.{Store}
-use Rattle.store.specs.declared.record.Refusal.{Refusal}
-use Rattle.store.specs.declared.record.Refusal.TheVariants.{Full}
+use Rattle.store.specs.declared.record.Unplaced.{Unplaced}
+use Rattle.store.specs.declared.record.Unplaced.TheVariants.{Full}
 use Rattle.store.specs.declared.record.Placement.{Placement}
 use Rattle.store.specs.declared.record.Answered.{Answered}
 use Rattle.std.proofs.Common.{Result, Ok, Err}
@@ -28,7 +28,7 @@ use Rattle.store.specs.Placing.{cost_of, too_large, place_answer, place_book}
 use Rattle.store.specs.Promise.{leaves, placing, cache_refused, PlaceCall}
 use Rattle.store_undo.specs.Inner.{RolledBack, Finished}
 use Rattle.store.specs.declared.record.Fill.{Fill}
-use Rattle.store.specs.Inner.{fill_in, reached, Roomy, Holds, Handed, Outcome, gave, full, Kept, Ran}
+use Rattle.store.specs.Inner.{fill_in, reached, refusal_of, Roomy, Holds, Handed, Outcome, gave, full, Kept, Ran}
 use Rattle.store.proofs.Held.{handle_of}
 use Rattle.store.proofs.Decoding.{sound_holds}
 use Rattle.store.proofs.Encoding.{looked_up, laid_out}
@@ -38,7 +38,7 @@ use Rattle.store_undo.proofs.Undoing.{undone_nodes, undone_lookup}
 use Rattle.store.proofs.Calls.{placed_is, fits_roomy, cost_length, not_large, left_is, large}
 
 module _ (s : Store) (nodes lookup cache : List ℕ) where
-  module _ (F : List Family → Family) (e : fitting s (length nodes) (length lookup) ≡ true) {least : ℕ} (low : least ≤ s.limit) {fill : Fill} {answer : Result ℕ Refusal} {nodes₁ lookup₁ cache₁ : List ℕ}
+  module _ (F : List Family → Family) (e : fitting s (length nodes) (length lookup) ≡ true) {least : ℕ} (low : least ≤ s.limit) {fill : Fill} {answer : Result ℕ Unplaced} {nodes₁ lookup₁ cache₁ : List ℕ}
       (R : Ran least F (fill_in s) nodes lookup cache (reached fill answer) nodes₁ lookup₁ cache₁) {r : Answered Placement} {nodes₂ lookup₂ cache₂ : List ℕ} (E : Finished s fill.count answer nodes₁ lookup₁ cache₁ r nodes₂ lookup₂ cache₂) where
     K : Kept (fill_in s) nodes lookup (fill_in (counting s fill.count)) nodes₁ lookup₁
     K =
@@ -112,11 +112,11 @@ module _ (s : Store) (nodes lookup cache : List ℕ) where
             counted = omega (arith, K.grows);
           }
 
-    module _ (x : Refusal) (ex : answer ≡ Err x) where
+    module _ (x : Unplaced) (ex : answer ≡ Err x) where
       as_came : r.store ≡ s
       as_came = (E.undone x ex).0
 
-      ea : r.answer ≡ Err x
+      ea : r.answer ≡ Err (refusal_of x)
       ea = (E.undone x ex).1
 
       U : RolledBack (counting s fill.count) nodes₁ lookup₁ s.count nodes₂ lookup₂
@@ -142,13 +142,13 @@ module _ (s : Store) (nodes lookup cache : List ℕ) where
         over : Over
         over = out answer ex (R.sound (book_of nodes s.count) low (sound_holds S) S.cached)
           where
-            out : (a : Result ℕ Refusal) → a ≡ Err x
+            out : (a : Result ℕ Unplaced) → a ≡ Err x
                 → Outcome s.limit (place (book_of nodes s.count) (F (book_of nodes s.count))) (F (book_of nodes s.count)) s.capacity fill.count nodes₁ lookup₁ a → Over
             out a q (gave G) = absurd (let z : ◌≡◌ {A = ℕ} 0 1 = cc in omega arith)
             out a q (full D H l) = record { is = cc; D = D; holds = H; big = l }
 
-        full_number_lem : refusal_number x ≡ 5
-        full_number_lem = ap refusal_number over.is
+        full_number_lem : refusal_number (refusal_of x) ≡ 5
+        full_number_lem = ap (λ y. refusal_number (refusal_of y)) over.is
 
         same_nodes : nodes₂ ≡ nodes
         same_nodes = undone_nodes roomy K U S.blank

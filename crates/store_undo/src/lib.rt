@@ -4,7 +4,7 @@
 ghost use Rattle.store.specs.Capacity.{counting};
 ghost use Rattle.store_undo.specs.Inner.{UndoAsks, RolledBack, Finished};
 
-use store::record::{Answered, Placement, Refusal, Store};
+use store::record::{Answered, Placement, Store, Unplaced};
 use table::own_slots::clear_newest;
 use words::{zero, zero_groups};
 
@@ -23,7 +23,7 @@ pub fn rollback(store: Store, nodes: &mut [u32], lookup: &mut [u32], keep: u32)
 pub fn finish(
     store: Store,
     held: u32,
-    answer: Result<u32, Refusal>,
+    answer: Result<u32, Unplaced>,
     nodes: &mut [u32],
     lookup: &mut [u32],
     cache: &mut [u32],
@@ -38,10 +38,10 @@ pub fn finish(
             let added = held - before;
             after.placed(handle, added)
         }
-        Err(refusal) => {
+        Err(why) => {
             rollback(after, nodes, lookup, before);
             zero_groups(cache);
-            store.refused(refusal)
+            store.refused(why.into())
         }
     }
 }

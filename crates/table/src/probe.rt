@@ -15,6 +15,7 @@ pub fn stops(nodes: &[u32], count: u32, item: u32, zero: u32, one: u32, h: u32) 
         return true;
     }
     let base = 3 * (h - 2) as usize;
+    // Kept: three words against three numbers, no two values of one type, so this is no derived equality.
     nodes[base] == item && nodes[base + 1] == zero && nodes[base + 2] == one
 }
 

@@ -19,4 +19,4 @@ pub returns-in-Err : goal.returns-in-Err
 returns-in-Err c =
     let a = c.args in
     finished_undone a.store a.held a.answer a.nodes.now a.lookup.now a.cache.now c.refused.result c.in-Err.is
-    (rw c.with_count-after.ensures at c.rollback.ensures) c.zero_groups.ensures c.refused.ensures.0 c.refused.ensures.1
+    (rw c.with_count-after.ensures at c.rollback.ensures) c.zero_groups.ensures c.refused.ensures.0 (rw c.into.ensures at c.refused.ensures.1)

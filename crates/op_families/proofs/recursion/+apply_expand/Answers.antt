@@ -35,13 +35,13 @@ pub expand-returns-in-Some : goal.expand-returns-in-Some
 expand-returns-in-Some t c =
     let a = c.args in
     let p = c.requires in
-    ran_recalled 0 a.fill.now a.nodes.now a.lookup.now a.cache.now p.asks.taken.roomy (call_of (set_number a.op) a.p a.q) _ (omega (arith, p.asks.taken.operation.some)) c.in-Some.is (rw c.number.ensures at c.recall.ensures)
+    ran_recalled 0 a.fill.now a.nodes.now a.lookup.now a.cache.now p.asks.taken.roomy (call_of (set_number a.op) a.p a.q) _ (omega (arith, p.asks.taken.operation.some)) c.in-Some.is (rw c.into.ensures at c.recall.ensures)
 
 pub expand-fork_at-requires : goal.expand-fork_at-requires
 expand-fork_at-requires t c =
     let p = c.requires in
     let I = p.asks.taken in
-    rw c.number.ensures record {
+    rw c.into.ensures record {
       first = I.first;
       second = I.second;
       words = omega (arith, I.roomy.within, I.roomy.words);
@@ -55,12 +55,12 @@ pub expand-returns-in_default-fork_at : goal.expand-returns-in_default-fork_at
 expand-returns-in_default-fork_at t c =
     let a = c.args in
     let p = c.requires in
-    ran_broken 0 a.fill.now a.nodes.now a.lookup.now a.cache.now p.asks.taken.roomy (call_of (set_number a.op) a.p a.q) (λ l B H. fork_broken c.in_default-fork_at.is (rw c.number.ensures at c.fork_at.ensures) l B a.lookup.now H)
+    ran_broken 0 a.fill.now a.nodes.now a.lookup.now a.cache.now p.asks.taken.roomy (call_of (set_number a.op) a.p a.q) (λ l B H. fork_broken c.in_default-fork_at.is (rw c.into.ensures at c.fork_at.ensures) l B a.lookup.now H)
 
 pub expand-apply-requires : goal.expand-apply-requires
 expand-apply-requires t c =
     let p = c.requires in
-    let K = fork_two c.in-Some-fork_at.is (rw c.number.ensures at c.fork_at.ensures) in
+    let K = fork_two c.in-Some-fork_at.is (rw c.into.ensures at c.fork_at.ensures) in
     let I = p.asks.taken in (
       omega (arith, K.lower),
       record {
@@ -75,14 +75,14 @@ pub expand-returns-in_err-zero : goal.expand-returns-in_err-zero
 expand-returns-in_err-zero t c =
     let a = c.args in
     let p = c.requires in
-    let K = fork_two c.in-Some-fork_at.is (rw c.number.ensures at c.fork_at.ensures) in
+    let K = fork_two c.in-Some-fork_at.is (rw c.into.ensures at c.fork_at.ensures) in
     rw (passed_on _ c.from_residual.ensures.1, ← c.in_err-zero.was)
     (step_first (call_of (set_number a.op) a.p a.q) _ _ _ a.fill.now a.nodes.now a.lookup.now a.cache.now (split_families p.asks K) c.apply.ensures _ c.in_err-zero.was)
 
 pub expand-apply-requires-2 : goal.expand-apply-requires-2
 expand-apply-requires-2 t c =
     let p = c.requires in
-    let K = fork_two c.in-Some-fork_at.is (rw c.number.ensures at c.fork_at.ensures) in
+    let K = fork_two c.in-Some-fork_at.is (rw c.into.ensures at c.fork_at.ensures) in
     let L = c.apply.ensures.kept in
     let I = p.asks.taken in (
       omega (arith, K.lower),
@@ -103,14 +103,14 @@ pub expand-returns-in_err-one : goal.expand-returns-in_err-one
 expand-returns-in_err-one t c =
     let a = c.args in
     let p = c.requires in
-    let K = fork_two c.in-Some-fork_at.is (rw c.number.ensures at c.fork_at.ensures) in
+    let K = fork_two c.in-Some-fork_at.is (rw c.into.ensures at c.fork_at.ensures) in
     rw (passed_on _ c.from_residual-in_err-one.ensures.1, ← c.in_err-one.was)
     (step_second (call_of (set_number a.op) a.p a.q) _ _ _ a.fill.now a.nodes.now a.lookup.now a.cache.now (split_families p.asks K) c.apply.ensures _ c.in_ok-zero.was c.apply-2.ensures _ c.in_err-one.was)
 
 pub expand-node_of-made-requires : goal.expand-node_of-made-requires
 expand-node_of-made-requires t c =
     let p = c.requires in
-    let K = fork_two c.in-Some-fork_at.is (rw c.number.ensures at c.fork_at.ensures) in
+    let K = fork_two c.in-Some-fork_at.is (rw c.into.ensures at c.fork_at.ensures) in
     let i = level_item p.asks K in
     let N = node_asks p.asks.taken.roomy c.apply.ensures c.in_ok-zero.was c.apply-2.ensures c.in_ok-one.was i.0 i.1 in
     search rules
@@ -119,5 +119,5 @@ pub expand-returns : goal.expand-returns
 expand-returns t c =
     let a = c.args in
     let p = c.requires in
-    let K = fork_two c.in-Some-fork_at.is (rw c.number.ensures at c.fork_at.ensures) in
-    step_done (call_of (set_number a.op) a.p a.q) _ _ _ a.fill.now a.nodes.now a.lookup.now a.cache.now (split_families p.asks K) c.apply.ensures _ c.in_ok-zero.was c.apply-2.ensures _ c.in_ok-one.was c.node_of-made.ensures (rw c.number.ensures at c.keep.ensures)
+    let K = fork_two c.in-Some-fork_at.is (rw c.into.ensures at c.fork_at.ensures) in
+    step_done (call_of (set_number a.op) a.p a.q) _ _ _ a.fill.now a.nodes.now a.lookup.now a.cache.now (split_families p.asks K) c.apply.ensures _ c.in_ok-zero.was c.apply-2.ensures _ c.in_ok-one.was c.node_of-made.ensures (rw c.into.ensures at c.keep.ensures)

@@ -24,7 +24,7 @@ pub expand-returns-in-Some : goal.expand-returns-in-Some
 expand-returns-in-Some t c =
     let a = c.args in
     let p = c.requires in
-    ran_recalled a.item a.fill.now a.nodes.now a.lookup.now a.cache.now p.asks.taken.roomy (call_of (item_number a.op) a.p a.item) _ (omega (arith, p.asks.taken.operation.some)) c.in-Some.is (rw c.number.ensures at c.recall.ensures)
+    ran_recalled a.item a.fill.now a.nodes.now a.lookup.now a.cache.now p.asks.taken.roomy (call_of (item_number a.op) a.p a.item) _ (omega (arith, p.asks.taken.operation.some)) c.in-Some.is (rw c.into.ensures at c.recall.ensures)
 
 pub expand-sides_at-requires : goal.expand-sides_at-requires
 expand-sides_at-requires t c =
@@ -98,7 +98,7 @@ expand-returns t c =
     let a = c.args in
     let p = c.requires in
     let K = sides_two c.in-Some-sides_at.is c.sides_at.ensures in
-    step_done (call_of (item_number a.op) a.p a.item) _ _ a.level a.fill.now a.nodes.now a.lookup.now a.cache.now (split_item p K) c.restrict.ensures _ c.in_ok-zero.was c.restrict-2.ensures _ c.in_ok-one.was c.node_of-made.ensures (rw c.number.ensures at c.keep.ensures)
+    step_done (call_of (item_number a.op) a.p a.item) _ _ a.level a.fill.now a.nodes.now a.lookup.now a.cache.now (split_item p K) c.restrict.ensures _ c.in_ok-zero.was c.restrict-2.ensures _ c.in_ok-one.was c.node_of-made.ensures (rw c.into.ensures at c.keep.ensures)
 
 pub restrict-returns-in-Subset1 : goal.restrict-returns-in-Subset1
 restrict-returns-in-Subset1 t c = ran_none c.requires c.args.cache.now c.if-level-item.true (ap item_number c.in-Subset1.is)

@@ -1,8 +1,7 @@
 -- `make` finds the node or enters it at the slot that the probe found; each way out is one law of the nodes.
 -- Where the words hold a book no test fails, so it is never damaged.
-use mathlib.Core.Path.{refl, ap}
+use mathlib.Core.Path.{refl}
 use native.Mathlib.Omega.{arith}
-use Rattle.std.proofs.Common.{Err}
 use Rattle.store.proofs.Answers.{passed_on}
 use Rattle.store_node.proofs.Nodes.{slot_none, slot_some, made_damaged, not_past, not_one, not_above, made_full, made_found, made_new}
 use Rattle.store_node.proofs.unique.make.Goals as goal
@@ -38,10 +37,10 @@ returns-then-number-lt2 c =
     let s = slot_some _ _ _ c.probe.ensures c.in_ok-slot.ensures.value in
     let damaged = made_damaged a.fill a.nodes.now a.lookup.now a.item a.zero a.one _ p.roomy p.zero_held p.one_held s in
     elim c.then-number-lt2.branch [
-      then-number-lt2-via-then-number-lt2 w ↦
-        damaged (not_one a.fill a.nodes.now a.lookup.now a.item a.zero a.one _ p.roomy p.zero_held p.one_held s c.if-number-eq0.false w.if-number-lt2.true)
-    | then-number-lt2-via-else-number-lt2+then-count-number w ↦
-        damaged (not_above a.fill a.nodes.now a.lookup.now a.item a.zero a.one _ p.roomy p.zero_held p.one_held s c.if-number-eq0.false w.if-count-number.true)
+      | then-number-lt2-via-then-number-lt2 w ↦
+          damaged (not_one a.fill a.nodes.now a.lookup.now a.item a.zero a.one _ p.roomy p.zero_held p.one_held s c.if-number-eq0.false w.if-number-lt2.true)
+      | then-number-lt2-via-else-number-lt2+then-count-number w ↦
+          damaged (not_above a.fill a.nodes.now a.lookup.now a.item a.zero a.one _ p.roomy p.zero_held p.one_held s c.if-number-eq0.false w.if-count-number.true)
     ]
 
 pub returns : goal.returns
