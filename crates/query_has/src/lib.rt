@@ -17,10 +17,12 @@ fn step(nodes: &[u32], base: usize, rest: &mut [u32; 16]) -> u32
     requires { base + 3 ≤ length nodes.now }
     ensures { Stepped nodes.now base (items_of rest.old) result (items_of rest.new) }
 {
+    let zero = nodes[base + 1];
+    let one = nodes[base + 2];
     if take_out(rest, nodes[base]) {
-        nodes[base + 2]
+        one
     } else {
-        nodes[base + 1]
+        zero
     }
 }
 
