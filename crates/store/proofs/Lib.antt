@@ -12,6 +12,7 @@ pub mod Decoding
 pub mod Encoding
 pub mod Sounds
 pub mod Answers
+pub mod Codes
 pub mod Plain
 pub mod Calls
 pub mod Testing

@@ -9,3 +9,4 @@ pub mod Placing
 pub mod Scratch
 pub mod Promise
 pub mod Inner
+pub mod Coded
