@@ -60,7 +60,7 @@ impl<'a> Parts<'a> {
         let place = self.entered as usize;
         let start = (handle % self.places) as usize;
         self.words[place] = linked(self.words[place], handle, head_of(self.words[start]));
-        self.words[start] = headed(self.words[start], self.entered);
+        self.words[start] = headed(self.words[start], Some(self.entered));
         self.words[self.places as usize + place] = size;
         self.entered += 1;
     }

@@ -2,7 +2,7 @@
 // the chain that starts there. Each of the three numbers is below 2^20.
 // Kept: a link is a number in one lent word with two others (no heap, memory lent by the caller), so it counts places
 // from 1, and 0 ends a chain; the functions here give and take an Option.
-ghost use Rattle.std.specs.Prelude.{◌≡◌, ◌+◌, ◌<◌};
+ghost use Rattle.std.specs.Prelude.{◌≡◌, ◌<◌};
 ghost use Rattle.query_parts.specs.Inner.{handle_in, next_in, head_in, link_to, LinkAsks, Linked, Headed};
 
 // The handle.
@@ -26,22 +26,29 @@ pub fn head_of(tag: u64) -> Option<u32>
     ((tag / 1099511627776) as u32).checked_sub(1)
 }
 
+// The link to a place, or none.
+fn link_of(place: Option<u32>) -> u64
+    requires { link_to place < 1048576 }
+    ensures { result ≡ link_to place }
+{
+    match place {
+        Some(place) => (place + 1) as u64,
+        None => 0,
+    }
+}
+
 // The tag with this handle and this place before it; the head stays.
 pub fn linked(tag: u64, handle: u32, next: Option<u32>) -> u64
     requires { LinkAsks handle (link_to next) }
     ensures { Linked tag handle (link_to next) result }
 {
-    let link = match next {
-        Some(place) => place + 1,
-        None => 0,
-    };
-    tag / 1099511627776 * 1099511627776 + link as u64 * 1048576 + handle as u64
+    tag / 1099511627776 * 1099511627776 + link_of(next) * 1048576 + handle as u64
 }
 
 // The tag with this head; the handle and the place before it stay.
-pub fn headed(tag: u64, head: u32) -> u64
-    requires { head + 1 < 1048576 }
-    ensures { Headed tag (head + 1) result }
+pub fn headed(tag: u64, head: Option<u32>) -> u64
+    requires { link_to head < 1048576 }
+    ensures { Headed tag (link_to head) result }
 {
-    tag % 1099511627776 + (head + 1) as u64 * 1099511627776
+    tag % 1099511627776 + link_of(head) * 1099511627776
 }

@@ -2,12 +2,13 @@
 -- which places it in the local book; where there are more parts than places the book is longer than the table.
 -- A side has a smaller top than the part, so that walking it cannot enter the part.
 use Prim.Native.Nat.{ℕ, ◌+◌, ◌*◌, ◌-◌, ◌≤◌, ◌<◌}
-use mathlib.Core.Path.{◌≡◌, refl, ap, ◌∙◌}
+use mathlib.Core.Path.{◌≡◌, refl, ap, sym, ◌∙◌}
 use mathlib.Core.List.{List, [], ◌∷◌, ◌++◌}
 use native.Mathlib.Omega.{arith}
 use lib.ListN.{length, get_or}
-use Rattle.std.specs.Prelude.{Option, None, Some}
-use Rattle.family.specs.Family.{Family, node, top, size, Ordered}
+use borrow.Author.Tests.{ne_eqb}
+use Rattle.std.specs.Prelude.{Option, None, Some, cond, eqb, T}
+use Rattle.family.specs.Family.{Family, empty, node, top, size, inhabited, Ordered}
 use Rattle.family.specs.Book.{at, number, Held, place, Book}
 use Rattle.family.proofs.Books.{held_at, grown_length, grown_at, add_new, add_grown}
 use Rattle.family.proofs.Placing.{book_place, place_grown, place_held, held_below}
@@ -26,6 +27,10 @@ stopped s e T = record { same = s; long = e; table = T; low = λ k q. cc }
 -- a book that has outgrown the table
 outgrown : {limit : ℕ} {B C : List Family} {F : Family} {t : Parts} → t.places + 2 < length C → Came limit B C F t None
 outgrown l = record { listed = λ k q. cc; short = λ q. l }
+
+-- {} is not inhabited
+empty_not : {F : Family} → F ≡ empty → T (inhabited F) → ⊥
+empty_not e i = rw e at i
 
 -- a handle as it is listed
 stands : {limit : ℕ} {B C : List Family} {F : Family} {t : Parts} {r : ℕ} → Listed limit B C t → r < length C → at C r ≡ F → Came limit B C F t (Some r)
@@ -125,7 +130,7 @@ module _ (p bound : ℕ) (nodes : List ℕ) (count : ℕ) (t : Parts) (T : Table
           }
 
       -- both sides are listed, and the part is put behind them
-      module _ {r₂ : ℕ} (some₂ : found ≡ Some r₂) {without with : Option ℕ} (ew : without ≡ size_of t₂ r₁) (eo : with ≡ size_of t₂ r₂) {size_is : Option ℕ} (S : Summed without with size_is) {t₃ : Parts} {r : Option ℕ}
+      module _ {r₂ : ℕ} (some₂ : found ≡ Some r₂) {without with : Option ℕ} (ew : without ≡ size_of t₂ r₁) (eo : with ≡ cond (eqb r₂ 0) None (size_of t₂ r₂)) {size_is : Option ℕ} (S : Summed without with size_is) {t₃ : Parts} {r : Option ℕ}
           (A : Appended p size_is t₂ t₃ r) where
         module _ {limit : ℕ} {B C : List Family} {lookup : List ℕ} (H : Holds limit B count nodes lookup) (m : p < count + 2) (f : Held C (at B p) → ⊥) (L : Listed limit B C t) where
           -- the book with the sides
@@ -141,11 +146,15 @@ module _ (p bound : ℕ) (nodes : List ℕ) (count : ℕ) (t : Parts) (T : Table
           first_in : r₁ < length D
           first_in = omega (arith, (first H m L).1.0, grown_length (place_grown (place C (at B z)) (at B o)))
 
+          -- the with-side is not {}
+          with_some : r₂ ≡ 0 → ⊥
+          with_some e = empty_not (sym both.1.1 ∙ rw e (begin_0 both.0.book)) (ordered H m).2
+
           -- the size put is the part's
           size_put : size_is ≡ told (size (node item (at B z) (at B o)))
           size_put =
               S.is (size (at B z)) (size (at B o)) (ew ∙ number_told both.0 r₁ first_in ∙ ap (λ F. told (size F)) first_at)
-              (eo ∙ number_told both.0 r₂ both.1.0 ∙ ap (λ F. told (size F)) both.1.1)
+              (rw (ne_eqb r₂ 0 with_some) at eo ∙ number_told both.0 r₂ both.1.0 ∙ ap (λ F. told (size F)) both.1.1)
 
           -- neither side's walk enters the part
           lacks : Held D (node item (at B z) (at B o)) → ⊥

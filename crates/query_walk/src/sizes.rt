@@ -1,5 +1,5 @@
 // Sizes as they stand in the table, a word each.
-ghost use Rattle.std.specs.Prelude.{◌≡◌};
+ghost use Rattle.std.specs.Prelude.{◌≡◌, cond, eqb, None};
 ghost use Rattle.query_walk.specs.Inner.{size_of, SizeAsks, Summed};
 
 use query_parts::entries::Parts;
@@ -18,6 +18,17 @@ pub fn size_of(parts: &Parts<'_>, number: u32) -> Option<u64>
         0 => None,
         size => Some(size),
     }
+}
+
+// The size of a with-side: as `size_of`, but none for {}, which is the with-side of no node of a sound store.
+pub fn with_size(parts: &Parts<'_>, number: u32) -> Option<u64>
+    requires { SizeAsks parts.now number }
+    ensures { result ≡ cond (eqb number 0) None (size_of parts.now number) }
+{
+    if number == 0 {
+        return None;
+    }
+    size_of(parts, number)
 }
 
 // The size of a node by those of its sides.

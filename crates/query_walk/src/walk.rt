@@ -3,7 +3,7 @@
 // parts than places, or the words are those of no sound store.
 ghost use Rattle.query_walk.specs.Inner.{AppendAsks, Appended, DescendAsks, WalkAsks, Any, New, Walked};
 
-use crate::sizes::{size_of, sum_of};
+use crate::sizes::{size_of, sum_of, with_size};
 use query_parts::entries::Parts;
 
 // Enters p with its size, where there is a place.
@@ -36,7 +36,7 @@ pub fn descend(p: u32, bound: u32, nodes: &[u32], count: u32, parts: &mut Parts<
     let zero = reach(nodes[base + 1], item, nodes, count, parts)?;
     let one = reach(nodes[base + 2], item, nodes, count, parts)?;
     let without = size_of(parts, zero);
-    let with = size_of(parts, one);
+    let with = with_size(parts, one);
     append(parts, p, sum_of(without, with))
 }
 

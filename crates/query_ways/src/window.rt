@@ -69,7 +69,8 @@ fn go_down(p: u32, nodes: &[u32], count: u32, passage: &mut Passage<'_>, most: u
 // The size of p by ways, where its parts stand side by side and two words for each are there.
 pub fn size_by_ways(p: u32, nodes: &[u32], count: u32, words: &mut [u64]) -> Option<u64>
     requires { WaysAsks p nodes.now count }
-    ensures { Gone p nodes.now count (length words.old / 2) result }
+    ensures gone { Gone p nodes.now count (length words.old / 2) result }
+    ensures long { length words.new ≡ length words.old }
 {
     let length = words.len();
     let width = (length / 4).min((p - 1) as usize);

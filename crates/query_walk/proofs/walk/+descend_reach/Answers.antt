@@ -17,7 +17,7 @@ descend-returns-in_err-one t c =
 pub descend-returns : goal.descend-returns
 descend-returns t c =
     let q = c.requires in
-    descended_done _ _ _ _ _ q.asks.table q.part c.in_ok-zero.ensures c.in_ok-one.ensures refl c.size_of-without.ensures c.size_of-with.ensures c.sum_of.ensures
+    descended_done _ _ _ _ _ q.asks.table q.part c.in_ok-zero.ensures c.in_ok-one.ensures refl c.size_of-without.ensures c.with_size-with.ensures c.sum_of.ensures
     c.append.ensures
 
 pub reach-overflow_add-result : goal.reach-overflow_add-result
