@@ -23,11 +23,12 @@ fn change_by(
     requires { InRange item }
     ensures { ChangeIt made nodes.old lookup.old cache.old (items_of items.words) item result nodes.new lookup.new cache.new }
 {
+    if !items.contains(item) {
+        return made;
+    }
     match made.answer {
-        Ok(last) if items.contains(item) => {
-            change(made.store, nodes, lookup, cache, last.handle, item)
-        }
-        _ => made,
+        Ok(last) => change(made.store, nodes, lookup, cache, last.handle, item),
+        Err(_) => made,
     }
 }
 

@@ -31,6 +31,7 @@ use Rattle.store.proofs.Tested.{tests_passed}
 use Rattle.op_promise.specs.Promise.{OperationCall}
 use Rattle.words.specs.Words.{most}
 use Rattle.query_size.specs.Promise.{by_node, size_given_by, size_tests, size_refusal, size_answer, SizeCall}
+use Rattle.report_line.specs.declared.Panel.{Panel}
 use Rattle.report_line.specs.declared.Stage.{Stage}
 use Rattle.report_tally.specs.declared.Ending.{Ending}
 use Rattle.report_tally.specs.declared.Ending.TheVariants.{Going}
@@ -168,13 +169,13 @@ ended_text capacity g Ending.Going b = absurd (b refl)
 ended_text capacity g Ending.Refused b = refl
 ended_text capacity g Ending.Full b = refl
 
-begun_text : (capacity : ℕ) (g : Log) (st : Stage) → (st ≡ Stage.Blank → ⊥) → last_line capacity g (progress_of st) ≡ end_text capacity g Ending.Refused
-begun_text capacity g Stage.Blank b = absurd (b refl)
-begun_text capacity g (Stage.Letter panel) b = refl
-begun_text capacity g (Stage.Space panel) b = refl
-begun_text capacity g (Stage.Number panel n) b = refl
-begun_text capacity g (Stage.Whole panel) b = refl
-begun_text capacity g Stage.Malformed b = refl
+begun_text : (capacity : ℕ) (g : Log) (st : Stage) (q : Panel) → (st ≡ Stage.Blank → ⊥) → last_line capacity g (progress_of st q) ≡ end_text capacity g Ending.Refused
+begun_text capacity g Stage.Blank q b = absurd (b refl)
+begun_text capacity g Stage.Letter q b = refl
+begun_text capacity g Stage.Space q b = refl
+begun_text capacity g (Stage.Number n) q b = refl
+begun_text capacity g Stage.Whole q b = refl
+begun_text capacity g Stage.Malformed q b = refl
 
 module _ {t : Tally} where
   pub end_told : (t.ending ≡ Going → ⊥) → EndIs t t.ending
@@ -183,15 +184,15 @@ module _ {t : Tally} where
 
   module _ (e : t.ending ≡ Going) where
     at_progress : {capacity : ℕ} {nodes lookup cache : List ℕ} {g : Log} → Keeps capacity t nodes lookup cache g → {st : Stage} → t.reading.stage ≡ st
-        → output_of capacity g ≡ last_line capacity g (progress_of st)
+        → output_of capacity g ≡ last_line capacity g (progress_of st t.reading.panel)
     unfolding output_of
     at_progress {capacity} {g = g} K d =
         ap (λ x. end_of capacity g x) (sym K.ending_is ∙ e)
-        ∙ ap (λ p. last_line capacity g p) (sym (ap (λ s. s.progress) K.line_is) ∙ ap progress_of d)
+        ∙ ap (λ p. last_line capacity g p) (sym (ap (λ s. s.progress) K.line_is) ∙ ap (λ st. progress_of st t.reading.panel) d)
 
     pub end_blank : t.reading.stage ≡ Stage.Blank → EndIs t Going
     end_blank d = record { is = λ capacity nodes lookup cache g K. at_progress K d }
 
     pub end_begun : (t.reading.stage ≡ Stage.Blank → ⊥) → EndIs t Ending.Refused
     end_begun b =
-        record { is = λ capacity nodes lookup cache g K. at_progress K refl ∙ begun_text capacity g t.reading.stage b }
+        record { is = λ capacity nodes lookup cache g K. at_progress K refl ∙ begun_text capacity g t.reading.stage t.reading.panel b }

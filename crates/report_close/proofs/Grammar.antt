@@ -73,11 +73,11 @@ module _ (d : Side) (c : List ℕ) where
       rw s (ap (λ x. foldl next_byte (at (space d c) l) x) (decimal_small v p) ∙ step_some (space d c) l (48 + v) (omega arith)
       ∙ ap (λ q. at q (l - 1)) (opened_digit d c (48 + v) v (omega arith) (omega arith) (omega arith))))
       (λ p t.
-      let more : length (decimal_of v) ≡ length (decimal_of (v / 10)) + 1 = ap length (decimal_more v p (omega arith)) ∙ length-append (decimal_of (v / 10)) ((48 + v % 10) ∷ []) in
+      let more : length (decimal_of v) ≡ length (decimal_of (v / 10)) + 1 = ap length (decimal_more v p) ∙ length-append (decimal_of (v / 10)) ((48 + v % 10) ∷ []) in
       let r = digits_read k (v / 10) (omega arith) (omega arith) (omega arith) l (omega arith) in
       let s : l - length (decimal_of v) ≡ l - length (decimal_of (v / 10)) - 1 = omega arith in
       let ten : 10 * (v / 10) + v % 10 ≡ v = omega arith in
-      rw s (ap (λ x. foldl next_byte (at (space d c) l) x) (decimal_more v p (omega arith)) ∙ foldl-append next_byte (at (space d c) l) (decimal_of (v / 10)) ((48 + v % 10) ∷ [])
+      rw s (ap (λ x. foldl next_byte (at (space d c) l) x) (decimal_more v p) ∙ foldl-append next_byte (at (space d c) l) (decimal_of (v / 10)) ((48 + v % 10) ∷ [])
       ∙ ap (λ x. next_byte x (48 + v % 10)) r ∙ step_some (numeral d c (v / 10)) (l - length (decimal_of (v / 10))) (48 + v % 10) (omega arith)
       ∙ ap (λ q. at q (l - length (decimal_of (v / 10)) - 1)) (number_digit d c (48 + v % 10) (v / 10) (v % 10) (omega arith) (omega arith) (omega arith) ∙ ap (λ n. grown d c n) ten ∙ grown_low d c v m)))
 
@@ -199,7 +199,7 @@ module _ (x : List ℕ) (R : Reads x) (b : ℕ) where
         rest = N.rest;
         split = ap (λ y. b ∷ y) N.split;
         spelled =
-            N.spelled ∙ ap (λ y. y ++ N.digits) (decimal_more (10 * n + (b - 48)) (omega arith) (omega arith) ∙ (λ i. decimal_of (tenth i) ++ (last i ∷ [])))
+            N.spelled ∙ ap (λ y. y ++ N.digits) (decimal_more (10 * n + (b - 48)) (omega arith) ∙ (λ i. decimal_of (tenth i) ++ (last i ∷ [])))
             ∙ append_assoc (decimal_of n) (b ∷ []) N.digits;
         free = N.free;
         behind = N.behind;

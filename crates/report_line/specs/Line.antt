@@ -4,6 +4,7 @@ use mathlib.Core.List.{List, [], foldl}
 use Rattle.family.specs.Combination.{insert, is_free, items_of}
 use Rattle.report_line.specs.declared.Side.{Side}
 use Rattle.report_line.specs.declared.Side.TheVariants.{Passed, Returned}
+use Rattle.report_line.specs.declared.Panel.{Panel}
 use Rattle.report_line.specs.declared.Stage.{Stage}
 use Rattle.report_line.specs.declared.Stage.TheVariants.{Blank, Letter, Space, Number, Whole, Malformed}
 use Rattle.report_line.specs.declared.Reading.{Reading}
@@ -67,13 +68,13 @@ unfoldable pub line_of : List ℕ → Progress
 line_of bytes = (foldl next_byte begin bytes).progress
 
 -- the state that a reading stands for
-abbrev pub progress_of : Stage → Progress
-progress_of Blank = blank
-progress_of (Letter panel) = letter panel.side (items_of panel.items.words)
-progress_of (Space panel) = space panel.side (items_of panel.items.words)
-progress_of (Number panel item) = numeral panel.side (items_of panel.items.words) item
-progress_of (Whole panel) = whole panel.side (items_of panel.items.words)
-progress_of Malformed = malformed
+abbrev pub progress_of : Stage → Panel → Progress
+progress_of Blank panel = blank
+progress_of Letter panel = letter panel.side (items_of panel.items.words)
+progress_of Space panel = space panel.side (items_of panel.items.words)
+progress_of (Number item) panel = numeral panel.side (items_of panel.items.words) item
+progress_of Whole panel = whole panel.side (items_of panel.items.words)
+progress_of Malformed panel = malformed
 
 abbrev pub state_of : Reading → LineState
-state_of r = record { progress = progress_of r.stage; left = r.left }
+state_of r = record { progress = progress_of r.stage r.panel; left = r.left }

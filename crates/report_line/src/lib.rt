@@ -15,11 +15,11 @@ pub enum Side {
     Returned,
 }
 
-// What a line says of a panel, so far: its side, and the items taken.
+// What a line says of a panel, so far: the items taken, and its side.
 #[derive(Clone, Copy)]
 pub struct Panel {
-    pub side: Side,
     pub items: Combination,
+    pub side: Side,
 }
 
 // How far a line is read: before its letter, behind its letter or an item taken, behind a space, within an item with
@@ -27,17 +27,19 @@ pub struct Panel {
 #[derive(Clone, Copy)]
 pub enum Stage {
     Blank,
-    Letter(Panel),
-    Space(Panel),
-    Number(Panel, u32),
-    Whole(Panel),
+    Letter,
+    Space,
+    Number(u32),
+    Whole,
     Malformed,
 }
 
-// A line that is being read, and how many bytes it may still have.
+// A line that is being read: what it says so far, and how many bytes it may still have. The panel stands beside the
+// stage, since a stage that carried it would be copied with it several times for each byte.
 #[derive(Clone, Copy)]
 pub struct Reading {
     pub stage: Stage,
+    pub panel: Panel,
     pub left: u32,
 }
 
@@ -46,8 +48,11 @@ impl Reading {
     pub fn new() -> Reading
         ensures { NewLine result }
     {
+        let items = Combination { words: [0; 16] };
+        let side = Side::Passed;
         Reading {
             stage: Stage::Blank,
+            panel: Panel { items, side },
             left: 2048,
         }
     }
@@ -56,73 +61,73 @@ impl Reading {
     pub fn take(self, b: u8) -> Reading
         ensures { ByteTaken self b result }
     {
+        let mut next = self;
         match self.left.checked_sub(1) {
-            Some(left) => Reading {
-                stage: self.stage.take(b),
-                left,
-            },
-            None => Reading {
-                stage: Stage::Malformed,
-                ..self
-            },
+            Some(left) => {
+                next.stage = self.stage.take(&mut next.panel, b);
+                next.left = left;
+            }
+            None => next.stage = Stage::Malformed,
         }
+        next
     }
 }
 
 impl Stage {
-    // The stage behind one byte more.
-    fn take(self, b: u8) -> Stage
-        ensures { progress_of result ≡ advance (progress_of self) b }
+    // The stage behind one byte more; the panel takes what the byte says.
+    fn take(self, panel: &mut Panel, b: u8) -> Stage
+        ensures { progress_of result panel.new ≡ advance (progress_of self panel.old) b }
     {
         match self {
-            Stage::Blank => take_letter(b),
-            Stage::Letter(panel) => panel.take_gap(b),
-            Stage::Space(panel) => panel.open_item(b),
-            Stage::Number(panel, item) => panel.take_digit(item, b),
-            Stage::Whole(_) | Stage::Malformed => Stage::Malformed,
+            Stage::Blank => panel.take_letter(b),
+            Stage::Letter => panel.take_gap(b),
+            Stage::Space => panel.open_item(b),
+            Stage::Number(item) => panel.take_digit(item, b),
+            Stage::Whole | Stage::Malformed => Stage::Malformed,
         }
     }
 }
 
-// The first byte of a line.
-#[tactic(auto, using(crate::proofs::States::no_items))]
-fn take_letter(b: u8) -> Stage
-    ensures { progress_of result ≡ first_byte b }
-{
-    let side = match b {
-        b'P' => Side::Passed,
-        b'R' => Side::Returned,
-        _ => return Stage::Malformed,
-    };
-    let items = Combination { words: [0; 16] };
-    Stage::Letter(Panel { side, items })
-}
-
 impl Panel {
+    // The first byte of a line.
+    #[tactic(auto, using(crate::proofs::States::no_items))]
+    fn take_letter(&mut self, b: u8) -> Stage
+        ensures { progress_of result self.new ≡ first_byte b }
+    {
+        let side = match b {
+            b'P' => Side::Passed,
+            b'R' => Side::Returned,
+            _ => return Stage::Malformed,
+        };
+        let items = Combination { words: [0; 16] };
+        *self = Panel { items, side };
+        Stage::Letter
+    }
+
     // The byte behind the letter or an item.
-    fn take_gap(self, b: u8) -> Stage
-        ensures { progress_of result ≡ gap self.side (items_of self.items.words) b }
+    fn take_gap(&self, b: u8) -> Stage
+        ensures { progress_of result self.now ≡ gap self.now.side (items_of self.now.items.words) b }
     {
         match b {
-            b' ' => Stage::Space(self),
-            b'\n' => Stage::Whole(self),
+            b' ' => Stage::Space,
+            b'\n' => Stage::Whole,
             _ => Stage::Malformed,
         }
     }
 
     // The first digit of an item.
-    fn open_item(self, b: u8) -> Stage
-        ensures { progress_of result ≡ opened self.side (items_of self.items.words) b }
+    fn open_item(&self, b: u8) -> Stage
+        ensures { progress_of result self.now ≡ opened self.now.side (items_of self.now.items.words) b }
     {
         match b {
-            b'1'..=b'9' => Stage::Number(self, u32::from(b - b'0')),
+            b'1'..=b'9' => Stage::Number(u32::from(b - b'0')),
             _ => Stage::Malformed,
         }
     }
 
     // A byte within an item: one more digit, or what follows the item.
-    fn take_digit(self, item: u32, b: u8) -> Stage
-        ensures { progress_of result ≡ advance (numeral self.side (items_of self.items.words) item) b }
+    fn take_digit(&mut self, item: u32, b: u8) -> Stage
+        ensures { progress_of result self.new ≡ advance (numeral self.old.side (items_of self.old.items.words) item) b }
     {
         if b.is_ascii_digit() {
             self.grow_item(item, u32::from(b - b'0'))
@@ -132,12 +137,12 @@ impl Panel {
     }
 
     // One digit more of an item.
-    fn grow_item(self, item: u32, digit: u32) -> Stage
-        ensures { progress_of result ≡ grown self.side (items_of self.items.words) (10 * item + digit) }
+    fn grow_item(&self, item: u32, digit: u32) -> Stage
+        ensures { progress_of result self.now ≡ grown self.now.side (items_of self.now.items.words) (10 * item + digit) }
     {
         let longer = item.saturating_mul(10).saturating_add(digit);
         if longer <= 512 {
-            Stage::Number(self, longer)
+            Stage::Number(longer)
         } else {
             Stage::Malformed
         }
@@ -145,13 +150,13 @@ impl Panel {
 
     // The byte behind the last digit of an item.
     #[tactic(auto, using(crate::proofs::States::closed_low, crate::proofs::States::closed_high, crate::proofs::States::closed_held, crate::proofs::States::closed_free))]
-    fn close_item(self, item: u32, b: u8) -> Stage
-        ensures { progress_of result ≡ closed self.side (items_of self.items.words) item b }
+    fn close_item(&mut self, item: u32, b: u8) -> Stage
+        ensures { progress_of result self.new ≡ closed self.old.side (items_of self.old.items.words) item b }
     {
         match item {
             1..=512 if !self.items.contains(item) => {
-                let items = self.items.including(item);
-                Panel { items, ..self }.take_gap(b)
+                self.items = self.items.including(item);
+                self.take_gap(b)
             }
             _ => Stage::Malformed,
         }

@@ -28,7 +28,7 @@ use Rattle.report_line.specs.declared.Reading.{Reading}
 use Rattle.report_tally.specs.declared.Ending.{Ending}
 use Rattle.report_tally.specs.declared.Ending.TheVariants.{Going, Refused, Full}
 use Rattle.report_tally.specs.declared.Tally.{Tally}
-use Rattle.report_line.specs.Line.{Progress, LineState, begin, next_byte, progress_of, state_of}
+use Rattle.report_line.specs.Line.{LineState, begin, next_byte, progress_of, state_of}
 use Rattle.report_add.specs.Promise.{Added, line_made, added, After, AddCall}
 use Rattle.report_tally.specs.Log.{Log, capped}
 use Rattle.report_tally.specs.Promise.{Keeps}
@@ -187,42 +187,42 @@ pub record NextIt (t : Tally) (nodes lookup cache : List ℕ) (b : ℕ) (r : Tal
   pub keeps : (capacity : ℕ) (g : Log) → Keeps capacity t nodes lookup cache g → Keeps capacity r nodes' lookup' cache' (read_on capacity g (next_byte g.line b) (next_byte g.line b).progress)
 
 -- at a stage that is neither whole nor malformed a line goes on
-going_on : (st : Stage) → ((panel : Panel) → st ≡ Stage.Whole panel → ⊥) → (st ≡ Stage.Malformed → ⊥) → (capacity : ℕ) (g : Log) (s : LineState)
-    → read_on capacity g s (progress_of st) ≡ record { lot = g.lot; lines = g.lines; line = s; ending = Going }
-going_on Stage.Blank w m capacity g s = refl
-going_on (Stage.Letter panel) w m capacity g s = refl
-going_on (Stage.Space panel) w m capacity g s = refl
-going_on (Stage.Number panel n) w m capacity g s = refl
-going_on (Stage.Whole panel) w m capacity g s = absurd (w panel refl)
-going_on Stage.Malformed w m capacity g s = absurd (m refl)
+going_on : (st : Stage) (q : Panel) → (st ≡ Stage.Whole → ⊥) → (st ≡ Stage.Malformed → ⊥) → (capacity : ℕ) (g : Log) (s : LineState)
+    → read_on capacity g s (progress_of st q) ≡ record { lot = g.lot; lines = g.lines; line = s; ending = Going }
+going_on Stage.Blank q w m capacity g s = refl
+going_on Stage.Letter q w m capacity g s = refl
+going_on Stage.Space q w m capacity g s = refl
+going_on (Stage.Number n) q w m capacity g s = refl
+going_on Stage.Whole q w m capacity g s = absurd (w refl)
+going_on Stage.Malformed q w m capacity g s = absurd (m refl)
 
 module _ {t : Tally} {nodes lookup cache : List ℕ} (b : ℕ) (next : Reading) (e : state_of next ≡ next_byte (state_of t.reading) b) where
   read_is : {capacity : ℕ} {g : Log} → Keeps capacity t nodes lookup cache g → state_of next ≡ next_byte g.line b
   read_is K = e ∙ ap (λ s. next_byte s b) K.line_is
 
-  staged : {capacity : ℕ} {g : Log} → Keeps capacity t nodes lookup cache g → {p : Progress} → progress_of next.stage ≡ p → p ≡ (next_byte g.line b).progress
-  staged K d = sym d ∙ ap (λ s. s.progress) (read_is K)
+  staged : {capacity : ℕ} {g : Log} → Keeps capacity t nodes lookup cache g → {st : Stage} → next.stage ≡ st → progress_of st next.panel ≡ (next_byte g.line b).progress
+  staged K d = sym (ap (λ st. progress_of st next.panel) d) ∙ ap (λ s. s.progress) (read_is K)
 
-  pub next_whole : {panel : Panel} {r : Tally} {nodes' lookup' cache' : List ℕ} → next.stage ≡ Stage.Whole panel → LineIt t nodes lookup cache panel.side (items_of panel.items.words) r nodes' lookup' cache' → NextIt t nodes lookup cache b r nodes' lookup' cache'
-  next_whole {r = r} {nodes'} {lookup'} {cache'} d L =
-      record { keeps = λ capacity g K. subst (λ p. Keeps capacity r nodes' lookup' cache' (read_on capacity g (next_byte g.line b) p)) (staged K (ap progress_of d)) (L.keeps capacity g K) }
+  pub next_whole : {r : Tally} {nodes' lookup' cache' : List ℕ} → next.stage ≡ Stage.Whole → LineIt t nodes lookup cache next.panel.side (items_of next.panel.items.words) r nodes' lookup' cache' → NextIt t nodes lookup cache b r nodes' lookup' cache'
+  next_whole {r} {nodes'} {lookup'} {cache'} d L =
+      record { keeps = λ capacity g K. subst (λ p. Keeps capacity r nodes' lookup' cache' (read_on capacity g (next_byte g.line b) p)) (staged K d) (L.keeps capacity g K) }
 
   -- a line that is not whole, by how the log goes on
-  next_read : (st : Stage) → next.stage ≡ st → (end : Ending) → ((capacity : ℕ) (g : Log) (s : LineState) → read_on capacity g s (progress_of st) ≡ record { lot = g.lot; lines = g.lines; line = s; ending = end })
+  next_read : (st : Stage) → next.stage ≡ st → (end : Ending) → ((capacity : ℕ) (g : Log) (s : LineState) → read_on capacity g s (progress_of st next.panel) ≡ record { lot = g.lot; lines = g.lines; line = s; ending = end })
       → NextIt t nodes lookup cache b (record t { reading = next; ending = end }) nodes lookup cache
   next_read st d end h =
       record {
         keeps = λ capacity g K.
             subst (λ x. Keeps capacity (record t { reading = next; ending = end }) nodes lookup cache x)
-            (sym (h capacity g (next_byte g.line b)) ∙ ap (λ p. read_on capacity g (next_byte g.line b) p) (staged K (ap progress_of d)))
+            (sym (h capacity g (next_byte g.line b)) ∙ ap (λ p. read_on capacity g (next_byte g.line b) p) (staged K d))
             (read_keeps K end (read_is K));
       }
 
   pub next_malformed : next.stage ≡ Stage.Malformed → NextIt t nodes lookup cache b (record t { reading = next; ending = Refused }) nodes lookup cache
   next_malformed d = next_read Stage.Malformed d Refused (λ capacity g s. refl)
 
-  pub next_going : ((panel : Panel) → next.stage ≡ Stage.Whole panel → ⊥) → (next.stage ≡ Stage.Malformed → ⊥) → t.ending ≡ Going → NextIt t nodes lookup cache b (record t { reading = next }) nodes lookup cache
-  next_going w m h = rw (← h) at (next_read next.stage refl Going (λ capacity g s. going_on next.stage w m capacity g s))
+  pub next_going : (next.stage ≡ Stage.Whole → ⊥) → (next.stage ≡ Stage.Malformed → ⊥) → t.ending ≡ Going → NextIt t nodes lookup cache b (record t { reading = next }) nodes lookup cache
+  next_going w m h = rw (← h) at (next_read next.stage refl Going (λ capacity g s. going_on next.stage next.panel w m capacity g s))
 
 stopped : (x : Ending) → (x ≡ Going → ⊥) → (u w : Log) → while_going x u w ≡ w
 stopped Ending.Going k u w = absurd (k refl)

@@ -60,7 +60,8 @@ fn take_byte(t: Tally, nodes: &mut [u32], lookup: &mut [u32], cache: &mut [u32],
     };
     let reading = t.reading.take(b);
     match reading.stage {
-        Stage::Whole(panel) => {
+        Stage::Whole => {
+            let panel = reading.panel;
             let family = side_handle(t, panel.side);
             let placed = add(t.store, nodes, lookup, cache, family, panel.items);
             line_end(t, panel.side, placed)
