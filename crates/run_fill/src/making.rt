@@ -9,7 +9,7 @@ use store::record::{Answered, Placement, Refusal, Store};
 pub enum Kind {
     // Changes, each with one node more, that make the combinations of one item and then those of two.
     Changes,
-    // The change that makes the first combination of two items.
+    // Changes again, from the first combination of two items on.
     Again,
     // Unions of a family of single items with the next single item, with as many nodes more as the family has items.
     Unions,
@@ -83,33 +83,35 @@ impl Progress {
         }
     }
 
-    // The change that makes a combination from its lower item's, or from the empty one.
-    fn change(self, pair: Pair, words: &mut Words) -> Progress {
-        self.with(change(
-            self.store,
-            &mut words.nodes,
-            &mut words.lookup,
-            &mut words.cache,
-            pair.low.wrapping_add(1),
-            pair.high,
-        ))
-    }
-
-    // The change that makes the next combination.
+    // The change that makes the next combination from its lower item's, or from the empty one.
     fn changed(self, words: &mut Words) -> Progress {
+        let nodes = &mut *words.nodes;
+        let lookup = &mut *words.lookup;
+        let cache = &mut *words.cache;
+        let answered = change(
+            self.store,
+            nodes,
+            lookup,
+            cache,
+            self.pair.low.wrapping_add(1),
+            self.pair.high,
+        );
         Progress {
             pair: self.pair.next(),
-            ..self.change(self.pair, words)
+            ..self.with(answered)
         }
     }
 
     // The union with the next single item.
     fn united(self, words: &mut Words) -> Progress {
+        let nodes = &mut *words.nodes;
+        let lookup = &mut *words.lookup;
+        let cache = &mut *words.cache;
         let answered = union(
             self.store,
-            &mut words.nodes,
-            &mut words.lookup,
-            &mut words.cache,
+            nodes,
+            lookup,
+            cache,
             self.singles,
             self.item.wrapping_add(1),
         );
@@ -123,12 +125,19 @@ impl Progress {
 
     // So many calls of a kind.
     pub fn calls(self, kind: Kind, number: u32, words: &mut Words) -> Progress {
-        let mut at = Progress { added: 0, ..self };
+        let pair = match kind {
+            Kind::Again => Pair { low: 1, high: 2 },
+            Kind::Changes | Kind::Unions => self.pair,
+        };
+        let mut at = Progress {
+            added: 0,
+            pair,
+            ..self
+        };
         for _ in 0..number {
             at = match kind {
-                Kind::Changes => at.changed(words),
-                Kind::Again => at.change(Pair { low: 1, high: 2 }, words),
                 Kind::Unions => at.united(words),
+                Kind::Changes | Kind::Again => at.changed(words),
             };
         }
         at

@@ -71,10 +71,10 @@ impl Progress {
 
 // Runs a phase, and writes its lines.
 fn run(rt: &impl Print, phase: Phase, from: Progress, words: &mut Words) -> io::Result<Progress> {
-    let before = *words;
+    words.keep();
     let at = from.calls(phase.kind, phase.calls, words);
     at.line(rt, phase.what)?;
-    words.compare(rt, &before)?;
+    words.compare(rt)?;
     if phase.audited {
         words.audit(rt, at.store)?;
     }
@@ -82,13 +82,15 @@ fn run(rt: &impl Print, phase: Phase, from: Progress, words: &mut Words) -> io::
 }
 
 // All phases on a fresh store.
-pub fn all(rt: &impl Print) -> io::Result<()> {
-    let mut words = Words::of_sevens();
-    let store = fresh(&mut words.nodes, &mut words.lookup, &mut words.cache, 512).store;
+pub fn all(rt: &impl Print, words: &mut Words) -> io::Result<()> {
+    let nodes = &mut *words.nodes;
+    let lookup = &mut *words.lookup;
+    let cache = &mut *words.cache;
+    let store = fresh(nodes, lookup, cache, 512).store;
     println!(rt; "fresh: held {} of {}", store.count, store.capacity)?;
     let mut at = Progress::start(store);
     for phase in PHASES {
-        at = run(rt, phase, at, &mut words)?;
+        at = run(rt, phase, at, words)?;
     }
     Ok(())
 }
