@@ -6,8 +6,7 @@ use mathlib.Core.Path.{◌≡◌, refl, ap, sym, ◌∙◌}
 use mathlib.Core.List.{List, [], ◌∷◌, ◌++◌}
 use native.Mathlib.Omega.{arith}
 use lib.ListN.{length, get_or}
-use borrow.Author.Tests.{ne_eqb}
-use Rattle.std.specs.Prelude.{Option, None, Some, cond, eqb, T}
+use Rattle.std.specs.Prelude.{Option, None, Some, T}
 use Rattle.family.specs.Family.{Family, empty, node, top, size, inhabited, Ordered}
 use Rattle.family.specs.Book.{at, number, Held, place, Book}
 use Rattle.family.proofs.Books.{held_at, grown_length, grown_at, add_new, add_grown}
@@ -129,8 +128,9 @@ module _ (p bound : ℕ) (nodes : List ℕ) (count : ℕ) (t : Parts) (T : Table
             sound = λ B C lookup H m w f L. outgrown (omega (arith, both_shorter H m C, (second H m L).short e));
           }
 
-      -- both sides are listed, and the part is put behind them
-      module _ {r₂ : ℕ} (some₂ : found ≡ Some r₂) {without with : Option ℕ} (ew : without ≡ size_of t₂ r₁) (eo : with ≡ cond (eqb r₂ 0) None (size_of t₂ r₂)) {size_is : Option ℕ} (S : Summed without with size_is) {t₃ : Parts} {r : Option ℕ}
+      -- Both sides are listed, and the part is put behind them. On words that hold a book a with-side is not {}, so what is
+      -- taken for the size of {} makes no difference.
+      module _ {r₂ : ℕ} (some₂ : found ≡ Some r₂) {without with : Option ℕ} (ew : without ≡ size_of t₂ r₁) (eo : (r₂ ≡ 0 → ⊥) → with ≡ size_of t₂ r₂) {size_is : Option ℕ} (S : Summed without with size_is) {t₃ : Parts} {r : Option ℕ}
           (A : Appended p size_is t₂ t₃ r) where
         module _ {limit : ℕ} {B C : List Family} {lookup : List ℕ} (H : Holds limit B count nodes lookup) (m : p < count + 2) (f : Held C (at B p) → ⊥) (L : Listed limit B C t) where
           -- the book with the sides
@@ -154,7 +154,7 @@ module _ (p bound : ℕ) (nodes : List ℕ) (count : ℕ) (t : Parts) (T : Table
           size_put : size_is ≡ told (size (node item (at B z) (at B o)))
           size_put =
               S.is (size (at B z)) (size (at B o)) (ew ∙ number_told both.0 r₁ first_in ∙ ap (λ F. told (size F)) first_at)
-              (rw (ne_eqb r₂ 0 with_some) at eo ∙ number_told both.0 r₂ both.1.0 ∙ ap (λ F. told (size F)) both.1.1)
+              (eo with_some ∙ number_told both.0 r₂ both.1.0 ∙ ap (λ F. told (size F)) both.1.1)
 
           -- neither side's walk enters the part
           lacks : Held D (node item (at B z) (at B o)) → ⊥

@@ -3,6 +3,7 @@
 -- Each way out is one law of walking.
 use mathlib.Core.Path.{refl}
 use native.Mathlib.Omega.{arith}
+use borrow.Author.Tests.{ne_eqb}
 use Rattle.query_walk.proofs.Walking.{walked_found, walked_on, descended_first, descended_second, descended_done}
 use Rattle.query_walk.proofs.walk.+descend_reach.Goals as goal
 
@@ -17,8 +18,8 @@ descend-returns-in_err-one t c =
 pub descend-returns : goal.descend-returns
 descend-returns t c =
     let q = c.requires in
-    descended_done _ _ _ _ _ q.asks.table q.part c.in_ok-zero.ensures c.in_ok-one.ensures refl c.size_of-without.ensures c.with_size-with.ensures c.sum_of.ensures
-    c.append.ensures
+    descended_done _ _ _ _ _ q.asks.table q.part c.in_ok-zero.ensures c.in_ok-one.ensures refl c.size_of-without.ensures
+    (λ n. rw (ne_eqb _ 0 n) at c.with_size-with.ensures) c.sum_of.ensures c.append.ensures
 
 pub reach-overflow_add-result : goal.reach-overflow_add-result
 reach-overflow_add-result t c =
