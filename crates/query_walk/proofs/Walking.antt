@@ -6,7 +6,8 @@ use mathlib.Core.Path.{◌≡◌, refl, ap, sym, ◌∙◌}
 use mathlib.Core.List.{List, [], ◌∷◌, ◌++◌}
 use native.Mathlib.Omega.{arith}
 use lib.ListN.{length, get_or}
-use Rattle.std.specs.Prelude.{Option, None, Some, T}
+use borrow.Author.Tests.{ne_eqb}
+use Rattle.std.specs.Prelude.{Option, None, Some, cond, eqb, T}
 use Rattle.family.specs.Family.{Family, empty, node, top, size, inhabited, Ordered}
 use Rattle.family.specs.Book.{at, number, Held, place, Book}
 use Rattle.family.proofs.Books.{held_at, grown_length, grown_at, add_new, add_grown}
@@ -30,6 +31,10 @@ outgrown l = record { listed = λ k q. cc; short = λ q. l }
 -- {} is not inhabited
 empty_not : {F : Family} → F ≡ empty → T (inhabited F) → ⊥
 empty_not e i = rw e at i
+
+-- the size of a with-side that is not {}
+pub with_other : {r : ℕ} {with size_is : Option ℕ} → with ≡ cond (eqb r 0) None size_is → (r ≡ 0 → ⊥) → with ≡ size_is
+with_other {r} e n = rw (ne_eqb r 0 n) at e
 
 -- a handle as it is listed
 stands : {limit : ℕ} {B C : List Family} {F : Family} {t : Parts} {r : ℕ} → Listed limit B C t → r < length C → at C r ≡ F → Came limit B C F t (Some r)

@@ -3,8 +3,7 @@
 -- Each way out is one law of walking.
 use mathlib.Core.Path.{refl}
 use native.Mathlib.Omega.{arith}
-use borrow.Author.Tests.{ne_eqb}
-use Rattle.query_walk.proofs.Walking.{walked_found, walked_on, descended_first, descended_second, descended_done}
+use Rattle.query_walk.proofs.Walking.{walked_found, walked_on, descended_first, descended_second, with_other, descended_done}
 use Rattle.query_walk.proofs.walk.+descend_reach.Goals as goal
 
 pub descend-returns-in_err-zero : goal.descend-returns-in_err-zero
@@ -19,7 +18,7 @@ pub descend-returns : goal.descend-returns
 descend-returns t c =
     let q = c.requires in
     descended_done _ _ _ _ _ q.asks.table q.part c.in_ok-zero.ensures c.in_ok-one.ensures refl c.size_of-without.ensures
-    (λ n. rw (ne_eqb _ 0 n) at c.with_size-with.ensures) c.sum_of.ensures c.append.ensures
+    (with_other c.with_size-with.ensures) c.sum_of.ensures c.append.ensures
 
 pub reach-overflow_add-result : goal.reach-overflow_add-result
 reach-overflow_add-result t c =
